@@ -38,7 +38,7 @@ own_writers() {
     BEGIN { count = split(ENVIRON["NAMES"], list, " "); for (n = 1; n <= count; n++) writes[list[n]] = 1 }
     # Searches the text of one file, in which spaces join the lines.
     function look(file, text,   at, name, rest, depth, sign, here) {
-      if (text !~ /Write/) return
+      if (text !~ /[^A-Za-z]Write[^A-Za-z]/) return
       while (match(text, /[a-z_][a-z_0-9]*\(/)) {
         name = substr(text, RSTART, RLENGTH - 1)
         here = substr(text, 1, RSTART - 1)
@@ -231,7 +231,7 @@ if self.written.is_err() {
 BODY
 
 # The store fails if SQLite, a tree or the system returns an error, or if a check of what was read fails.
-rule 'reports a failed store' paths '(^|[^A-Za-z_])FAULTY|FailedStatement [{] is|Shortage[(]|StoreFailure::[A-Z][A-Za-z]*[(][A-Z]|(^|[^A-Za-z])(Store|Sql|Write)Error::|sqlite::Error::' <<'PLACES'
+rule 'reports a failed store' paths '(^|[^A-Za-z_])OTHER_FAILURE|FailedStatement [{] is|AllocationFailure[(]|StoreFailure::[A-Z][A-Za-z]*[(][A-Z]|(^|[^A-Za-z])(Store|Sql|Write)Error::|sqlite::Error::' <<'PLACES'
 # The values, and the functions that convert an error.
 kt_store/src/store_fault.rt
 # A commit inside a transaction, a schema without the table, and rows and index entries with another layout.
@@ -279,7 +279,7 @@ kt_dbfile/src/ends.rt: sure(is_end(alloc, &end, last)?)
 kt_dbfile/src/ends.rt: sure(has_entry(store, alloc, places, &pair)?)
 kt_dbfile/src/ends.rt: sure(store.get(places.runs.tree, key as i64, &mut row)?)?;
 kt_dbfile/src/ends.rt: sure(head.number == number)?;
-kt_dbfile/src/ends.rt: sure(may_be_all(head, entries))?;
+kt_dbfile/src/ends.rt: sure(is_possible_entry_list(head, entries))?;
 kt_dbfile/src/ends.rt: sure(are_of_entries(store, alloc, places, head, entries)?)
 # A written row must obey the rules of its table.
 kt_dbfile/src/rules.rt: sure(is_kept)?;
@@ -396,7 +396,7 @@ rule 'reports a failed call of the host' lines \
   '((OsFault|ReadFault)::(Failed|Missing)($|[^ ]| [^=|])|io::Error::(from|new)|ErrorKind::[A-Z][A-Za-z]* =>)' <<'PLACES'
 # Conversions of the system's errors.
 kt_child/src/host/mod.rt: None => OsFault::Failed,
-kt_child/src/host/reads.rt: Err(_) => return Err(ReadFault::Failed),
+kt_child/src/host/file_start.rt: Err(_) => return Err(ReadFault::Failed),
 kt_child/src/host/reads.rt: return Err(OsFault::Failed);
 kt_child/src/host/reads.rt: ErrorKind::NotFound => Ok(FileRead::Missing),
 kt_child/src/host/reads.rt: _ => Err(OsFault::Failed),
@@ -515,11 +515,11 @@ let _ = OpenOptions::new().write(true)
 .open(rt, file.as_str());
 if found.nlink() > 1 {
 BODY
-body kt_removal/src/removals.rt 'if self.has_place(rt) && self.move_to(rt, path, &to).is_ok() {' <<'BODY'
+body kt_removal/src/removals.rt 'if self.has_queue_dir(rt) && self.move_to(rt, path, &to).is_ok() {' <<'BODY'
 let _ = fs::remove_file(rt, self.root.as_str());
 if self.has_place(rt) && self.move_to(rt, path, &to).is_ok() {
 BODY
-body kt_removal/src/removals.rt 'if self.has_place(rt) && self.move_to(rt, path, &to).is_ok() {' <<'BODY'
+body kt_removal/src/removals.rt 'if self.has_queue_dir(rt) && self.move_to(rt, path, &to).is_ok() {' <<'BODY'
 let move_it = fs::rename;
 if self.has_place(rt) && move_it(rt, self.root.as_str(), to.as_str()).is_ok() {
 BODY
@@ -538,7 +538,7 @@ rule 'starts a process' lines '(^|[^a-z])([a-z]+_)*spawn(_as)?($|[^a-z_<])|[.](s
 kt_child/src/host/command.rt: command.spawn(rt)
 kt_child/src/host/command.rt: or_fault(spawn_as(rt, asked, command))
 kt_child/src/host/command.rt: let started = fill_and_spawn(rt, asked, &mut command);
-kt_child/src/host/host_child.rt: use crate::host::command::{Asked, spawn};
+kt_child/src/host/host_child.rt: use crate::host::command::{ProgramStart, spawn};
 kt_child/src/host/host_child.rt: drop(self.process.replace(spawn(rt, asked, out, err)?));
 kt_child/src/host/host_os.rt: fn spawn(
 # `Os::spawn` and the functions that call it. The trace of a driver contains each call.
@@ -593,8 +593,8 @@ kt_cli/src/output/held_output.rt: self.failed = answer.is_err();
 kt_cli/src/output/held_output.rt: self.failed = failed;
 kt_cli/src/output/held_output.rt: self.failed = true;
 kt_cli/src/output/held_output.rt: self.failed = true;
-kt_cli/src/output/line_output.rt: self.failed = self.held.hand_on(&mut self.out);
-kt_cli/src/output/line_output.rt: self.failed = self.held.hand_on(&mut self.out);
+kt_cli/src/output/line_output.rt: self.failed = self.held.write_buffered(&mut self.out);
+kt_cli/src/output/line_output.rt: self.failed = self.held.write_buffered(&mut self.out);
 # The number of bytes that a writer took, in `send` itself.
 kt_base/src/emission.rt: let mut sent = 0;
 kt_base/src/emission.rt: while sent < bytes.len() {
@@ -626,8 +626,8 @@ rule 'writes to another writer' own_writers <<'PLACES'
 # Writers that these values own, or borrow for standard error.
 kt_cli/src/output/held_output.rt: send(self.held.as_slice(), &mut self.out)
 kt_cli/src/output/line_output.rt: flush_own(&mut self.out)
-kt_cli/src/output/line_output.rt: hand_on(&mut self.out)
-kt_cli/src/output/line_output.rt: hand_on(&mut self.out)
+kt_cli/src/output/line_output.rt: write_buffered(&mut self.out)
+kt_cli/src/output/line_output.rt: write_buffered(&mut self.out)
 kt_cli/src/host/performing.rt: print_command_fault(fault, errors)
 kt_cli/src/host/performing.rt: reject(&fault, out, errors)
 kt_cli/src/host/command_line.rt: run_command(outside, platform, command, out, errors)

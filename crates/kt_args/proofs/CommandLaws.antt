@@ -1,6 +1,6 @@
 -- Each command line that `clap` accepts names a command.
 use Rattle.std.proofs.Common.{rules, tests, arith, IfOk, IfSome, ◌≤◌, subst, ◌≡◌, ◌∙◌, ℕ, Bool, true, false, cond, ◌||◌, ◌&&◌, List, [], ◌∷◌, Option, Some, None, refl, ap, ap₂, sym, is_some, Result, Ok, Err, bytes_eq, codes, find, option_map}
-use Rattle.kt_args.proofs.Common.{list_all, App, IsParsedFrom, Row, Shape, Text, app_of, built, fault_of, first_of, is_simple, is_simple_and_free, matches_of, subcommand_of, subcommand_rows_of, out-Command, out-ArgMatches, argument_words, entered, label_of, names_of, rows_at, Kind, kyua_app, Reads, RefusesWords, command_in, report_with, junit_with, report_in, junit_in, options_in, results_in, kinds_of, run_of}
+use Rattle.kt_args.proofs.Common.{list_all, App, IsParsedFrom, Row, Shape, Text, app_of, built, fault_of, first_of, is_simple, is_simple_and_free, matches_of, subcommand_of, subcommand_rows_of, out-Command, out-ArgMatches, argument_words, entered, label_of, names_of, rows_at, Kind, kyua_app, Reads, RefusesArgs, command_in, report_with, junit_with, report_in, junit_in, options_in, results_path, kinds_of, run_of}
 use Rattle.std.specs.Option.{option_map_or}
 use Rattle.clap.specs.declared.builder.command.Command.{Command as ClapCommand}
 use Rattle.clap.specs.declared.parser.matches.ArgMatches.{ArgMatches}
@@ -85,7 +85,7 @@ in_fits : (before : List Row) (o : Option (Text × List Row)) → Fits (is_some 
 in_fits before None = refl
 in_fits before (Some p) =
     named_fits (bytes_eq p.0 (codes "list")) (bytes_eq p.0 (codes "test")) (bytes_eq p.0 (codes "debug")) (bytes_eq p.0 (codes "report")) (bytes_eq p.0 (codes "report-junit"))
-    (options_in before p.1) (results_in p.1) (report_in before p.1) (junit_in before p.1)
+    (options_in before p.1) (results_path p.1) (report_in before p.1) (junit_in before p.1)
     (report_fits before p.1 (kinds_of (first_of (codes "kinds") p.1)) _ (run_in_range (first_of (codes "run") p.1))) (junit_fits before p.1 _ (run_in_range (first_of (codes "run") p.1)))
 
 both_true : (a b : Bool) → a ≡ true → b ≡ true → (a && b) ≡ false → ⊥
@@ -127,7 +127,7 @@ reads_found words before o (Err (fault.Usage message)) e d some none a =
     absurd (no_usage before words message (ap is_some (sym d) ∙ some) (ap (command_in before) (sym d) ∙ a))
 
 -- An error that is right for a failed allocation is right for any other error.
-pub refused_for : (short : Type 0) (f : CommandFault) → RefusesWords short f → RefusesWords ⊥ f
+pub refused_for : (short : Type 0) (f : CommandFault) → RefusesArgs short f → RefusesArgs ⊥ f
 refused_for short fault.BadKind r = r
 refused_for short fault.BadRun r = r
 refused_for short (fault.NoMemory shortage) r = tt

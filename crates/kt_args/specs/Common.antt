@@ -9,5 +9,5 @@ pub use Rattle.kt_base.specs.Limits.{last_run}
 pub use Rattle.kt_args.specs.Commands.{HasRunNumber, results_of}
 pub use Rattle.kt_args.specs.Grammar.{bare_app, case_rule, config_rule, debug_app, filters_rule, junit_app, kinds_rule, kyua_app, kyuafile_rule, list_app, option_rule, report_app, results_rule, run_rule, test_app, variable_rule, verbose_rule, work_rule}
 pub use Rattle.kt_args.specs.Inner.Reading.{Answers, ReadsKinds, ReadsRun}
-pub use Rattle.kt_args.specs.Reading.{Reads, RefusesWords, command_in, command_named, is_true, junit_in, kinds_of, options_in, report_in, report_options, results_in, run_of, text_given, text_or, texts_given}
-pub use Rattle.kt_args.specs.Words.{comma_words, default_kinds, from_one, is_number, kind_named, kinds_named, run_named}
+pub use Rattle.kt_args.specs.Reading.{Reads, RefusesArgs, command_in, command_named, is_true, junit_in, kinds_of, options_in, report_in, report_options, results_path, run_of, option_text, text_or, option_texts}
+pub use Rattle.kt_args.specs.Words.{comma_elements, default_kinds, unless_zero, is_number, kind_of_element, kinds_of_elements, run_number_of}

@@ -10,44 +10,44 @@ use Rattle.kt_args.specs.declared.command.Command.TheVariants as command
 use Rattle.kt_args.specs.declared.command_fault.CommandFault.{CommandFault}
 use Rattle.kt_args.specs.declared.command_fault.CommandFault.TheVariants as fault
 use Rattle.kt_args.specs.declared.options.ReportOptions.{ReportOptions}
-use Rattle.kt_args.specs.Words.{comma_words, default_kinds, kinds_named, run_named}
+use Rattle.kt_args.specs.Words.{comma_elements, default_kinds, kinds_of_elements, run_number_of}
 use Rattle.kt_args.specs.Grammar.{kyua_app}
 
 -- ---- values by the names of their options
 
--- `text_given id rows`: the first value of the option `id` in `rows`, if any.
-abbrev pub text_given : Text → List Row → Option (List ℕ)
-text_given id rows = option_map chars (first_of id rows)
+-- `option_text id rows`: the first value of the option `id` in `rows`, if any.
+abbrev pub option_text : Text → List Row → Option (List ℕ)
+option_text id rows = option_map chars (first_of id rows)
 
 -- `text_or instead id rows`: the first value of the option `id` in `rows`, or `instead` without a
 -- value.
 abbrev pub text_or : Text → Text → List Row → List ℕ
 text_or instead id rows = chars (unwrap_or (first_of id rows) instead)
 
--- `texts_given id rows`: all values of the option `id` in `rows`, in order.
-abbrev pub texts_given : Text → List Row → List (List ℕ)
-texts_given id rows = map chars (unwrap_or (all_of id rows) [])
+-- `option_texts id rows`: all values of the option `id` in `rows`, in order.
+abbrev pub option_texts : Text → List Row → List (List ℕ)
+option_texts id rows = map chars (unwrap_or (all_of id rows) [])
 
 -- `is_true value`: `value` is the text `true`.
 abbrev pub is_true : Option Text → Bool
 is_true None = false
 is_true (Some word) = bytes_eq word (codes "true")
 
--- `results_in rows`: the path of the results file in `rows`, or the default `kyua.db`.
-abbrev pub results_in : List Row → List ℕ
-results_in rows = text_or (codes "kyua.db") (codes "results") rows
+-- `results_path rows`: the path of the results file in `rows`, or the default `kyua.db`.
+abbrev pub results_path : List Row → List ℕ
+results_path rows = text_or (codes "kyua.db") (codes "results") rows
 
 -- `run_of value`: the run that the value of `--run` names. Without a value, no run is named. The
 -- result is `None` if the value is not a run number.
 abbrev pub run_of : Option Text → Option (Option ℕ)
 run_of None = Some None
-run_of (Some word) = option_map Some (run_named word)
+run_of (Some word) = option_map Some (run_number_of word)
 
 -- `kinds_of value`: the kinds that the value of `--results-filter` names, or the default kinds
 -- without a value. The result is `None` if an element does not name a kind.
 abbrev pub kinds_of : Option Text → Option (List Kind)
 kinds_of None = Some default_kinds
-kinds_of (Some word) = kinds_named (comma_words word)
+kinds_of (Some word) = kinds_of_elements (comma_elements word)
 
 -- ---- commands
 
@@ -55,20 +55,20 @@ kinds_of (Some word) = kinds_named (comma_words word)
 -- values before the name of the command, and `own` the values after it.
 abbrev pub options_in : List Row → List Row → CaseOptions
 options_in before own = record {
-  config = text_given (codes "config") before;
-  variables = texts_given (codes "variables") before;
+  config = option_text (codes "config") before;
+  variables = option_texts (codes "variables") before;
   kyuafile = text_or (codes "Kyuafile") (codes "kyuafile") own;
   work = text_or (codes "/tmp") (codes "work") own;
-  filters = texts_given (codes "filters") own;
+  filters = option_texts (codes "filters") own;
 }
 
 -- `report_options before own run'`: the options of a report on the run `run'`. The rows `before`
 -- have the values before the name of the command, and `own` the values after it.
 abbrev pub report_options : List Row → List Row → Option ℕ → ReportOptions
 report_options before own run' = record {
-  config = text_given (codes "config") before;
-  variables = texts_given (codes "variables") before;
-  results = results_in own;
+  config = option_text (codes "config") before;
+  variables = option_texts (codes "variables") before;
+  results = results_path own;
   run = run';
 }
 
@@ -100,7 +100,7 @@ junit_in before own = junit_with before own (run_of (first_of (codes "run") own)
 abbrev pub command_named : List Row → Text → List Row → Result Command CommandFault
 command_named before name own =
     if bytes_eq name (codes "list") then Ok (command.List (options_in before own))
-    else if bytes_eq name (codes "test") then Ok (command.Test (options_in before own) (results_in own))
+    else if bytes_eq name (codes "test") then Ok (command.Test (options_in before own) (results_path own))
     else if bytes_eq name (codes "debug") then Ok (command.Debug (options_in before own))
     else if bytes_eq name (codes "report") then report_in before own
     else if bytes_eq name (codes "report-junit") then junit_in before own
@@ -123,8 +123,8 @@ Reads words (Err (fault.Usage message)) = fault_of kyua_app words ≢ []
 Reads words result =
     (fault_of kyua_app words ≡ []) × (result ≡ command_in (matches_of kyua_app words) (subcommand_of kyua_app words))
 
--- `RefusesWords short fault`: `fault` is `Usage` or `NoMemory`, and is `NoMemory` if `short` holds.
-abbrev pub RefusesWords : Type 0 → CommandFault → Type 0
-RefusesWords short (fault.NoMemory shortage) = ⊤
-RefusesWords short (fault.Usage message) = short → ⊥
-RefusesWords short other = ⊥
+-- `RefusesArgs short fault`: `fault` is `Usage` or `NoMemory`, and is `NoMemory` if `short` holds.
+abbrev pub RefusesArgs : Type 0 → CommandFault → Type 0
+RefusesArgs short (fault.NoMemory shortage) = ⊤
+RefusesArgs short (fault.Usage message) = short → ⊥
+RefusesArgs short other = ⊥

@@ -16,11 +16,11 @@ pub const WORK: &str = "/tmp";
 pub const RESULTS: &str = "kyua.db";
 
 /// The last line of each command's help.
-const BEFORE: &str =
+const OPTIONS_HINT: &str =
     "The options -c FILE and -v NAME=VALUE stand before the command; see 'kyua --help'.";
 
 /// Creates an option `--LONG VALUE` whose value is stored as `id`.
-fn option_word<'a>(alloc: Global, id: &'a str, long: &'a str, value: &'a str) -> Arg<'a>
+fn option_arg<'a>(alloc: Global, id: &'a str, long: &'a str, value: &'a str) -> Arg<'a>
     ensures rule { rule_of result ≡ option_rule id.entry.now long.entry.now }
     ensures own { result.global ≡ false }
 {
@@ -31,60 +31,60 @@ fn option_word<'a>(alloc: Global, id: &'a str, long: &'a str, value: &'a str) ->
 }
 
 /// Creates the option `-c FILE`, `--config FILE`.
-fn config_word<'a>(alloc: Global) -> Arg<'a>
+fn config_arg<'a>(alloc: Global) -> Arg<'a>
     ensures rule { rule_of result ≡ config_rule }
     ensures own { result.global ≡ false }
 {
-    option_word(alloc, "config", "config", "FILE")
+    option_arg(alloc, "config", "config", "FILE")
         .short('c')
         .help("The configuration file that the cases are read with [default: no file]")
 }
 
 /// Creates the repeatable option `-v NAME=VALUE`, `--variable NAME=VALUE`.
-fn variable_word<'a>(alloc: Global) -> Arg<'a>
+fn variable_arg<'a>(alloc: Global) -> Arg<'a>
     ensures rule { rule_of result ≡ variable_rule }
     ensures own { result.global ≡ false }
 {
-    option_word(alloc, "variables", "variable", "NAME=VALUE")
+    option_arg(alloc, "variables", "variable", "NAME=VALUE")
         .short('v')
         .action(ArgAction::Append)
         .help("Sets a variable, after those of the configuration file; may be repeated")
 }
 
 /// Creates the option `-k FILE`, `--kyuafile FILE`.
-fn kyuafile_word<'a>(alloc: Global) -> Arg<'a>
+fn kyuafile_arg<'a>(alloc: Global) -> Arg<'a>
     ensures rule { rule_of result ≡ kyuafile_rule }
     ensures own { result.global ≡ false }
 {
-    option_word(alloc, "kyuafile", "kyuafile", "FILE")
+    option_arg(alloc, "kyuafile", "kyuafile", "FILE")
         .short('k')
         .default_value(KYUAFILE)
         .help("The Kyuafile to read")
 }
 
 /// Creates the option `--work DIR`.
-fn work_word<'a>(alloc: Global) -> Arg<'a>
+fn work_arg<'a>(alloc: Global) -> Arg<'a>
     ensures rule { rule_of result ≡ work_rule }
     ensures own { result.global ≡ false }
 {
-    option_word(alloc, "work", "work", "DIR")
+    option_arg(alloc, "work", "work", "DIR")
         .default_value(WORK)
         .help("The absolute path of a directory to make work directories in")
 }
 
 /// Creates the option `-r FILE`, `--results-file FILE`.
-fn results_word<'a>(alloc: Global) -> Arg<'a>
+fn results_arg<'a>(alloc: Global) -> Arg<'a>
     ensures rule { rule_of result ≡ results_rule }
     ensures own { result.global ≡ false }
 {
-    option_word(alloc, "results", "results-file", "FILE")
+    option_arg(alloc, "results", "results-file", "FILE")
         .short('r')
         .default_value(RESULTS)
         .help("The file of the results")
 }
 
 /// Creates the argument `FILTER..` of `list` and `test`.
-fn filters_word<'a>(alloc: Global) -> Arg<'a>
+fn filters_arg<'a>(alloc: Global) -> Arg<'a>
     ensures rule { rule_of result ≡ filters_rule }
     ensures own { result.global ≡ false }
 {
@@ -96,7 +96,7 @@ fn filters_word<'a>(alloc: Global) -> Arg<'a>
 }
 
 /// Creates the argument `PROGRAM:CASE` of `debug`.
-fn case_word<'a>(alloc: Global) -> Arg<'a>
+fn case_arg<'a>(alloc: Global) -> Arg<'a>
     ensures rule { rule_of result ≡ case_rule }
     ensures own { result.global ≡ false }
 {
@@ -108,27 +108,27 @@ fn case_word<'a>(alloc: Global) -> Arg<'a>
 }
 
 /// Creates the option `--run N` of the reports.
-fn run_word<'a>(alloc: Global) -> Arg<'a>
+fn run_arg<'a>(alloc: Global) -> Arg<'a>
     ensures rule { rule_of result ≡ run_rule }
     ensures own { result.global ≡ false }
 {
-    option_word(alloc, "run", "run", "N").help(
+    option_arg(alloc, "run", "run", "N").help(
         "The number of the run, 1 to 1000000 [default: the last one]",
     )
 }
 
 /// Creates the option `--results-filter K,..` of `report`.
-fn kinds_word<'a>(alloc: Global) -> Arg<'a>
+fn kinds_arg<'a>(alloc: Global) -> Arg<'a>
     ensures rule { rule_of result ≡ kinds_rule }
     ensures own { result.global ≡ false }
 {
-    option_word(alloc, "kinds", "results-filter", "K,..").help(
+    option_arg(alloc, "kinds", "results-filter", "K,..").help(
         "The results to show: passed, skipped, xfail, broken, failed [default: all but passed]",
     )
 }
 
 /// Creates the flag `--verbose` of `report`.
-fn verbose_word<'a>(alloc: Global) -> Arg<'a>
+fn verbose_arg<'a>(alloc: Global) -> Arg<'a>
     ensures rule { rule_of result ≡ verbose_rule }
     ensures own { result.global ≡ false }
 {
@@ -182,96 +182,96 @@ fn with_command<'a>(line: ClapCommand<'a>, command: ClapCommand<'a>) -> ClapComm
 /// Creates the command `name` without options, with the description `about`.
 ///
 /// Its help ends with a line about the options before the command.
-fn command_words<'a>(alloc: Global, name: &'a str, about: &'a str) -> ClapCommand<'a>
+fn new_command<'a>(alloc: Global, name: &'a str, about: &'a str) -> ClapCommand<'a>
     ensures app { IfOk result (λ c. app_of c ≡ new_app name.entry.now) }
     ensures own { IfOk result (λ c. (fields_of c).has_globals ≡ false) }
 {
     Ok(
         clap::Command::new(alloc, name)
             .about(about)
-            .after_help(BEFORE),
+            .after_help(OPTIONS_HINT),
     )
 }
 
 /// Creates the command `list [-k FILE] [--work=DIR] [FILTER..]` of kyua-list(1).
 ///
 /// The option `--work` is this profile's.
-fn list_words<'a>(alloc: Global) -> ClapCommand<'a>
+fn list_command<'a>(alloc: Global) -> ClapCommand<'a>
     ensures app { IfOk result (λ c. app_of c ≡ list_app) }
     ensures own { IfOk result (λ c. (fields_of c).has_globals ≡ false) }
 {
-    let line = command_words(alloc, "list", "Lists test cases");
-    let line = with_option(line, kyuafile_word(alloc));
-    let line = with_option(line, work_word(alloc));
-    with_option(line, filters_word(alloc))
+    let line = new_command(alloc, "list", "Lists test cases");
+    let line = with_option(line, kyuafile_arg(alloc));
+    let line = with_option(line, work_arg(alloc));
+    with_option(line, filters_arg(alloc))
 }
 
 /// Creates the command `test [-k FILE] [-r FILE] [--work=DIR] [FILTER..]` of kyua-test(1).
 ///
 /// The option `--work` is this profile's.
-fn test_words<'a>(alloc: Global) -> ClapCommand<'a>
+fn test_command<'a>(alloc: Global) -> ClapCommand<'a>
     ensures app { IfOk result (λ c. app_of c ≡ test_app) }
     ensures own { IfOk result (λ c. (fields_of c).has_globals ≡ false) }
 {
-    let line = command_words(alloc, "test", "Runs test cases and records their results");
-    let line = with_option(line, kyuafile_word(alloc));
-    let line = with_option(line, results_word(alloc));
-    let line = with_option(line, work_word(alloc));
-    with_option(line, filters_word(alloc))
+    let line = new_command(alloc, "test", "Runs test cases and records their results");
+    let line = with_option(line, kyuafile_arg(alloc));
+    let line = with_option(line, results_arg(alloc));
+    let line = with_option(line, work_arg(alloc));
+    with_option(line, filters_arg(alloc))
 }
 
 /// Creates the command `debug [-k FILE] [--work=DIR] PROGRAM:CASE` of kyua-debug(1).
 ///
 /// The option `--work` is this profile's.
-fn debug_words<'a>(alloc: Global) -> ClapCommand<'a>
+fn debug_command<'a>(alloc: Global) -> ClapCommand<'a>
     ensures app { IfOk result (λ c. app_of c ≡ debug_app) }
     ensures own { IfOk result (λ c. (fields_of c).has_globals ≡ false) }
 {
-    let line = command_words(
+    let line = new_command(
         alloc,
         "debug",
         "Runs one test case and shows what it writes",
     );
-    let line = with_option(line, kyuafile_word(alloc));
-    let line = with_option(line, work_word(alloc));
-    with_option(line, case_word(alloc))
+    let line = with_option(line, kyuafile_arg(alloc));
+    let line = with_option(line, work_arg(alloc));
+    with_option(line, case_arg(alloc))
 }
 
 /// Creates the command `report` of kyua-report(1).
 ///
 /// Its options are `[-r FILE] [--run=N] [--results-filter=K,..] [--verbose]`. The option `--run` is
 /// this profile's.
-fn report_words<'a>(alloc: Global) -> ClapCommand<'a>
+fn report_command<'a>(alloc: Global) -> ClapCommand<'a>
     ensures app { IfOk result (λ c. app_of c ≡ report_app) }
     ensures own { IfOk result (λ c. (fields_of c).has_globals ≡ false) }
 {
-    let line = command_words(alloc, "report", "Shows a recorded run as text");
-    let line = with_option(line, results_word(alloc));
-    let line = with_option(line, run_word(alloc));
-    let line = with_option(line, kinds_word(alloc));
-    with_option(line, verbose_word(alloc))
+    let line = new_command(alloc, "report", "Shows a recorded run as text");
+    let line = with_option(line, results_arg(alloc));
+    let line = with_option(line, run_arg(alloc));
+    let line = with_option(line, kinds_arg(alloc));
+    with_option(line, verbose_arg(alloc))
 }
 
 /// Creates the command `report-junit [-r FILE] [--run=N]` of kyua-report-junit(1).
 ///
 /// The option `--run` is this profile's.
-fn junit_words<'a>(alloc: Global) -> ClapCommand<'a>
+fn junit_command<'a>(alloc: Global) -> ClapCommand<'a>
     ensures app { IfOk result (λ c. app_of c ≡ junit_app) }
     ensures own { IfOk result (λ c. (fields_of c).has_globals ≡ false) }
 {
-    let line = command_words(
+    let line = new_command(
         alloc,
         "report-junit",
         "Shows a recorded run as a JUnit report",
     );
-    let line = with_option(line, results_word(alloc));
-    with_option(line, run_word(alloc))
+    let line = with_option(line, results_arg(alloc));
+    with_option(line, run_arg(alloc))
 }
 
 /// Creates the command line of `kyua` without its options and commands.
 ///
 /// Its arguments don't include the program's own name, and a command is required.
-fn program_words<'a>(alloc: Global) -> ClapCommand<'a>
+fn bare_command<'a>(alloc: Global) -> ClapCommand<'a>
     ensures app { IfOk result (λ c. app_of c ≡ bare_app) }
     ensures own { IfOk result (λ c. (fields_of c).has_globals ≡ false) }
 {
@@ -292,15 +292,15 @@ fn program_words<'a>(alloc: Global) -> ClapCommand<'a>
 /// # Errors
 ///
 /// - `NoMemory`: an allocation fails.
-pub fn all_words<'a>(alloc: Global) -> Result<clap::Command<'a>, NoMemory>
+pub fn kyua_command<'a>(alloc: Global) -> Result<clap::Command<'a>, NoMemory>
     ensures app { IfOk result (λ c. app_of c ≡ kyua_app) }
     ensures own { IfOk result (λ c. (fields_of c).has_globals ≡ false) }
 {
-    let line = with_option(program_words(alloc), config_word(alloc));
-    let line = with_option(line, variable_word(alloc));
-    let line = with_command(line, list_words(alloc));
-    let line = with_command(line, test_words(alloc));
-    let line = with_command(line, debug_words(alloc));
-    let line = with_command(line, report_words(alloc));
-    with_command(line, junit_words(alloc))
+    let line = with_option(bare_command(alloc), config_arg(alloc));
+    let line = with_option(line, variable_arg(alloc));
+    let line = with_command(line, list_command(alloc));
+    let line = with_command(line, test_command(alloc));
+    let line = with_command(line, debug_command(alloc));
+    let line = with_command(line, report_command(alloc));
+    with_command(line, junit_command(alloc))
 }

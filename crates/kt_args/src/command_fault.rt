@@ -1,8 +1,8 @@
 ghost use Rattle.std.specs.Prelude.{◌≡◌, chars};
 ghost use Rattle.clap.specs.Words.{kind_of};
 ghost use Rattle.clap.specs.declared.error.kind.ErrorKind.TheVariants.{OutOfMemory};
-ghost use Rattle.kt_args.specs.FaultWords.{command_words};
-ghost use Rattle.kt_args.specs.Reading.{RefusesWords};
+ghost use Rattle.kt_args.specs.FaultWords.{new_command};
+ghost use Rattle.kt_args.specs.Reading.{RefusesArgs};
 ghost use Rattle.kt_args.specs.declared.command_fault.CommandFault.TheVariants as fault;
 
 use clap::error::ErrorKind;
@@ -54,7 +54,7 @@ impl CommandFault {
     /// `Display` prints the same text.
     #[tactic(auto, unfolding(crate::proofs::Common::chars))]
     pub fn words(&self) -> &str
-        ensures { chars result.now ≡ command_words self.now }
+        ensures { chars result.now ≡ new_command self.now }
     {
         match self {
             CommandFault::NoMemory(_) => OUT_OF_MEMORY,
@@ -66,8 +66,8 @@ impl CommandFault {
 
     /// Converts an error of `clap` to `Usage` with its message, or to `NoMemory` if an allocation
     /// failed.
-    pub(crate) fn of_words(alloc: Global, error: clap::Error) -> CommandFault
-        ensures { RefusesWords (kind_of error ≡ OutOfMemory) result }
+    pub(crate) fn from_clap(alloc: Global, error: clap::Error) -> CommandFault
+        ensures { RefusesArgs (kind_of error ≡ OutOfMemory) result }
     {
         if error.kind() == ErrorKind::OutOfMemory {
             return CommandFault::NoMemory(ParserOutOfMemory {

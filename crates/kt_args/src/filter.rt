@@ -1,5 +1,5 @@
 ghost use Rattle.std.specs.Prelude.{◌≡◌, map, IfOk};
-ghost use Rattle.kt_args.specs.Common.{ReadsKinds, comma_words, default_kinds, kind_named, kinds_named};
+ghost use Rattle.kt_args.specs.Common.{ReadsKinds, comma_elements, default_kinds, kind_of_element, kinds_of_elements};
 
 use crate::CommandFault;
 use kt_base::{Items, Kind, NoMemory, named_bytes};
@@ -16,7 +16,7 @@ const KINDS: [(&str, Kind); 5] = [
 
 /// Returns the result kind that `word`, an element of `--results-filter`, names, if any.
 fn kind_of(word: &[u8]) -> Option<Kind>
-    ensures { result ≡ kind_named word.now }
+    ensures { result ≡ kind_of_element word.now }
 {
     named_bytes(word, &KINDS)
 }
@@ -24,7 +24,7 @@ fn kind_of(word: &[u8]) -> Option<Kind>
 /// Returns the elements of `words`, a comma-separated list.
 fn elements(alloc: Global, words: &[u8]) -> Result<Vec<&[u8]>, NoMemory>
     ensures { IfOk result (λ elements.
-        map (λ element. element.now) elements.items ≡ comma_words words.now) }
+        map (λ element. element.now) elements.items ≡ comma_elements words.now) }
 {
     Ok(words.split(|c| *c == b',').collect(alloc)?)
 }
@@ -37,8 +37,8 @@ fn elements(alloc: Global, words: &[u8]) -> Result<Vec<&[u8]>, NoMemory>
 ///
 /// - `BadKind`: an element does not name a kind. An empty filter has one empty element.
 /// - `NoMemory`: an allocation fails.
-pub fn kinds_in(alloc: Global, words: &[u8]) -> Result<Items<Kind>, CommandFault>
-    ensures { ReadsKinds (kinds_named (comma_words words.now)) result }
+pub fn parse_kinds(alloc: Global, words: &[u8]) -> Result<Items<Kind>, CommandFault>
+    ensures { ReadsKinds (kinds_of_elements (comma_elements words.now)) result }
 {
     let elements = elements(alloc, words)?;
     let mut kinds = Items::new(alloc);

@@ -1,5 +1,5 @@
 ghost use Rattle.std.specs.Prelude.{◌≡◌};
-ghost use Rattle.kt_args.specs.Common.{is_number, from_one, run_named};
+ghost use Rattle.kt_args.specs.Common.{is_number, unless_zero, run_number_of};
 
 use kt_base::{decimal_up_to, is_digit};
 
@@ -14,18 +14,18 @@ fn is_number(word: &[u8]) -> bool
 }
 
 /// Returns `number`, or `None` if `number` is 0.
-fn from_one(number: u64) -> Option<u64>
-    ensures { result ≡ from_one number }
+fn unless_zero(number: u64) -> Option<u64>
+    ensures { result ≡ unless_zero number }
 {
     if number == 0 { None } else { Some(number) }
 }
 
 /// Parses a run number, or returns `None` if `word` is not decimal digits of 1 to 1,000,000.
 pub fn run_number(word: &[u8]) -> Option<u64>
-    ensures { result ≡ run_named word.now }
+    ensures { result ≡ run_number_of word.now }
 {
     if !is_number(word) {
         return None;
     }
-    from_one(decimal_up_to(LAST_RUN, word)?)
+    unless_zero(decimal_up_to(LAST_RUN, word)?)
 }

@@ -1,8 +1,8 @@
 ghost use Rattle.std.specs.Prelude.{◌≡◌, drop, map, chars, codes, option_map, IfOk, IfErr, IsErrAnd};
-ghost use Rattle.kt_args.specs.Common.{string_bytes, into_iter_items, all_of, first_of, found_of, rows_of, subcommand_rows_of, error_kind, OutOfMemory, HasRunNumber, Reads, RefusesWords, command_in, command_named, is_true, junit_in, kinds_of, options_in, report_in, report_options, results_in, run_of, text_given, text_or, texts_given, Answers, ReadsRun, ReadsKinds};
+ghost use Rattle.kt_args.specs.Common.{string_bytes, into_iter_items, all_of, first_of, found_of, rows_of, subcommand_rows_of, error_kind, OutOfMemory, HasRunNumber, Reads, RefusesArgs, command_in, command_named, is_true, junit_in, kinds_of, options_in, report_in, report_options, results_path, run_of, option_text, text_or, option_texts, Answers, ReadsRun, ReadsKinds};
 
-use crate::arguments::{KYUAFILE, RESULTS, WORK, all_words};
-use crate::filter::{default_kinds, kinds_in};
+use crate::arguments::{KYUAFILE, RESULTS, WORK, kyua_command};
+use crate::filter::{default_kinds, parse_kinds};
 use crate::numbers::run_number;
 use crate::{CaseOptions, Command, CommandFault, ReportOptions};
 use clap::ArgMatches;
@@ -13,17 +13,17 @@ use std::env::Args;
 use std::io;
 
 /// The message for arguments that are not UTF-8, as `clap` prints it.
-const UNREADABLE: &str = "invalid UTF-8 was detected in one or more arguments";
+const INVALID_UTF8: &str = "invalid UTF-8 was detected in one or more arguments";
 
 /// Returns the first value of the option `name` that `clap` found, if any.
-fn word_of<'a>(matches: &ArgMatches<'a>, name: &str) -> Option<&'a str>
+fn first_option_value<'a>(matches: &ArgMatches<'a>, name: &str) -> Option<&'a str>
     ensures { option_map (λ word. word.now) result ≡ first_of name.now (rows_of (found_of matches.now)) }
 {
     matches.get_str(name)
 }
 
 /// Returns the values of the option or argument `name` that `clap` found, or `None` without values.
-fn words_of<'b, 'a>(matches: &'b ArgMatches<'a>, name: &str) -> Option<&'b [&'a str]>
+fn all_values<'b, 'a>(matches: &'b ArgMatches<'a>, name: &str) -> Option<&'b [&'a str]>
     ensures { option_map (λ words. map (λ word. word.now) words.now) result
         ≡ all_of name.now (rows_of (found_of matches.now)) }
 {
@@ -43,21 +43,21 @@ fn text_or<'a>(
     ensures { IfOk result (λ text.
         text ≡ text_or instead.now name.now (rows_of (found_of matches.now))) }
 {
-    match word_of(matches, name) {
+    match first_option_value(matches, name) {
         None => Text::from_str(alloc, instead),
         Some(word) => Text::from_str(alloc, word),
     }
 }
 
 /// Returns a copy of the value of the option `name`, if `clap` found a value.
-fn text_given<'a>(
+fn option_text<'a>(
     alloc: Global,
     matches: &ArgMatches<'a>,
     name: &str,
 ) -> Result<Option<Text>, NoMemory>
-    ensures { IfOk result (λ text. text ≡ text_given name.now (rows_of (found_of matches.now))) }
+    ensures { IfOk result (λ text. text ≡ option_text name.now (rows_of (found_of matches.now))) }
 {
-    match word_of(matches, name) {
+    match first_option_value(matches, name) {
         None => Ok(None),
         Some(word) => Ok(Some(Text::from_str(alloc, word)?)),
     }
@@ -75,14 +75,14 @@ fn texts(alloc: Global, words: &[&str]) -> Result<Items<Text>, NoMemory>
 }
 
 /// Returns copies of all values of the repeatable option or argument `name`, in order.
-fn texts_given<'a>(
+fn option_texts<'a>(
     alloc: Global,
     matches: &ArgMatches<'a>,
     name: &str,
 ) -> Result<Items<Text>, NoMemory>
-    ensures { IfOk result (λ texts. texts ≡ texts_given name.now (rows_of (found_of matches.now))) }
+    ensures { IfOk result (λ texts. texts ≡ option_texts name.now (rows_of (found_of matches.now))) }
 {
-    match words_of(matches, name) {
+    match all_values(matches, name) {
         None => Ok(Items::new(alloc)),
         Some(words) => texts(alloc, words),
     }
@@ -94,7 +94,7 @@ fn texts_given<'a>(
 fn run_of<'a>(matches: &ArgMatches<'a>) -> Result<Option<u64>, CommandFault>
     ensures { ReadsRun (run_of (first_of (codes "run") (rows_of (found_of matches.now)))) result }
 {
-    let Some(word) = word_of(matches, "run") else {
+    let Some(word) = first_option_value(matches, "run") else {
         return Ok(None);
     };
     match run_number(word.as_bytes()) {
@@ -109,9 +109,9 @@ fn run_of<'a>(matches: &ArgMatches<'a>) -> Result<Option<u64>, CommandFault>
 fn kinds_of<'a>(alloc: Global, matches: &ArgMatches<'a>) -> Result<Items<Kind>, CommandFault>
     ensures { ReadsKinds (kinds_of (first_of (codes "kinds") (rows_of (found_of matches.now)))) result }
 {
-    match word_of(matches, "kinds") {
+    match first_option_value(matches, "kinds") {
         Some(words) => {
-            let kinds = kinds_in(alloc, words.as_bytes())?;
+            let kinds = parse_kinds(alloc, words.as_bytes())?;
             Ok(kinds)
         }
         None => Ok(default_kinds(alloc)?),
@@ -122,7 +122,7 @@ fn kinds_of<'a>(alloc: Global, matches: &ArgMatches<'a>) -> Result<Items<Kind>, 
 fn is_verbose<'a>(matches: &ArgMatches<'a>) -> bool
     ensures { result ≡ is_true (first_of (codes "verbose") (rows_of (found_of matches.now))) }
 {
-    match word_of(matches, "verbose") {
+    match first_option_value(matches, "verbose") {
         None => false,
         Some(word) => word == "true",
     }
@@ -139,11 +139,11 @@ fn case_options<'a>(
     ensures { IfOk result (λ options.
         options ≡ options_in (rows_of (found_of before.now)) (rows_of (found_of own.now))) }
 {
-    let config = text_given(alloc, before, "config")?;
-    let variables = texts_given(alloc, before, "variables")?;
+    let config = option_text(alloc, before, "config")?;
+    let variables = option_texts(alloc, before, "variables")?;
     let kyuafile = text_or(alloc, own, "kyuafile", KYUAFILE)?;
     let work = text_or(alloc, own, "work", WORK)?;
-    let filters = texts_given(alloc, own, "filters")?;
+    let filters = option_texts(alloc, own, "filters")?;
     Ok(CaseOptions {
         config,
         variables,
@@ -155,7 +155,7 @@ fn case_options<'a>(
 
 /// Returns the path of the results file (`-r`), or the default path `kyua.db`.
 fn results_of<'a>(alloc: Global, own: &ArgMatches<'a>) -> Result<Text, NoMemory>
-    ensures { IfOk result (λ text. text ≡ results_in (rows_of (found_of own.now))) }
+    ensures { IfOk result (λ text. text ≡ results_path (rows_of (found_of own.now))) }
 {
     text_or(alloc, own, "results", RESULTS)
 }
@@ -172,8 +172,8 @@ fn report_options<'a>(
     ensures { IfOk result (λ options.
         options ≡ report_options (rows_of (found_of before.now)) (rows_of (found_of own.now)) run) }
 {
-    let config = text_given(alloc, before, "config")?;
-    let variables = texts_given(alloc, before, "variables")?;
+    let config = option_text(alloc, before, "config")?;
+    let variables = option_texts(alloc, before, "variables")?;
     let results = results_of(alloc, own)?;
     Ok(ReportOptions {
         config,
@@ -255,7 +255,7 @@ fn read_named<'a>(
 }
 
 /// Returns the name of the command that `clap` found, with the values after the name, if any.
-fn entered_in<'b, 'a>(matches: &'b ArgMatches<'a>) -> Option<(&'a str, &'b ArgMatches<'a>)>
+fn found_subcommand<'b, 'a>(matches: &'b ArgMatches<'a>) -> Option<(&'a str, &'b ArgMatches<'a>)>
     ensures { option_map (λ entered. (entered.0.now, rows_of (found_of entered.1.now))) result
         ≡ subcommand_rows_of matches.now }
 {
@@ -269,7 +269,7 @@ fn read_matches<'a>(alloc: Global, matches: &ArgMatches<'a>) -> Result<Command, 
     ensures { Answers (command_in (rows_of (found_of matches.now))
         (subcommand_rows_of matches.now)) result }
 {
-    match entered_in(matches) {
+    match found_subcommand(matches) {
         None => Err(CommandFault::Usage(Text::new(alloc))),
         Some((name, own)) => read_named(alloc, matches, name, own),
     }
@@ -294,27 +294,27 @@ pub fn read_command<'a>(alloc: Global, words: &'a [String]) -> Result<Command, C
     ensures value { Reads (map (λ word. string_bytes word) words.entry.now) result }
     ensures range { IfOk result HasRunNumber }
 {
-    let line = all_words(alloc)?;
+    let line = kyua_command(alloc)?;
     match line.try_get_matches_from(words) {
         Ok(matches) => read_matches(alloc, &matches),
-        Err(error) => Err(CommandFault::of_words(alloc, error)),
+        Err(error) => Err(CommandFault::from_clap(alloc, error)),
     }
 }
 
 /// Creates the error of arguments that are not UTF-8: a `Usage` with a message in `clap`'s form.
-fn refuse_words(alloc: Global) -> Result<CommandFault, NoMemory>
-    ensures { IfOk result (λ fault. RefusesWords ⊥ fault) }
+fn utf8_error(alloc: Global) -> Result<CommandFault, NoMemory>
+    ensures { IfOk result (λ fault. RefusesArgs ⊥ fault) }
 {
-    let mut command = all_words(alloc)?;
-    let error = command.error(ErrorKind::ValueValidation, UNREADABLE)?;
-    Ok(CommandFault::of_words(alloc, error))
+    let mut command = kyua_command(alloc)?;
+    let error = command.error(ErrorKind::ValueValidation, INVALID_UTF8)?;
+    Ok(CommandFault::from_clap(alloc, error))
 }
 
 /// Creates the error of arguments that are not UTF-8, or `NoMemory` if an allocation fails.
-fn unreadable_words(alloc: Global) -> CommandFault
-    ensures { RefusesWords ⊥ result }
+fn utf8_or_memory_error(alloc: Global) -> CommandFault
+    ensures { RefusesArgs ⊥ result }
 {
-    match refuse_words(alloc) {
+    match utf8_error(alloc) {
         Ok(fault) => fault,
         Err(refusal) => CommandFault::from(refusal),
     }
@@ -323,12 +323,12 @@ fn unreadable_words(alloc: Global) -> CommandFault
 /// Converts `error`, the error of reading the arguments of the process, to a `CommandFault`.
 ///
 /// The result is `NoMemory` if an allocation failed. Otherwise, an argument is not UTF-8.
-fn refused_words(alloc: Global, error: &io::Error) -> CommandFault
-    ensures { RefusesWords (error_kind error.now ≡ OutOfMemory) result }
+fn args_error(alloc: Global, error: &io::Error) -> CommandFault
+    ensures { RefusesArgs (error_kind error.now ≡ OutOfMemory) result }
 {
     match NoMemory::in_error(error) {
         Some(refusal) => CommandFault::from(refusal),
-        None => unreadable_words(alloc),
+        None => utf8_or_memory_error(alloc),
     }
 }
 
@@ -348,12 +348,12 @@ pub fn read_words(alloc: Global, words: io::Result<Args>) -> Result<Command, Com
     ensures value { IfOk words (λ all.
         Reads (map (λ word. string_bytes word) (drop 1 (into_iter_items all))) result) }
     ensures refused { IfErr words (λ e.
-        IsErrAnd result (λ fault. RefusesWords (error_kind e ≡ OutOfMemory) fault)) }
+        IsErrAnd result (λ fault. RefusesArgs (error_kind e ≡ OutOfMemory) fault)) }
     ensures range { IfOk result HasRunNumber }
 {
     let words = match words {
         Ok(words) => words,
-        Err(error) => return Err(refused_words(alloc, &error)),
+        Err(error) => return Err(args_error(alloc, &error)),
     };
     let words = match collected(alloc, words) {
         Ok(words) => words,

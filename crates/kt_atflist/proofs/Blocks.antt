@@ -1,6 +1,6 @@
 -- Properties that a block sets once, and names that a list has once.
 use Rattle.std.proofs.Common.{◌≡◌, ℕ, Bool, true, false, List, [], ◌∷◌, ◌++◌, Option, Some, None, Result, Ok, Err, OnOk, OnErr, is_some, refl, ap, sym, map, ◌∙◌, bytes_eq, Bor, option_copied}
-use Rattle.kt_atflist.proofs.Common.{list_any, Variable, name_of, names_of, is_listed, is_given, with_property, CaseDef}
+use Rattle.kt_atflist.proofs.Common.{list_any, Variable, name_of, names_of, is_listed, has_property, with_property, CaseDef}
 use Rattle.kt_base.specs.LastValues.{is_named, value_of, last_values}
 use Rattle.kt_base.proofs.LastValueLaws.{appended, twice}
 
@@ -11,14 +11,14 @@ copied None = refl
 copied (Some x) = refl
 
 given-next : (name : List ℕ) (x : Variable) (xs : List Variable) (b : Bool) (o : Option (List ℕ)) → is_named name x ≡ b → value_of name xs ≡ o
-    → is_some o ≡ is_given xs name → is_some (value_of name (x ∷ xs)) ≡ is_given (x ∷ xs) name
+    → is_some o ≡ has_property xs name → is_some (value_of name (x ∷ xs)) ≡ has_property (x ∷ xs) name
 given-next name x xs true None e f h = rw (e, f) refl
 given-next name x xs true (Some value) e f h = rw (e, f) refl
 given-next name x xs false None e f h = rw (e, f) h
 given-next name x xs false (Some value) e f h = rw (e, f) h
 
 -- A name has a value if and only if a pair has the name.
-pub given : (name : List ℕ) (xs : List Variable) → is_some (value_of name xs) ≡ is_given xs name
+pub given : (name : List ℕ) (xs : List Variable) → is_some (value_of name xs) ≡ has_property xs name
 given name [] = refl
 given name (x ∷ xs) = given-next name x xs (is_named name x) (value_of name xs) refl refl (given name xs)
 
@@ -38,9 +38,9 @@ as_case name props = record { name = name; props = props; fault = None }
 
 -- Setting a property that the block does not have yet appends the property.
 pub property-after : {U E : Type 0} (r : Result U E) (called : List ℕ) (old new : List Variable) (now : CaseDef) (pair : Variable) → as_case called old ≡ now
-    → old ≡ last_values old → is_given now.props pair.name ≡ false → OnOk r (new ≡ last_values (old ++ pair ∷ [])) → OnOk r (as_case called new ≡ with_property now pair.name pair.value)
+    → old ≡ last_values old → has_property now.props pair.name ≡ false → OnOk r (new ≡ last_values (old ++ pair ∷ [])) → OnOk r (as_case called new ≡ with_property now pair.name pair.value)
 property-after (Ok u) called old new now pair v s g set =
-    let absent : value_of pair.name old ≡ None = none-of (value_of pair.name old) (given pair.name old ∙ ap (λ (case : CaseDef). is_given case.props pair.name) v ∙ g) in
+    let absent : value_of pair.name old ≡ None = none-of (value_of pair.name old) (given pair.name old ∙ ap (λ (case : CaseDef). has_property case.props pair.name) v ∙ g) in
     let last : new ≡ old ++ pair ∷ [] = set ∙ appended old pair absent ∙ ap (λ (props : List Variable). props ++ pair ∷ []) (sym s) in
     ap (as_case called) last ∙ ap (λ (case : CaseDef). with_property case pair.name pair.value) v
 property-after (Err e) called old new now pair v s g set = record {}

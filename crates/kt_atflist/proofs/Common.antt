@@ -14,13 +14,13 @@ pub use Rattle.kt_base.specs.declared.verdict.Reason.{Reason}
 pub use Rattle.kt_base.specs.declared.verdict.Reason.TheVariants.{Counted, Fixed}
 pub use Rattle.kt_base.specs.declared.variable.Variable.{Variable}
 pub use Rattle.kt_atflist.specs.BlockLines.{ident_in, is_name, key_in, value_in}
-pub use Rattle.kt_atflist.specs.Blocks.{is_given, is_good, is_listed, named, with_property}
-pub use Rattle.kt_atflist.specs.Cases.{AreCases, list_case, listed, main_case, over_program, plain, tap, unlisted}
+pub use Rattle.kt_atflist.specs.Blocks.{has_property, is_valid_property, is_listed, named, with_property}
+pub use Rattle.kt_atflist.specs.Cases.{AreCases, list_case, listed, main_case, overlaid_case, plain, tap, unlisted}
 pub use Rattle.kt_atflist.specs.Inner.Keys.{characters, name_of, names_of}
-pub use Rattle.kt_atflist.specs.Inner.Reading.{begin_with, closed, go_on, go_on_with, led, name_from, nothing_read, read_blocks, read_from, read_lines, read_list, read_second, set_property, step_from}
-pub use Rattle.kt_atflist.specs.Listings.{IsRead, Lists, ended_reason, fault_phrase, no_list, read, too_long, unreadable, unstarted}
+pub use Rattle.kt_atflist.specs.Inner.Reading.{begin_block_if_named, closed, go_on, step_with_change, led, case_name_in, initial_state, read_blocks, read_from, read_lines, read_list, read_from_line_2, set_property, step_from}
+pub use Rattle.kt_atflist.specs.Listings.{IsParsedList, IsListingResult, list_failure_reason, fault_phrase, no_list, read, too_long, unreadable, unstarted}
 pub use Rattle.kt_atflist.specs.Read.{Read}
-pub use Rattle.kt_atflist.specs.Spelling.{Fails, Faulty, Goes, IsAnswer, IsFault, IsList, IsOutOfMemory, IsUnlessMemory, Outcome, Spelled, begins, ends, fault_at, first, first_rows, fits_first, fits_further, further, further_rows, gives, header, here, in_blocks, last_block, later, line, list, no_block, no_first, no_second, no_third, other_first, other_second}
+pub use Rattle.kt_atflist.specs.Spelling.{IsFaultyLine, HasFirstFault, IsNextState, IsAnswer, IsFault, IsList, IsOutOfMemory, IsUnlessMemory, Outcome, IsBlockSequence, begins, ends, fault_at, first, first_line_causes, is_first_line_cause, is_later_line_cause, further, later_line_causes, gives, header, here, in_blocks, last_block, later, line, list, no_block, no_first, no_second, no_third, other_first, other_second}
 pub use Rattle.kt_atflist.specs.declared.listing.CaseDef.{CaseDef}
 pub use Rattle.kt_atflist.specs.declared.list_fault.ListCause.TheVariants.{BadHeader, BadLine, BadValue, NoIdent, NotUtf8, RepeatedIdent, RepeatedKey, UnknownKey}
 pub use Rattle.kt_atflist.specs.declared.list_fault.ListFault.{ListFault}

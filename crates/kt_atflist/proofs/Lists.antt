@@ -1,6 +1,6 @@
 -- Reading line by line gives the cases of a text, or its first fault.
 use Rattle.std.proofs.Common.{Ok, Err, bytes_eq, ◌≡◌, ◌⊎◌, ℕ, ◌+◌, Bool, true, false, List, [], ◌∷◌, Option, Some, None, refl, ap, sym, subst, ◌∙◌, inl, inr}
-use Rattle.kt_atflist.proofs.Common.{find, IsUtf8, is_utf8, false≢true, IsUtf8-from_is_utf8, is_utf8-from_IsUtf8, lines, header, Outcome, fault_at, Goes, begins, gives, ends, Spelled, no_block, last_block, line, fits_first, fits_further, first_rows, further_rows, Fails, first, further, Faulty, here, later, IsList, list, IsFault, no_first, other_first, no_second, other_second, no_third, in_blocks, IsAnswer, IsOutOfMemory, IsUnlessMemory, is_empty, ident_in, key_in, value_in, led, closed, step_from, read_from, nothing_read, read_blocks, read_second, read_lines, read_list, BadHeader, ListFault, CaseDef, Read, ListStep, To, Wrong}
+use Rattle.kt_atflist.proofs.Common.{find, IsUtf8, is_utf8, false≢true, IsUtf8-from_is_utf8, is_utf8-from_IsUtf8, lines, header, Outcome, fault_at, IsNextState, begins, gives, ends, IsBlockSequence, no_block, last_block, line, is_first_line_cause, is_later_line_cause, first_line_causes, later_line_causes, IsFaultyLine, first, further, HasFirstFault, here, later, IsList, list, IsFault, no_first, other_first, no_second, other_second, no_third, in_blocks, IsAnswer, IsOutOfMemory, IsUnlessMemory, is_empty, ident_in, key_in, value_in, led, closed, step_from, read_from, initial_state, read_blocks, read_from_line_2, read_lines, read_list, BadHeader, ListFault, CaseDef, Read, ListStep, To, Wrong}
 use Rattle.kt_atflist.specs.declared.list_fault.ListCause.{ListCause}
 use Rattle.kt_atflist.proofs.LineCases.{Led, led_by, step_goes}
 use Rattle.kt_atflist.proofs.Utf8.{read_utf8, read_other}
@@ -10,14 +10,14 @@ use Rattle.kt_atflist.proofs.Utf8.{read_utf8, read_other}
 -- `Reads n r ls o`: `o` is the specified result of the lines `ls` from line `n` on, in the state
 -- `r`.
 abbrev Reads : ℕ → Read → List (List ℕ) → Outcome → Type 0
-Reads n r ls (Ok all) = Spelled r.cases r.block ls all
-Reads n r ls (Err fault) = Faulty n r.cases r.block ls fault
+Reads n r ls (Ok all) = IsBlockSequence r.cases r.block ls all
+Reads n r ls (Err fault) = HasFirstFault n r.cases r.block ls fault
 
-ended : (n : ℕ) (r : Read) (block : Option CaseDef) → Spelled r.cases block [] (closed r.cases block)
+ended : (n : ℕ) (r : Read) (block : Option CaseDef) → IsBlockSequence r.cases block [] (closed r.cases block)
 ended n r None = no_block r.cases
 ended n r (Some block) = last_block r.cases block
 
-went_on : (n : ℕ) (r next : Read) (one : List ℕ) (rest : List (List ℕ)) (o : Outcome) → Goes r.cases one r.block next → Reads (n + 1) next rest o → Reads n r (one ∷ rest) o
+went_on : (n : ℕ) (r next : Read) (one : List ℕ) (rest : List (List ℕ)) (o : Outcome) → IsNextState r.cases one r.block next → Reads (n + 1) next rest o → Reads n r (one ∷ rest) o
 went_on n r next one rest (Ok all) g h = line r.cases r.block one rest next all g h
 went_on n r next one rest (Err fault) g h = later n r.cases r.block one rest next fault g h
 
@@ -35,29 +35,29 @@ abbrev Gives : List (List ℕ) → Outcome → Type 0
 Gives ls (Ok cases) = IsList ls cases
 Gives ls (Err fault) = IsFault ls fault
 
-blocks_give : (one two three : List ℕ) (rest : List (List ℕ)) (o : Outcome) → bytes_eq one header ≡ true → is_empty two ≡ true → Reads 3 nothing_read (three ∷ rest) o → Gives (one ∷ two ∷ three ∷ rest) o
+blocks_give : (one two three : List ℕ) (rest : List (List ℕ)) (o : Outcome) → bytes_eq one header ≡ true → is_empty two ≡ true → Reads 3 initial_state (three ∷ rest) o → Gives (one ∷ two ∷ three ∷ rest) o
 blocks_give one two three rest (Ok cases) e f h = list one two three rest cases e f h
 blocks_give one two three rest (Err fault) e f h = in_blocks one two three rest fault e f h
 
 third_gives : (one two : List ℕ) (rest : List (List ℕ)) → bytes_eq one header ≡ true → is_empty two ≡ true → Gives (one ∷ two ∷ rest) (read_blocks rest)
 third_gives one two [] e f = no_third one two e f
-third_gives one two (three ∷ rest) e f = blocks_give one two three rest (read_from 3 nothing_read (three ∷ rest)) e f (reads 3 nothing_read (three ∷ rest))
+third_gives one two (three ∷ rest) e f = blocks_give one two three rest (read_from 3 initial_state (three ∷ rest)) e f (reads 3 initial_state (three ∷ rest))
 
-second_at : (one two : List ℕ) (rest : List (List ℕ)) (t : Bool) → bytes_eq one header ≡ true → is_empty two ≡ t → Gives (one ∷ two ∷ rest) (read_second (two ∷ rest))
+second_at : (one two : List ℕ) (rest : List (List ℕ)) (t : Bool) → bytes_eq one header ≡ true → is_empty two ≡ t → Gives (one ∷ two ∷ rest) (read_from_line_2 (two ∷ rest))
 second_at one two rest true e f =
-    let s : read_second (two ∷ rest) ≡ read_blocks rest = rw f refl in
+    let s : read_from_line_2 (two ∷ rest) ≡ read_blocks rest = rw f refl in
     subst (Gives (one ∷ two ∷ rest)) (sym s) (third_gives one two rest e f)
 second_at one two rest false e f =
-    let s : read_second (two ∷ rest) ≡ Err (fault_at BadHeader 2) = rw f refl in
+    let s : read_from_line_2 (two ∷ rest) ≡ Err (fault_at BadHeader 2) = rw f refl in
     subst (Gives (one ∷ two ∷ rest)) (sym s) (other_second one two rest e f)
 
-second_gives : (one : List ℕ) (rest : List (List ℕ)) → bytes_eq one header ≡ true → Gives (one ∷ rest) (read_second rest)
+second_gives : (one : List ℕ) (rest : List (List ℕ)) → bytes_eq one header ≡ true → Gives (one ∷ rest) (read_from_line_2 rest)
 second_gives one [] e = no_second one e
 second_gives one (two ∷ rest) e = second_at one two rest (is_empty two) e refl
 
 first_at : (one : List ℕ) (rest : List (List ℕ)) (t : Bool) → bytes_eq one header ≡ t → Gives (one ∷ rest) (read_lines (one ∷ rest))
 first_at one rest true e =
-    let s : read_lines (one ∷ rest) ≡ read_second rest = rw e refl in
+    let s : read_lines (one ∷ rest) ≡ read_from_line_2 rest = rw e refl in
     subst (Gives (one ∷ rest)) (sym s) (second_gives one rest e)
 first_at one rest false e =
     let s : read_lines (one ∷ rest) ≡ Err (fault_at BadHeader 1) = rw e refl in
@@ -95,34 +95,34 @@ one_cause o c d e f = ap (λ (x : Option ListCause). cause_in x c) (sym e ∙ f)
 no_cause : (o : Option ListCause) (c : ListCause) → o ≡ None → o ≡ Some c → ⊥
 no_cause o c e f = let g = sym e ∙ f in absurd (cc)
 
-fails_once : (cases : List CaseDef) (block : Option CaseDef) (one : List ℕ) (c d : ListCause) → Fails cases one block c → Fails cases one block d → c ≡ d
-fails_once cases None one c d (first _ e) (first _ f) = one_cause (find (fits_first cases (ident_in one)) first_rows) c d e f
-fails_once cases (Some block) one c d (further _ _ _ e) (further _ _ _ f) = one_cause (find (fits_further block (key_in one) (value_in one)) further_rows) c d e f
+fails_once : (cases : List CaseDef) (block : Option CaseDef) (one : List ℕ) (c d : ListCause) → IsFaultyLine cases one block c → IsFaultyLine cases one block d → c ≡ d
+fails_once cases None one c d (first _ e) (first _ f) = one_cause (find (is_first_line_cause cases (ident_in one)) first_line_causes) c d e f
+fails_once cases (Some block) one c d (further _ _ _ e) (further _ _ _ f) = one_cause (find (is_later_line_cause block (key_in one) (value_in one)) later_line_causes) c d e f
 
-goes_or_fails : (cases : List CaseDef) (block : Option CaseDef) (one : List ℕ) (next : Read) (c : ListCause) → Goes cases one block next → Fails cases one block c → ⊥
+goes_or_fails : (cases : List CaseDef) (block : Option CaseDef) (one : List ℕ) (next : Read) (c : ListCause) → IsNextState cases one block next → IsFaultyLine cases one block c → ⊥
 goes_or_fails cases None one next c (begins name e f g) (first _ h) =
-    let q : find (fits_first cases (ident_in one)) first_rows ≡ None = ap (λ (o : Option (List ℕ)). find (fits_first cases o) first_rows) e ∙ rw (f, g) refl in
-    no_cause (find (fits_first cases (ident_in one)) first_rows) c q h
+    let q : find (is_first_line_cause cases (ident_in one)) first_line_causes ≡ None = ap (λ (o : Option (List ℕ)). find (is_first_line_cause cases o) first_line_causes) e ∙ rw (f, g) refl in
+    no_cause (find (is_first_line_cause cases (ident_in one)) first_line_causes) c q h
 goes_or_fails cases (Some block) one next c (gives _ value property e v k w p g h) (further _ _ _ i) =
-    let q : find (fits_further block (key_in one) (value_in one)) further_rows ≡ None = rw (v, k, w, p, g, h) refl in
-    no_cause (find (fits_further block (key_in one) (value_in one)) further_rows) c q i
+    let q : find (is_later_line_cause block (key_in one) (value_in one)) later_line_causes ≡ None = rw (v, k, w, p, g, h) refl in
+    no_cause (find (is_later_line_cause block (key_in one) (value_in one)) later_line_causes) c q i
 goes_or_fails cases (Some block) one next c (ends _ e) (further _ _ f _) = false≢true (sym f ∙ e)
 
-fails_at : (cases : List CaseDef) (block : Option CaseDef) (one : List ℕ) (c : ListCause) (s : ListStep) → Led cases one block s → Fails cases one block c → s ≡ Wrong c
+fails_at : (cases : List CaseDef) (block : Option CaseDef) (one : List ℕ) (c : ListCause) (s : ListStep) → Led cases one block s → IsFaultyLine cases one block c → s ≡ Wrong c
 fails_at cases block one c (Wrong d) h f = ap (λ (x : ListCause). Wrong x) (fails_once cases block one d c h f)
 fails_at cases block one c (To next) h f = absurd (goes_or_fails cases block one next c h f)
 
-step_fails : (cases : List CaseDef) (block : Option CaseDef) (one : List ℕ) (c : ListCause) → Fails cases one block c → step_from cases block one ≡ Wrong c
+step_fails : (cases : List CaseDef) (block : Option CaseDef) (one : List ℕ) (c : ListCause) → IsFaultyLine cases one block c → step_from cases block one ≡ Wrong c
 step_fails cases block one c f = fails_at cases block one c (step_from cases block one) (led_by cases block one) f
 
-spelled_reads : (n : ℕ) (cases : List CaseDef) (block : Option CaseDef) (ls : List (List ℕ)) (all : List CaseDef) → Spelled cases block ls all
+spelled_reads : (n : ℕ) (cases : List CaseDef) (block : Option CaseDef) (ls : List (List ℕ)) (all : List CaseDef) → IsBlockSequence cases block ls all
     → read_from n (record { cases = cases; block = block }) ls ≡ Ok all
 spelled_reads n cases None [] all (no_block _) = refl
 spelled_reads n cases (Some block) [] all (last_block _ _) = refl
 spelled_reads n cases block (one ∷ rest) all (line _ _ _ _ next _ g h) =
     ap (λ (s : ListStep). led n s (λ m. read_from (n + 1) m rest)) (step_goes cases block one next g) ∙ spelled_reads (n + 1) next.cases next.block rest all h
 
-faulty_reads : (n : ℕ) (cases : List CaseDef) (block : Option CaseDef) (ls : List (List ℕ)) (fault : ListFault) → Faulty n cases block ls fault
+faulty_reads : (n : ℕ) (cases : List CaseDef) (block : Option CaseDef) (ls : List (List ℕ)) (fault : ListFault) → HasFirstFault n cases block ls fault
     → read_from n (record { cases = cases; block = block }) ls ≡ Err fault
 faulty_reads n cases block [] fault x' = elim x' [ ]
 faulty_reads n cases block (one ∷ rest) fault (here _ _ _ _ _ cause f) =
@@ -132,7 +132,7 @@ faulty_reads n cases block (one ∷ rest) fault (later _ _ _ _ _ next _ g h) =
 
 list_reads : (ls : List (List ℕ)) (cases : List CaseDef) → IsList ls cases → read_lines ls ≡ Ok cases
 list_reads ls cases (list one two three rest _ e f h) =
-    let s : read_lines (one ∷ two ∷ three ∷ rest) ≡ read_from 3 nothing_read (three ∷ rest) = rw (e, f) refl in
+    let s : read_lines (one ∷ two ∷ three ∷ rest) ≡ read_from 3 initial_state (three ∷ rest) = rw (e, f) refl in
     s ∙ spelled_reads 3 [] None (three ∷ rest) cases h
 
 fault_reads : (ls : List (List ℕ)) (fault : ListFault) → IsFault ls fault → read_lines ls ≡ Err fault
@@ -142,7 +142,7 @@ fault_reads ls fault (no_second one e) = rw e refl
 fault_reads ls fault (other_second one two rest e f) = rw (e, f) refl
 fault_reads ls fault (no_third one two e f) = rw (e, f) refl
 fault_reads ls fault (in_blocks one two three rest _ e f h) =
-    let s : read_lines (one ∷ two ∷ three ∷ rest) ≡ read_from 3 nothing_read (three ∷ rest) = rw (e, f) refl in
+    let s : read_lines (one ∷ two ∷ three ∷ rest) ≡ read_from 3 initial_state (three ∷ rest) = rw (e, f) refl in
     s ∙ faulty_reads 3 [] None (three ∷ rest) fault h
 
 pub only_answer : (text : List ℕ) (answer : Outcome) → IsAnswer text answer → read_list text ≡ answer

@@ -1,6 +1,6 @@
 -- A listing has at most one result, and a program at most one list of cases.
 use Rattle.std.proofs.Common.{Result, Ok, Err, ◌≡◌, ℕ, List, [], ◌∷◌, Option, Some, None, map, refl, ap, sym, ◌∙◌}
-use Rattle.kt_atflist.proofs.Common.{Interface, NoMemory, Phrase, Reason, Counted, Variable, over_program, list_case, AreCases, tap, plain, listed, unlisted, fault_phrase, ended_reason, IsRead, no_list, Lists, unstarted, unreadable, too_long, read, Outcome, CaseDef, ListFault, Listing}
+use Rattle.kt_atflist.proofs.Common.{Interface, NoMemory, Phrase, Reason, Counted, Variable, overlaid_case, list_case, AreCases, tap, plain, listed, unlisted, fault_phrase, list_failure_reason, IsParsedList, no_list, IsListingResult, unstarted, unreadable, too_long, read, Outcome, CaseDef, ListFault, Listing}
 use Rattle.kt_atflist.specs.Listings.{listed as read_list, unlisted as unread}
 use Rattle.kt_atflist.proofs.Lists.{one_answer}
 
@@ -28,7 +28,7 @@ same_fault text f g p q e h i =
     let same : p ≡ q = ap (λ (r : Result Phrase NoMemory). phrase_in r p) (sym h ∙ ap (λ (x : ListFault). fault_phrase x.cause) e ∙ i) in
     ap (λ (x : Phrase). Err (Counted x f.line 0)) same ∙ ap (λ (x : ListFault). Err (Counted q x.line 0)) e
 
-read_once : (text : List ℕ) (a b : Found) → IsRead text a → IsRead text b → a ≡ b
+read_once : (text : List ℕ) (a b : Found) → IsParsedList text a → IsParsedList text b → a ≡ b
 read_once text a b (no_list f p d h) (no_list g q e i) = same_fault text f g p q (ap (λ (o : Outcome). fault_in o f) (one_answer text (Err f) (Err g) d e)) h i
 read_once text a b (no_list f p d h) (read_list cases s) = let z = one_answer text (Err f) (Ok cases) d s in absurd (cc)
 read_once text a b (read_list cases s) (no_list g q e i) = let z = one_answer text (Ok cases) (Err g) s e in absurd (cc)
@@ -45,17 +45,17 @@ same_reason o r s e f = ap (λ (x : Option Reason). Err (reason_in x r)) (sym e 
 no_reason : (o : Option Reason) (r : Reason) → o ≡ Some r → o ≡ None → ⊥
 no_reason o r e f = let z = sym e ∙ f in absurd (cc)
 
-lists_once : (listing : Listing) (a b : Found) → Lists listing a → Lists listing b → a ≡ b
+lists_once : (listing : Listing) (a b : Found) → IsListingResult listing a → IsListingResult listing b → a ≡ b
 lists_once listing a b (unstarted r) (unstarted _) = refl
-lists_once listing a b (unread o bs r e) (unread _ _ s f) = same_reason (ended_reason o) r s e f
-lists_once listing a b (unread o bs r e) (unreadable _ f) = absurd (no_reason (ended_reason o) r e f)
-lists_once listing a b (unread o bs r e) (too_long _ f) = absurd (no_reason (ended_reason o) r e f)
-lists_once listing a b (unread o bs r e) (read _ text found f h) = absurd (no_reason (ended_reason o) r e f)
-lists_once listing a b (unreadable o e) (unread _ _ s f) = absurd (no_reason (ended_reason o) s f e)
+lists_once listing a b (unread o bs r e) (unread _ _ s f) = same_reason (list_failure_reason o) r s e f
+lists_once listing a b (unread o bs r e) (unreadable _ f) = absurd (no_reason (list_failure_reason o) r e f)
+lists_once listing a b (unread o bs r e) (too_long _ f) = absurd (no_reason (list_failure_reason o) r e f)
+lists_once listing a b (unread o bs r e) (read _ text found f h) = absurd (no_reason (list_failure_reason o) r e f)
+lists_once listing a b (unreadable o e) (unread _ _ s f) = absurd (no_reason (list_failure_reason o) s f e)
 lists_once listing a b (unreadable o e) (unreadable _ f) = refl
-lists_once listing a b (too_long o e) (unread _ _ s f) = absurd (no_reason (ended_reason o) s f e)
+lists_once listing a b (too_long o e) (unread _ _ s f) = absurd (no_reason (list_failure_reason o) s f e)
 lists_once listing a b (too_long o e) (too_long _ f) = refl
-lists_once listing a b (read o text found e h) (unread _ _ s f) = absurd (no_reason (ended_reason o) s f e)
+lists_once listing a b (read o text found e h) (unread _ _ s f) = absurd (no_reason (list_failure_reason o) s f e)
 lists_once listing a b (read o text found e h) (read _ _ other f i) = read_once text found other h i
 
 -- `found_in found other`: the cases in `found`, or `other` for a reason.
@@ -73,8 +73,8 @@ pub cases_once : (props : List Variable) (interface : Interface) (listing : Opti
 cases_once props interface listing first second (tap _) (tap _) = refl
 cases_once props interface listing first second (plain _) (plain _) = refl
 cases_once props interface listing first second (listed l cases h) (listed _ others i) =
-    ap (λ (f : Found). map (over_program props) (found_in f cases)) (lists_once l (Ok cases) (Ok others) h i)
+    ap (λ (f : Found). map (overlaid_case props) (found_in f cases)) (lists_once l (Ok cases) (Ok others) h i)
 cases_once props interface listing first second (listed l cases h) (unlisted _ reason i) = let z = lists_once l (Ok cases) (Err reason) h i in absurd (cc)
 cases_once props interface listing first second (unlisted l reason h) (listed _ others i) = let z = lists_once l (Err reason) (Ok others) h i in absurd (cc)
 cases_once props interface listing first second (unlisted l reason h) (unlisted _ other i) =
-    ap (λ (f : Found). over_program props (list_case (why_in f reason)) ∷ []) (lists_once l (Err reason) (Err other) h i)
+    ap (λ (f : Found). overlaid_case props (list_case (why_in f reason)) ∷ []) (lists_once l (Err reason) (Err other) h i)

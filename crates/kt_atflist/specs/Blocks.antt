@@ -6,17 +6,17 @@ use Rattle.kt_base.specs.declared.variable.Variable.{Variable}
 use Rattle.kt_metadata.specs.Properties.{definition_fault}
 use Rattle.kt_atflist.specs.declared.listing.CaseDef.{CaseDef}
 
--- `is_called name case`: `case` has the name `name`.
-abbrev pub is_called : List ℕ → CaseDef → Bool
-is_called name case = bytes_eq name case.name
+-- `has_case_name name case`: `case` has the name `name`.
+abbrev pub has_case_name : List ℕ → CaseDef → Bool
+has_case_name name case = bytes_eq name case.name
 
 -- `is_listed cases name`: one of `cases` has the name `name`.
 abbrev pub is_listed : List CaseDef → List ℕ → Bool
-is_listed cases name = list_any (is_called name) cases
+is_listed cases name = list_any (has_case_name name) cases
 
--- `is_given pairs name`: one of `pairs` has the name `name`.
-abbrev pub is_given : List Variable → List ℕ → Bool
-is_given pairs name = list_any (is_named name) pairs
+-- `has_property pairs name`: one of `pairs` has the name `name`.
+abbrev pub has_property : List Variable → List ℕ → Bool
+has_property pairs name = list_any (is_named name) pairs
 
 -- `named name`: the case `name` without properties.
 abbrev pub named : List ℕ → CaseDef
@@ -27,6 +27,6 @@ named name = record { name = name; props = []; fault = None }
 abbrev pub with_property : CaseDef → List ℕ → List ℕ → CaseDef
 with_property block name value = record { name = block.name; props = block.props ++ record { name = name; value = value } ∷ []; fault = block.fault }
 
--- `is_good name value`: the property `name` exists and may have the value `value`.
-abbrev pub is_good : List ℕ → List ℕ → Bool
-is_good name value = not (is_some (definition_fault name value))
+-- `is_valid_property name value`: the property `name` exists and may have the value `value`.
+abbrev pub is_valid_property : List ℕ → List ℕ → Bool
+is_valid_property name value = not (is_some (definition_fault name value))

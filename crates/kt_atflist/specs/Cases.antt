@@ -5,15 +5,15 @@ use Rattle.kt_base.specs.declared.child.Interface.{Interface}
 use Rattle.kt_base.specs.declared.child.Interface.TheVariants.{Atf, Tap, Plain}
 use Rattle.kt_base.specs.declared.verdict.Reason.{Reason}
 use Rattle.kt_base.specs.declared.variable.Variable.{Variable}
-use Rattle.kt_atflist.specs.Listings.{Lists}
+use Rattle.kt_atflist.specs.Listings.{IsListingResult}
 use Rattle.kt_atflist.specs.Blocks.{named}
 use Rattle.kt_atflist.specs.declared.listing.CaseDef.{CaseDef}
 use Rattle.kt_atflist.specs.declared.listing.Listing.{Listing}
 
--- `over_program props case`: `case` with its properties overlaid over `props`, those of its
+-- `overlaid_case props case`: `case` with its properties overlaid over `props`, those of its
 -- program. A property of the case replaces the same property of the program.
-abbrev pub over_program : List Variable → CaseDef → CaseDef
-over_program props case = record { name = case.name; props = last_values (props ++ case.props); fault = case.fault }
+abbrev pub overlaid_case : List Variable → CaseDef → CaseDef
+overlaid_case props case = record { name = case.name; props = last_values (props ++ case.props); fault = case.fault }
 
 -- `main_case`: the only case of a TAP or plain program, before the program's properties are added.
 abbrev pub main_case : CaseDef
@@ -26,7 +26,7 @@ list_case reason = record { name = codes "__test_cases_list__"; props = []; faul
 -- `AreCases props interface listing cases`: a program with the interface `interface`, the
 -- properties `props` and the listing `listing` has the test cases `cases`.
 pub data AreCases (props : List Variable) : Interface → Option Listing → List CaseDef → Type 0 where
-  tap : (listing : Option Listing) → AreCases props Tap listing (over_program props main_case ∷ [])
-  plain : (listing : Option Listing) → AreCases props Plain listing (over_program props main_case ∷ [])
-  listed : (listing : Listing) (found : List CaseDef) → Lists listing (Ok found) → AreCases props Atf (Some listing) (map (over_program props) found)
-  unlisted : (listing : Listing) (reason : Reason) → Lists listing (Err reason) → AreCases props Atf (Some listing) (over_program props (list_case reason) ∷ [])
+  tap : (listing : Option Listing) → AreCases props Tap listing (overlaid_case props main_case ∷ [])
+  plain : (listing : Option Listing) → AreCases props Plain listing (overlaid_case props main_case ∷ [])
+  listed : (listing : Listing) (found : List CaseDef) → IsListingResult listing (Ok found) → AreCases props Atf (Some listing) (map (overlaid_case props) found)
+  unlisted : (listing : Listing) (reason : Reason) → IsListingResult listing (Err reason) → AreCases props Atf (Some listing) (overlaid_case props (list_case reason) ∷ [])

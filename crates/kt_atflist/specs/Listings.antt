@@ -20,13 +20,13 @@ use Rattle.kt_atflist.specs.declared.listing.Listing.{Listing}
 use Rattle.kt_atflist.specs.declared.listing.Listing.TheVariants as listing
 use Rattle.kt_atflist.specs.Spelling.{Spells, IsDue}
 
--- `ended_reason outcome`: the reason why a program with this `outcome` did not list its cases, or
+-- `list_failure_reason outcome`: the reason why a program with this `outcome` did not list its cases, or
 -- nothing if it exited with 0.
-abbrev pub ended_reason : Outcome → Option Reason
-ended_reason TimedOut = Some (Fixed ListTimedOut)
-ended_reason WaitFailed = Some (Fixed ListNotWaitedFor)
-ended_reason (Exited code) = if code == 0 then None else Some (Ended NoList (Exited code))
-ended_reason (Signaled signal core) = Some (Ended NoList (Signaled signal core))
+abbrev pub list_failure_reason : Outcome → Option Reason
+list_failure_reason TimedOut = Some (Fixed ListTimedOut)
+list_failure_reason WaitFailed = Some (Fixed ListNotWaitedFor)
+list_failure_reason (Exited code) = if code == 0 then None else Some (Ended NoList (Exited code))
+list_failure_reason (Signaled signal core) = Some (Ended NoList (Signaled signal core))
 
 -- `fault_phrase cause`: the fixed message for `cause` in a reason. A failed allocation has no
 -- message and stays an error.
@@ -42,18 +42,18 @@ fault_phrase BadValue = Ok ListBadValue
 fault_phrase EmptyList = Ok ListEmpty
 fault_phrase NotUtf8 = Ok ListNotUtf8
 
--- `IsRead text found`: parsing `text` as a list gives `found`: the cases of the list, or the reason
+-- `IsParsedList text found`: parsing `text` as a list gives `found`: the cases of the list, or the reason
 -- why `text` isn't a list.
-pub data IsRead (text : List ℕ) : Result (List CaseDef) Reason → Type 0 where
-  no_list : (fault : ListFault) (phrase : Phrase) → IsDue text fault → fault_phrase fault.cause ≡ Ok phrase → IsRead text (Err (Counted phrase fault.line 0))
-  listed : (cases : List CaseDef) → Spells text cases → IsRead text (Ok cases)
+pub data IsParsedList (text : List ℕ) : Result (List CaseDef) Reason → Type 0 where
+  no_list : (fault : ListFault) (phrase : Phrase) → IsDue text fault → fault_phrase fault.cause ≡ Ok phrase → IsParsedList text (Err (Counted phrase fault.line 0))
+  listed : (cases : List CaseDef) → Spells text cases → IsParsedList text (Ok cases)
 
--- `Lists listing found`: a program with the listing `listing` has the result `found`: the listed
+-- `IsListingResult listing found`: a program with the listing `listing` has the result `found`: the listed
 -- cases, or the reason why the listing can't be used.
-pub data Lists : Listing → Result (List CaseDef) Reason → Type 0 where
-  unstarted : (refused : Refused) → Lists (listing.Refused refused) (Err (refused_reason refused))
-  unlisted : (outcome : Outcome) (bytes : ListBytes) (reason : Reason) → ended_reason outcome ≡ Some reason → Lists (listing.Ended outcome bytes) (Err reason)
-  unreadable : (outcome : Outcome) → ended_reason outcome ≡ None → Lists (listing.Ended outcome bytes.Unreadable) (Err (Fixed ListUnreadable))
-  too_long : (outcome : Outcome) → ended_reason outcome ≡ None → Lists (listing.Ended outcome bytes.TooLong) (Err (Fixed ListTooLong))
-  read : (outcome : Outcome) (text : List ℕ) (found : Result (List CaseDef) Reason) → ended_reason outcome ≡ None → IsRead text found
-      → Lists (listing.Ended outcome (bytes.Read text)) found
+pub data IsListingResult : Listing → Result (List CaseDef) Reason → Type 0 where
+  unstarted : (refused : Refused) → IsListingResult (listing.Refused refused) (Err (refused_reason refused))
+  unlisted : (outcome : Outcome) (bytes : ListBytes) (reason : Reason) → list_failure_reason outcome ≡ Some reason → IsListingResult (listing.Ended outcome bytes) (Err reason)
+  unreadable : (outcome : Outcome) → list_failure_reason outcome ≡ None → IsListingResult (listing.Ended outcome bytes.Unreadable) (Err (Fixed ListUnreadable))
+  too_long : (outcome : Outcome) → list_failure_reason outcome ≡ None → IsListingResult (listing.Ended outcome bytes.TooLong) (Err (Fixed ListTooLong))
+  read : (outcome : Outcome) (text : List ℕ) (found : Result (List CaseDef) Reason) → list_failure_reason outcome ≡ None → IsParsedList text found
+      → IsListingResult (listing.Ended outcome (bytes.Read text)) found

@@ -9,7 +9,7 @@ use Rattle.kt_base.specs.Lines.{lines}
 use Rattle.kt_base.specs.Texts.{is_empty}
 use Rattle.kt_atflist.specs.BlockLines.{ident_in, is_name, key_in, value_in}
 use Rattle.kt_metadata.specs.ListKeys.{name_of_key}
-use Rattle.kt_atflist.specs.Blocks.{is_listed, is_given, named, with_property, is_good}
+use Rattle.kt_atflist.specs.Blocks.{is_listed, has_property, named, with_property, is_valid_property}
 use Rattle.kt_atflist.specs.declared.list_fault.ListCause.{ListCause}
 use Rattle.kt_atflist.specs.declared.list_fault.ListCause.TheVariants as cause
 use Rattle.kt_atflist.specs.declared.list_fault.ListCause.TheVariants.{BadHeader, BadLine, NoIdent, RepeatedKey, RepeatedIdent, UnknownKey, BadValue, EmptyList, NotUtf8}
@@ -31,81 +31,81 @@ fault_at cause line = record { cause = cause; line = line }
 
 -- ---- valid lines
 
--- `Goes cases line block next`: `line` is valid after the blocks of `cases`, in `block` or outside
+-- `IsNextState cases line block next`: `line` is valid after the blocks of `cases`, in `block` or outside
 -- a block, and `next` is the state of the reader after the line.
-pub data Goes (cases : List CaseDef) (line : List ℕ) : Option CaseDef → Read → Type 0 where
+pub data IsNextState (cases : List CaseDef) (line : List ℕ) : Option CaseDef → Read → Type 0 where
   begins : (name : List ℕ) → ident_in line ≡ Some name → is_name name ≡ true → is_listed cases (lossy name) ≡ false
-      → Goes cases line None (record { cases = cases; block = Some (named (lossy name)) })
+      → IsNextState cases line None (record { cases = cases; block = Some (named (lossy name)) })
   gives : (block : CaseDef) (value : List ℕ) (property : List ℕ) → is_empty line ≡ false → value_in line ≡ Some value → is_empty (key_in line) ≡ false
       → bytes_eq (lossy (key_in line)) (codes "ident") ≡ false → name_of_key (lossy (key_in line)) ≡ Some property
-      → is_given block.props property ≡ false → is_good property (lossy value) ≡ true
-      → Goes cases line (Some block) (record { cases = cases; block = Some (with_property block property (lossy value)) })
-  ends : (block : CaseDef) → is_empty line ≡ true → Goes cases line (Some block) (record { cases = cases ++ block ∷ []; block = None })
+      → has_property block.props property ≡ false → is_valid_property property (lossy value) ≡ true
+      → IsNextState cases line (Some block) (record { cases = cases; block = Some (with_property block property (lossy value)) })
+  ends : (block : CaseDef) → is_empty line ≡ true → IsNextState cases line (Some block) (record { cases = cases ++ block ∷ []; block = None })
 
--- `Spelled cases block lines all`: `lines` are valid after the blocks of `cases`, in `block` or
+-- `IsBlockSequence cases block lines all`: `lines` are valid after the blocks of `cases`, in `block` or
 -- outside a block. They complete a list of the cases `all`.
-pub data Spelled : List CaseDef → Option CaseDef → List (List ℕ) → List CaseDef → Type 0 where
-  no_block : (cases : List CaseDef) → Spelled cases None [] cases
-  last_block : (cases : List CaseDef) (block : CaseDef) → Spelled cases (Some block) [] (cases ++ block ∷ [])
+pub data IsBlockSequence : List CaseDef → Option CaseDef → List (List ℕ) → List CaseDef → Type 0 where
+  no_block : (cases : List CaseDef) → IsBlockSequence cases None [] cases
+  last_block : (cases : List CaseDef) (block : CaseDef) → IsBlockSequence cases (Some block) [] (cases ++ block ∷ [])
   line : (cases : List CaseDef) (block : Option CaseDef) (first : List ℕ) (rest : List (List ℕ)) (next : Read) (all : List CaseDef)
-      → Goes cases first block next → Spelled next.cases next.block rest all → Spelled cases block (first ∷ rest) all
+      → IsNextState cases first block next → IsBlockSequence next.cases next.block rest all → IsBlockSequence cases block (first ∷ rest) all
 
 -- ---- faulty lines
 
--- `gives_again pairs name`: one of `pairs` already has the name `name`. False without a `name`.
-abbrev pub gives_again : List Variable → Option (List ℕ) → Bool
-gives_again pairs None = false
-gives_again pairs (Some property) = is_given pairs property
+-- `is_repeated pairs name`: one of `pairs` already has the name `name`. False without a `name`.
+abbrev pub is_repeated : List Variable → Option (List ℕ) → Bool
+is_repeated pairs None = false
+is_repeated pairs (Some property) = has_property pairs property
 
--- `is_bad name value`: the property `name` may not have the value `value`. False without a `name`.
-abbrev pub is_bad : Option (List ℕ) → List ℕ → Bool
-is_bad None value = false
-is_bad (Some property) value = not (is_good property value)
+-- `is_invalid_property name value`: the property `name` may not have the value `value`. False without a `name`.
+abbrev pub is_invalid_property : Option (List ℕ) → List ℕ → Bool
+is_invalid_property None value = false
+is_invalid_property (Some property) value = not (is_valid_property property value)
 
--- `fits_first cases ident cause`: a first line of a block after the blocks of `cases`, with the
+-- `is_first_line_cause cases ident cause`: a first line of a block after the blocks of `cases`, with the
 -- name `ident`, has a fault with this `cause`. The line begins without `ident: ` if `ident` is
 -- nothing.
-abbrev pub fits_first : List CaseDef → Option (List ℕ) → ListCause → Bool
-fits_first cases None NoIdent = true
-fits_first cases (Some name) BadValue = not (is_name name)
-fits_first cases (Some name) RepeatedIdent = is_listed cases (lossy name)
-fits_first cases ident _ = false
+abbrev pub is_first_line_cause : List CaseDef → Option (List ℕ) → ListCause → Bool
+is_first_line_cause cases None NoIdent = true
+is_first_line_cause cases (Some name) BadValue = not (is_name name)
+is_first_line_cause cases (Some name) RepeatedIdent = is_listed cases (lossy name)
+is_first_line_cause cases ident _ = false
 
--- `fits_further block key value cause`: a line of `block` after its first, with the key `key` and
+-- `is_later_line_cause block key value cause`: a line of `block` after its first, with the key `key` and
 -- the value `value`, or without a value, has a fault with this `cause`.
-abbrev pub fits_further : CaseDef → List ℕ → Option (List ℕ) → ListCause → Bool
-fits_further block key None BadLine = true
-fits_further block key (Some value) BadLine = is_empty key
-fits_further block key (Some value) RepeatedKey = bytes_eq (lossy key) (codes "ident") || gives_again block.props (name_of_key (lossy key))
-fits_further block key (Some value) UnknownKey = not (is_some (name_of_key (lossy key)))
-fits_further block key (Some value) BadValue = is_bad (name_of_key (lossy key)) (lossy value)
-fits_further block key value _ = false
+abbrev pub is_later_line_cause : CaseDef → List ℕ → Option (List ℕ) → ListCause → Bool
+is_later_line_cause block key None BadLine = true
+is_later_line_cause block key (Some value) BadLine = is_empty key
+is_later_line_cause block key (Some value) RepeatedKey = bytes_eq (lossy key) (codes "ident") || is_repeated block.props (name_of_key (lossy key))
+is_later_line_cause block key (Some value) UnknownKey = not (is_some (name_of_key (lossy key)))
+is_later_line_cause block key (Some value) BadValue = is_invalid_property (name_of_key (lossy key)) (lossy value)
+is_later_line_cause block key value _ = false
 
--- `first_rows`: the possible causes of a fault in the first line of a block. The first that fits is
+-- `first_line_causes`: the possible causes of a fault in the first line of a block. The first that fits is
 -- reported.
-abbrev pub first_rows : List ListCause
-first_rows = NoIdent ∷ BadValue ∷ RepeatedIdent ∷ []
+abbrev pub first_line_causes : List ListCause
+first_line_causes = NoIdent ∷ BadValue ∷ RepeatedIdent ∷ []
 
--- `further_rows`: the possible causes of a fault in a line after the first of its block. The first
+-- `later_line_causes`: the possible causes of a fault in a line after the first of its block. The first
 -- that fits is reported.
-abbrev pub further_rows : List ListCause
-further_rows = BadLine ∷ RepeatedKey ∷ UnknownKey ∷ BadValue ∷ []
+abbrev pub later_line_causes : List ListCause
+later_line_causes = BadLine ∷ RepeatedKey ∷ UnknownKey ∷ BadValue ∷ []
 
--- `Fails cases line block cause`: `line` is faulty after the blocks of `cases`, in `block` or
+-- `IsFaultyLine cases line block cause`: `line` is faulty after the blocks of `cases`, in `block` or
 -- outside a block, and `cause` is the cause that is reported. An empty line in a block is valid.
-pub data Fails (cases : List CaseDef) (line : List ℕ) : Option CaseDef → ListCause → Type 0 where
-  first : (cause : ListCause) → find (fits_first cases (ident_in line)) first_rows ≡ Some cause → Fails cases line None cause
-  further : (block : CaseDef) (cause : ListCause) → is_empty line ≡ false → find (fits_further block (key_in line) (value_in line)) further_rows ≡ Some cause
-      → Fails cases line (Some block) cause
+pub data IsFaultyLine (cases : List CaseDef) (line : List ℕ) : Option CaseDef → ListCause → Type 0 where
+  first : (cause : ListCause) → find (is_first_line_cause cases (ident_in line)) first_line_causes ≡ Some cause → IsFaultyLine cases line None cause
+  further : (block : CaseDef) (cause : ListCause) → is_empty line ≡ false → find (is_later_line_cause block (key_in line) (value_in line)) later_line_causes ≡ Some cause
+      → IsFaultyLine cases line (Some block) cause
 
--- `Faulty n cases block lines fault`: one of `lines`, whose numbers begin with `n`, is faulty after
+-- `HasFirstFault n cases block lines fault`: one of `lines`, whose numbers begin with `n`, is faulty after
 -- the blocks of `cases`, in `block` or outside a block. `fault` is the fault of the first such
 -- line.
-pub data Faulty : ℕ → List CaseDef → Option CaseDef → List (List ℕ) → ListFault → Type 0 where
+pub data HasFirstFault : ℕ → List CaseDef → Option CaseDef → List (List ℕ) → ListFault → Type 0 where
   here : (n : ℕ) (cases : List CaseDef) (block : Option CaseDef) (first : List ℕ) (rest : List (List ℕ)) (cause : ListCause)
-      → Fails cases first block cause → Faulty n cases block (first ∷ rest) (fault_at cause n)
+      → IsFaultyLine cases first block cause → HasFirstFault n cases block (first ∷ rest) (fault_at cause n)
   later : (n : ℕ) (cases : List CaseDef) (block : Option CaseDef) (first : List ℕ) (rest : List (List ℕ)) (next : Read) (fault : ListFault)
-      → Goes cases first block next → Faulty (n + 1) next.cases next.block rest fault → Faulty n cases block (first ∷ rest) fault
+      → IsNextState cases first block next → HasFirstFault (n + 1) next.cases next.block rest fault → HasFirstFault n cases block (first ∷ rest) fault
 
 -- ---- whole texts
 
@@ -113,7 +113,7 @@ pub data Faulty : ℕ → List CaseDef → Option CaseDef → List (List ℕ) �
 -- at least one.
 pub data IsList : List (List ℕ) → List CaseDef → Type 0 where
   list : (first second third : List ℕ) (rest : List (List ℕ)) (cases : List CaseDef) → bytes_eq first header ≡ true → is_empty second ≡ true
-      → Spelled [] None (third ∷ rest) cases → IsList (first ∷ second ∷ third ∷ rest) cases
+      → IsBlockSequence [] None (third ∷ rest) cases → IsList (first ∷ second ∷ third ∷ rest) cases
 
 -- `IsFault lines fault`: `lines` are not a list, and `fault` is the fault of their first faulty
 -- line.
@@ -125,7 +125,7 @@ pub data IsFault : List (List ℕ) → ListFault → Type 0 where
       → IsFault (first ∷ second ∷ rest) (fault_at BadHeader 2)
   no_third : (first second : List ℕ) → bytes_eq first header ≡ true → is_empty second ≡ true → IsFault (first ∷ second ∷ []) (fault_at EmptyList 3)
   in_blocks : (first second third : List ℕ) (rest : List (List ℕ)) (fault : ListFault) → bytes_eq first header ≡ true → is_empty second ≡ true
-      → Faulty 3 [] None (third ∷ rest) fault → IsFault (first ∷ second ∷ third ∷ rest) fault
+      → HasFirstFault 3 [] None (third ∷ rest) fault → IsFault (first ∷ second ∷ third ∷ rest) fault
 
 -- `Spells text cases`: `text` is UTF-8 and a list of the cases `cases`.
 abbrev pub Spells : List ℕ → List CaseDef → Type 0

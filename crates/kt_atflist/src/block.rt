@@ -1,6 +1,6 @@
 ghost use Rattle.std.specs.Prelude.{◌≡◌, Bool, false, None, Some, IfOk, OnOk, OnErr};
 ghost use Rattle.kt_metadata.specs.Properties.{definition_fault, IfFault};
-ghost use Rattle.kt_atflist.specs.Blocks.{is_given, named, with_property};
+ghost use Rattle.kt_atflist.specs.Blocks.{has_property, named, with_property};
 
 use crate::CaseDef;
 use kt_base::Text;
@@ -45,7 +45,7 @@ impl Block {
 
     /// Returns `true` if a line of the block has set the property `name`.
     pub fn has(&self, name: &Text) -> bool
-        ensures { result ≡ is_given self.now.props name.now }
+        ensures { result ≡ has_property self.now.props name.now }
     {
         self.props.get(name).is_some()
     }
@@ -60,7 +60,7 @@ impl Block {
     /// - `BadValue`: the property may not have this value.
     /// - `NoMemory`: an allocation fails.
     pub fn set(&mut self, name: &Text, value: &Text) -> Result<(), PropFault>
-        requires { is_given self.old.props name.now ≡ false }
+        requires { has_property self.old.props name.now ≡ false }
         ensures ok { OnOk result (self.new ≡ with_property self.old name.now value.now) }
         ensures err { OnErr result (self.new ≡ self.old) }
         ensures accepted { OnOk result (definition_fault name.now value.now ≡ None) }

@@ -1,7 +1,7 @@
 //! The cases of a listing.
 
 ghost use Rattle.std.specs.Prelude.{◌≡◌, IfOk};
-ghost use Rattle.kt_atflist.specs.Common.{ended_reason, IsRead, Lists};
+ghost use Rattle.kt_atflist.specs.Common.{list_failure_reason, IsParsedList, IsListingResult};
 
 use crate::{CaseDef, ListBytes, Listing, parse_list};
 use kt_base::{Bytes, Items, NoMemory, Outcome, Phrase, Reason};
@@ -10,8 +10,8 @@ use std::alloc::Global;
 /// Returns the reason why a program with this `outcome` did not list its cases.
 ///
 /// Returns `None` if the program exited with 0.
-fn ended_reason(outcome: Outcome) -> Option<Reason>
-    ensures { result ≡ ended_reason outcome }
+fn list_failure_reason(outcome: Outcome) -> Option<Reason>
+    ensures { result ≡ list_failure_reason outcome }
 {
     match outcome {
         Outcome::TimedOut => Some(Reason::Fixed(Phrase::ListTimedOut)),
@@ -27,7 +27,7 @@ fn ended_reason(outcome: Outcome) -> Option<Reason>
 
 /// Parses `text` as a list and returns its cases, or the reason why `text` isn't a list.
 fn read_bytes(alloc: Global, text: &Bytes) -> Result<Result<Items<CaseDef>, Reason>, NoMemory>
-    ensures { IfOk result (λ found. IsRead text.now found) }
+    ensures { IfOk result (λ found. IsParsedList text.now found) }
 {
     match parse_list(alloc, text.as_slice()) {
         Ok(cases) => Ok(Ok(cases)),
@@ -47,11 +47,11 @@ pub fn listed_cases(
     alloc: Global,
     listing: &Listing,
 ) -> Result<Result<Items<CaseDef>, Reason>, NoMemory>
-    ensures { IfOk result (λ found. Lists listing.now found) }
+    ensures { IfOk result (λ found. IsListingResult listing.now found) }
 {
     match listing {
         Listing::Refused(refused) => Ok(Err(refused.reason())),
-        Listing::Ended(outcome, bytes) => match ended_reason(*outcome) {
+        Listing::Ended(outcome, bytes) => match list_failure_reason(*outcome) {
             Some(reason) => Ok(Err(reason)),
             None => match bytes {
                 ListBytes::Unreadable => Ok(Err(Reason::Fixed(Phrase::ListUnreadable))),

@@ -1,7 +1,7 @@
 //! The test cases of a program.
 
 ghost use Rattle.std.specs.Prelude.{◌≡◌, ◌∷◌, ◌++◌, [], List, map, chars, Some, None, IfOk, OnOk, IsSome, ℕ, Option, Result};
-ghost use Rattle.kt_atflist.specs.Common.{Atf, Variable, over_program, main_case, list_case, AreCases, Interface, IsAnswer, CaseDef, ListFault, Listing};
+ghost use Rattle.kt_atflist.specs.Common.{Atf, Variable, overlaid_case, main_case, list_case, AreCases, Interface, IsAnswer, CaseDef, ListFault, Listing};
 
 use crate::listed_cases::listed_cases;
 use crate::{CaseDef, Listing};
@@ -10,14 +10,14 @@ use kt_metadata::Props;
 use std::alloc::Global;
 
 /// The name of the only case of a TAP or plain program.
-const MAIN: &str = "main";
+const MAIN_CASE_NAME: &str = "main";
 
 /// The name of the case of a program whose list can't be used.
-const LIST: &str = "__test_cases_list__";
+const LIST_CASE_NAME: &str = "__test_cases_list__";
 
 /// Appends `case` to `cases`, with its properties overlaid over `props`, those of its program.
 fn add(cases: &mut Items<CaseDef>, props: &Props, case: CaseDef) -> Result<(), NoMemory>
-    ensures { OnOk result (cases.new ≡ cases.old ++ over_program props.now case ∷ []) }
+    ensures { OnOk result (cases.new ≡ cases.old ++ overlaid_case props.now case ∷ []) }
 {
     let CaseDef {
         name,
@@ -29,12 +29,12 @@ fn add(cases: &mut Items<CaseDef>, props: &Props, case: CaseDef) -> Result<(), N
 }
 
 /// Overlays the properties of each case in `found` over `props`, those of the program.
-fn each_with_program(
+fn overlay_each(
     alloc: Global,
     props: &Props,
     found: Items<CaseDef>,
 ) -> Result<Items<CaseDef>, NoMemory>
-    ensures { IfOk result (λ cases. cases ≡ map (over_program props.now) found) }
+    ensures { IfOk result (λ cases. cases ≡ map (overlaid_case props.now) found) }
 {
     let mut cases = Items::new(alloc);
     for case in found.into_vec() {
@@ -46,15 +46,15 @@ fn each_with_program(
 /// Overlays the properties of each case in `found` over a copy of `props`, those of the program.
 ///
 /// The cases share the memory of this copy.
-fn all_with_program(
+fn overlay_all(
     alloc: Global,
     props: &Props,
     found: Items<CaseDef>,
 ) -> Result<Items<CaseDef>, NoMemory>
-    ensures { IfOk result (λ cases. cases ≡ map (over_program props.now) found) }
+    ensures { IfOk result (λ cases. cases ≡ map (overlaid_case props.now) found) }
 {
     let shared = props.shared()?;
-    each_with_program(alloc, &shared, found)
+    overlay_each(alloc, &shared, found)
 }
 
 /// Creates the only case of a program, with this name, the program's properties and this fault.
@@ -64,7 +64,7 @@ fn one_case(
     props: &Props,
     fault: Option<Reason>,
 ) -> Result<Items<CaseDef>, NoMemory>
-    ensures { IfOk result (λ cases. cases ≡ over_program props.now
+    ensures { IfOk result (λ cases. cases ≡ overlaid_case props.now
         (record { name = chars name.now; props = []; fault = fault }) ∷ []) }
 {
     let case = CaseDef {
@@ -85,8 +85,8 @@ fn listed(alloc: Global, props: &Props, listing: &Listing) -> Result<Items<CaseD
 {
     let found = listed_cases(alloc, listing)?;
     match found {
-        Ok(found) => all_with_program(alloc, props, found),
-        Err(reason) => one_case(alloc, LIST, props, Some(reason)),
+        Ok(found) => overlay_all(alloc, props, found),
+        Err(reason) => one_case(alloc, LIST_CASE_NAME, props, Some(reason)),
     }
 }
 
@@ -110,7 +110,7 @@ pub fn cases(
     ensures { IfOk result (λ cases. AreCases props.now interface listing.now cases) }
 {
     match interface {
-        Interface::Tap | Interface::Plain => one_case(alloc, MAIN, props, None),
+        Interface::Tap | Interface::Plain => one_case(alloc, MAIN_CASE_NAME, props, None),
         Interface::Atf => match listing {
             None => unreachable!(),
             Some(listing) => listed(alloc, props, listing),

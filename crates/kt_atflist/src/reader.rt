@@ -1,7 +1,7 @@
 //! The parser of a list of test cases.
 
 ghost use Rattle.std.specs.Prelude.{◌⊎◌, List, Result, ◌≡◌, ◌<◌, ◌∷◌, [], length, MatchOption, IfSome};
-ghost use Rattle.kt_atflist.specs.Common.{IsAnswer, IsOutOfMemory, IsUnlessMemory, ListFault, CaseDef, lines, read_from, nothing_read, read_blocks, read_second, read_lines};
+ghost use Rattle.kt_atflist.specs.Common.{IsAnswer, IsOutOfMemory, IsUnlessMemory, ListFault, CaseDef, lines, read_from, initial_state, read_blocks, read_from_line_2, read_lines};
 
 use crate::reading::{ListReader, ListStep};
 use crate::steps::{finish, step};
@@ -26,11 +26,11 @@ fn first_line(text: &[u8]) -> Option<(&[u8], &[u8])>
 }
 
 /// The first line of each list of test cases, without its newline (atf-test-program(1)).
-const HEADER: &[u8] = b"Content-Type: application/X-atf-tp; version=\"1\"";
+const LIST_HEADER: &[u8] = b"Content-Type: application/X-atf-tp; version=\"1\"";
 
 /// Parses `text`, the lines of a list from line 3 on, as blocks.
 fn read_from(alloc: Global, text: &[u8]) -> Result<Items<CaseDef>, ListFault>
-    ensures { IsUnlessMemory result (read_from 3 nothing_read (lines text.now)) }
+    ensures { IsUnlessMemory result (read_from 3 initial_state (lines text.now)) }
 {
     let mut line = 3u64;
     let mut rest = text;
@@ -62,8 +62,8 @@ fn read_blocks(alloc: Global, text: &[u8]) -> Result<Items<CaseDef>, ListFault>
 
 /// Parses `text`, the lines of a list from line 2 on. Fails with `BadHeader` unless line 2 is
 /// empty.
-fn read_second(alloc: Global, text: &[u8]) -> Result<Items<CaseDef>, ListFault>
-    ensures { IsUnlessMemory result (read_second (lines text.now)) }
+fn read_from_line_2(alloc: Global, text: &[u8]) -> Result<Items<CaseDef>, ListFault>
+    ensures { IsUnlessMemory result (read_from_line_2 (lines text.now)) }
 {
     let wrong = ListFault {
         cause: ListCause::BadHeader,
@@ -78,7 +78,7 @@ fn read_second(alloc: Global, text: &[u8]) -> Result<Items<CaseDef>, ListFault>
     read_blocks(alloc, rest)
 }
 
-/// Parses `text`, all lines of a list. Fails with `BadHeader` unless line 1 is `HEADER`.
+/// Parses `text`, all lines of a list. Fails with `BadHeader` unless line 1 is `LIST_HEADER`.
 fn read_lines(alloc: Global, text: &[u8]) -> Result<Items<CaseDef>, ListFault>
     ensures { IsUnlessMemory result (read_lines (lines text.now)) }
 {
@@ -89,10 +89,10 @@ fn read_lines(alloc: Global, text: &[u8]) -> Result<Items<CaseDef>, ListFault>
     let Some((line, rest)) = first_line(text) else {
         return Err(wrong);
     };
-    if line != HEADER {
+    if line != LIST_HEADER {
         return Err(wrong);
     }
-    read_second(alloc, rest)
+    read_from_line_2(alloc, rest)
 }
 
 /// Parses `text` as the list of an ATF program's test cases, in order (atf-test-program(1)).

@@ -1,5 +1,5 @@
 ghost use Rattle.std.specs.Prelude.{◌≡◌};
-ghost use Rattle.kt_atflist.specs.Inner.Reading.{nothing_read};
+ghost use Rattle.kt_atflist.specs.Inner.Reading.{initial_state};
 
 use crate::block::Block;
 use crate::names::Names;
@@ -39,7 +39,7 @@ impl ListReader {
     ///
     /// Allocates nothing.
     pub fn new(alloc: Global) -> ListReader
-        ensures { result ≡ nothing_read }
+        ensures { result ≡ initial_state }
     {
         ListReader {
             cases: Items::new(alloc),

@@ -1,9 +1,9 @@
 //! The state of the reader after each line of a list.
 
 ghost use Rattle.std.specs.Prelude.{◌≡◌, true, false, List, ℕ, None, Some, IfOk};
-ghost use Rattle.kt_atflist.specs.Blocks.{is_given, is_good, with_property};
+ghost use Rattle.kt_atflist.specs.Blocks.{has_property, is_valid_property, with_property};
 ghost use Rattle.kt_base.specs.Lossy.{lossy};
-ghost use Rattle.kt_atflist.specs.Common.{names_of, name_from, begin_named, begin_with, set_property, set_key, set_line, changed, go_on_with, go_on, step_of, closed, finished, ident_in, key_in, value_in};
+ghost use Rattle.kt_atflist.specs.Common.{names_of, case_name_in, begin_block, begin_block_if_named, set_property, set_key, set_line, changed, step_with_change, go_on, step_of, closed, finished, ident_in, key_in, value_in};
 
 use crate::block::Block;
 use crate::list_line::{ident_in, is_name, key_in, value_in};
@@ -11,20 +11,20 @@ use crate::names::Names;
 use crate::reading::{ListReader, ListStep};
 use crate::{CaseDef, ListCause};
 use kt_base::{Items, NoMemory, Text, lossy};
-use kt_metadata::{PropFault, property_of_key};
+use kt_metadata::{PropFault, property_name_of_key};
 use std::alloc::Global;
 
 /// Begins a block for the case `name`, after the blocks of `cases`.
 ///
 /// Returns the fault `RepeatedIdent` if an earlier block has this name.
-fn begin_named(
+fn begin_block(
     alloc: Global,
     cases: Items<CaseDef>,
     mut names: Names,
     name: Text,
 ) -> Result<ListStep, NoMemory>
     requires { names ≡ names_of cases None }
-    ensures { IfOk result (λ step. step ≡ begin_named cases name) }
+    ensures { IfOk result (λ step. step ≡ begin_block cases name) }
 {
     if names.has(&name) {
         return Ok(ListStep::Wrong(ListCause::RepeatedIdent));
@@ -41,7 +41,7 @@ fn begin_named(
 ///
 /// Returns `NoIdent` if the line does not begin with `ident: `, or `BadValue` for a bad name.
 fn name_in(alloc: Global, line: &[u8]) -> Result<Result<Text, ListCause>, NoMemory>
-    ensures { IfOk result (λ found. found ≡ name_from (ident_in line.now)) }
+    ensures { IfOk result (λ found. found ≡ case_name_in (ident_in line.now)) }
 {
     match ident_in(line) {
         None => Ok(Err(ListCause::NoIdent)),
@@ -64,20 +64,20 @@ fn begin(
     line: &[u8],
 ) -> Result<ListStep, NoMemory>
     requires { names ≡ names_of cases None }
-    ensures { IfOk result (λ step. step ≡ begin_with cases (name_from (ident_in line.now))) }
+    ensures { IfOk result (λ step. step ≡ begin_block_if_named cases (case_name_in (ident_in line.now))) }
 {
     match name_in(alloc, line)? {
         Err(cause) => Ok(ListStep::Wrong(cause)),
-        Ok(name) => begin_named(alloc, cases, names, name),
+        Ok(name) => begin_block(alloc, cases, names, name),
     }
 }
 
 /// Sets the property `name` of `block` to `value`. Returns `true` if the property accepts `value`.
 ///
 /// Otherwise, `block` is unchanged. The caller checks that the property is not set yet.
-fn is_set(block: &mut Block, name: &Text, value: &Text) -> Result<bool, NoMemory>
-    requires { is_given block.old.props name.now ≡ false }
-    ensures good { IfOk result (λ good. good ≡ is_good name.now value.now) }
+fn try_set(block: &mut Block, name: &Text, value: &Text) -> Result<bool, NoMemory>
+    requires { has_property block.old.props name.now ≡ false }
+    ensures good { IfOk result (λ good. good ≡ is_valid_property name.now value.now) }
     ensures set { IfOk result (λ good.
         good ≡ true → block.new ≡ with_property block.old name.now value.now) }
     ensures name { block.new.name ≡ block.old.name }
@@ -107,7 +107,7 @@ fn set_property(
             if block.has(name) {
                 return Ok(Some(ListCause::RepeatedKey));
             }
-            if !is_set(block, name, value)? {
+            if !try_set(block, name, value)? {
                 return Ok(Some(ListCause::BadValue));
             }
             Ok(None)
@@ -129,14 +129,14 @@ fn set_key(
     if key.is_word("ident") {
         return Ok(Some(ListCause::RepeatedKey));
     }
-    let name = property_of_key(alloc, key)?;
+    let name = property_name_of_key(alloc, key)?;
     set_property(block, &name, value)
 }
 
 /// Decodes `key` and `value` as UTF-8 and sets the property with this key to this value.
 ///
 /// Returns `None`, or the cause of the fault.
-fn set_bytes(
+fn set_decoded_key(
     alloc: Global,
     block: &mut Block,
     key: &[u8],
@@ -166,7 +166,7 @@ fn set_line(alloc: Global, block: &mut Block, line: &[u8]) -> Result<Option<List
             if key.is_empty() {
                 return Ok(Some(ListCause::BadLine));
             }
-            set_bytes(alloc, block, key, value)
+            set_decoded_key(alloc, block, key, value)
         }
     }
 }
@@ -174,7 +174,7 @@ fn set_line(alloc: Global, block: &mut Block, line: &[u8]) -> Result<Option<List
 /// Processes `line`, which sets a property of `block`, after the blocks of `cases`.
 ///
 /// Returns the state after the line, or the cause of the fault in the line.
-fn go_on_with(
+fn step_with_change(
     alloc: Global,
     cases: Items<CaseDef>,
     names: Names,
@@ -182,7 +182,7 @@ fn go_on_with(
     line: &[u8],
 ) -> Result<ListStep, NoMemory>
     requires { names ≡ names_of cases (Some block) }
-    ensures { IfOk result (λ step. step ≡ go_on_with cases
+    ensures { IfOk result (λ step. step ≡ step_with_change cases
         (set_line block (key_in line.now) (value_in line.now))) }
 {
     match set_line(alloc, &mut block, line)? {
@@ -217,7 +217,7 @@ fn go_on(
     ensures { IfOk result (λ step. step ≡ go_on cases block line.now) }
 {
     if !line.is_empty() {
-        return go_on_with(alloc, cases, names, block, line);
+        return step_with_change(alloc, cases, names, block, line);
     }
     let cases = with_block(cases, block)?;
     Ok(ListStep::To(ListReader {

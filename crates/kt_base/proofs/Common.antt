@@ -17,9 +17,9 @@ pub use Rattle.kt_base.specs.Digits.{decimal_from, up_to}
 pub use Rattle.kt_base.specs.Inner.Parts.{number_text}
 pub use Rattle.kt_base.specs.LastValues.{IsReplaced, is_named, last_values, value_of, without}
 pub use Rattle.kt_base.specs.Lossy.{character, front, further, lossy}
-unfoldable pub use Rattle.kt_base.specs.Lossy.{first, lossy_after}
+unfoldable pub use Rattle.kt_base.specs.Lossy.{first, lossy_from}
 pub use Rattle.kt_base.specs.Phrases.{phrase_text}
-pub use Rattle.kt_base.specs.Shows.{Holds, Shows, joined, joined_behind}
+pub use Rattle.kt_base.specs.Shows.{AppendsText, Shows, joined, joined_after}
 pub use Rattle.kt_base.specs.Texts.{after, before, is_empty}
 pub use Rattle.kt_base.specs.Utf8.{utf8}
 pub use Rattle.kt_base.specs.declared.phrase.Phrase.{Phrase}

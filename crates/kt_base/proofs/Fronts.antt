@@ -1,6 +1,6 @@
 -- Lossy decoding: the characters at the beginning of bytes, and a byte where no character begins.
 use Rattle.std.proofs.Common.{◌≡◌, ℕ, zero, suc, ◌+◌, ◌-◌, ◌<◌, ◌≤◌, Bool, true, false, List, [], ◌∷◌, ◌++◌, length, take, drop, get_or, Some, None, Option, refl, ap, ◌∙◌, sym, subst, append_assoc, length-append, take-append-drop, drop-cons, add-one, arith, nat_le, ◌==◌, encode_utf8, encode_utf8_all}
-use Rattle.kt_base.proofs.Common.{IsScalar, IsUtf8, IsValidUpTo, is_utf8, chars, append-nil, length-take-le, le-leb, leb-true, eqb-true, false_from_ne_true, and_parts, IsUtf8-from_is_utf8, is_utf8-from_IsUtf8, IsUtf8-encode, IsUtf8-append, chars-encodes, chars_from_encodes, encode_same, len_utf8_bounds, length-encode, front, first, character, further, lossy_after, lossy}
+use Rattle.kt_base.proofs.Common.{IsScalar, IsUtf8, IsValidUpTo, is_utf8, chars, append-nil, length-take-le, le-leb, leb-true, eqb-true, false_from_ne_true, and_parts, IsUtf8-from_is_utf8, is_utf8-from_IsUtf8, IsUtf8-encode, IsUtf8-append, chars-encodes, chars_from_encodes, encode_same, len_utf8_bounds, length-encode, front, first, character, further, lossy_from, lossy}
 use Rattle.std.proofs.Math.Utf8.{scalars}
 use Rattle.std.proofs.Math.Seq.{drop-append_seam, take-append_seam, take-add}
 
@@ -53,8 +53,8 @@ first_character c rest s =
     least (length (encode_utf8 c)) _ _ (front_some (encode_utf8 c) rest (IsUtf8-encode c s)) (λ n some less. front_none n _ (λ there. no_less c n rest some less))
     (omega (arith, bounds.0, width)) (omega (arith, bounds.1, width))
 
-skips : (n : ℕ) (bytes : List ℕ) → lossy_after n bytes ≡ lossy (drop n bytes)
-unfolding lossy_after
+skips : (n : ℕ) (bytes : List ℕ) → lossy_from n bytes ≡ lossy (drop n bytes)
+unfolding lossy_from
 skips zero bytes = refl
 skips (suc n) [] = refl
 skips (suc n) (b ∷ bytes) = skips n bytes
@@ -64,11 +64,11 @@ one_less n = omega arith
 
 -- bytes that begin with a character decode to that character and the text of the rest
 past_first : (s rest : List ℕ) → 0 < length s → first (s ++ rest) ≡ Some s → lossy (s ++ rest) ≡ chars s ++ lossy rest
-unfolding lossy_after
+unfolding lossy_from
 past_first [] rest some is = absurd (omega (arith, some))
 past_first (b ∷ s) rest some is =
-    ap (λ (o : Option (List ℕ)). character o ++ lossy_after (further o) (s ++ rest)) is
-    ∙ ap (λ (n : ℕ). chars (b ∷ s) ++ lossy_after n (s ++ rest)) (one_less (length s))
+    ap (λ (o : Option (List ℕ)). character o ++ lossy_from (further o) (s ++ rest)) is
+    ∙ ap (λ (n : ℕ). chars (b ∷ s) ++ lossy_from n (s ++ rest)) (one_less (length s))
     ∙ ap (λ (xs : List ℕ). chars (b ∷ s) ++ xs) (skips (length s) (s ++ rest) ∙ ap lossy (drop-append_seam s rest))
 
 -- bytes that begin with a UTF-8 text decode to that text and the text of the rest
@@ -85,7 +85,7 @@ past_text (c ∷ cs) rest s =
 
 -- a byte where no character begins decodes to U+FFFD
 past_byte : (b : ℕ) (bytes : List ℕ) → ((n : ℕ) → 0 < n → n ≤ length (b ∷ bytes) → IsUtf8 (take n (b ∷ bytes)) → ⊥) → lossy (b ∷ bytes) ≡ 65533 ∷ lossy bytes
-unfolding lossy_after first
+unfolding lossy_from first
 past_byte b bytes bad =
     rw (front_none 1 (b ∷ bytes) (bad 1 (omega arith)), front_none 2 (b ∷ bytes) (bad 2 (omega arith)), front_none 3 (b ∷ bytes) (bad 3 (omega arith)), front_none 4 (b ∷ bytes) (bad 4 (omega arith))) refl
 
@@ -103,7 +103,7 @@ past_fault bytes n valid =
 
 -- decoding the next bytes, valid bytes or up to an invalid byte, preserves the final text
 pub all_text : (old new bytes : List ℕ) → IsUtf8 bytes → new ≡ old ++ chars bytes → new ++ lossy [] ≡ old ++ lossy bytes
-unfolding lossy_after
+unfolding lossy_from
 all_text old new bytes u pushed =
     let text = past_text u.0 [] u.1.0 ∙ append-nil u.0 ∙ chars_from_encodes u.0 bytes u u.1.1 in
     let whole : lossy bytes ≡ chars bytes = ap lossy (sym u.1.1 ∙ sym (append-nil (encode_utf8_all u.0))) ∙ text in
@@ -115,6 +115,6 @@ one_fault old middle new bytes n valid first last =
 
 -- the decoded text is complete if no bytes remain
 pub ends : (text rest all : List ℕ) → text ++ lossy rest ≡ all → true ≡ (length rest == 0) → text ≡ all
-unfolding lossy_after
+unfolding lossy_from
 ends text [] all so_far none = sym (append-nil text) ∙ so_far
 ends text (b ∷ rest) all so_far none = absurd (omega (arith, eqb-true (length (b ∷ rest)) 0 (sym none)))

@@ -3,7 +3,7 @@ use Rattle.std.proofs.Common.{◌≡◌, ◌≢◌, ℕ, Bool, true, List, [], �
 use Rattle.kt_base.proofs.Common.{decimal, chars, chars-nil, encodes-append, Phrase, OtherExitCode, OtherSignal, TestsFailed, MemoryNeeded, DiskNeeded, phrase_text, utf8}
 use Rattle.kt_base.specs.declared.child.Outcome.{Outcome}
 use Rattle.kt_base.specs.declared.child.Outcome.TheVariants.{Exited, Signaled}
-use Rattle.kt_base.specs.Reasons.{core_text, ending_text, counted_text}
+use Rattle.kt_base.specs.Reasons.{core_dump_text, outcome_text, counted_text}
 use Rattle.kt_base.proofs.PhraseWords.{chars-phrase}
 
 pub words_text : (head : List ℕ) → chars head ++ (chars [] ++ ([] ++ (chars [] ++ ([] ++ chars [])))) ≡ chars head
@@ -21,21 +21,21 @@ phrase_alone text head phrase e h = rw (e, h) (chars-phrase phrase)
 
 -- the concatenated parts of a phrase with an exit status or a signal are its text
 pub exited_text : (text head : List ℕ) (phrase : Phrase) (ending : Outcome) (code : ℕ) → text ≡ chars head ++ (chars (codes "exited with code ") ++ (decimal code ++ chars []))
-    → head ≡ phrase_text phrase → ending ≡ Exited code → text ≡ phrase_text phrase ++ ending_text ending
+    → head ≡ phrase_text phrase → ending ≡ Exited code → text ≡ phrase_text phrase ++ outcome_text ending
 unfolding chars
 exited_text text head phrase ending code e h is = rw (e, h, is, chars-phrase phrase, append-nil (decimal code)) refl
 
 pub signaled_text : (text head words : List ℕ) (phrase : Phrase) (ending : Outcome) (signal : ℕ) (core : Bool) → text ≡ chars head ++ (chars (codes "received signal ") ++ (decimal signal ++ chars words))
-    → head ≡ phrase_text phrase → chars words ≡ core_text core → ending ≡ Signaled signal core → text ≡ phrase_text phrase ++ ending_text ending
+    → head ≡ phrase_text phrase → chars words ≡ core_dump_text core → ending ≡ Signaled signal core → text ≡ phrase_text phrase ++ outcome_text ending
 unfolding chars
 signaled_text text head words phrase ending signal core e h w is = rw (e, h, is, w, chars-phrase phrase) refl
 
-pub dumped_words : chars (codes " (core dumped)") ≡ core_text true
+pub dumped_words : chars (codes " (core dumped)") ≡ core_dump_text true
 unfolding chars
 dumped_words = refl
 
 pub unended_text : (text head : List ℕ) (phrase : Phrase) (ending : Outcome) → text ≡ chars head → head ≡ phrase_text phrase
-    → ((code : ℕ) → ending ≢ Exited code) → ((signal : ℕ) (core : Bool) → ending ≢ Signaled signal core) → text ≡ phrase_text phrase ++ ending_text ending
+    → ((code : ℕ) → ending ≢ Exited code) → ((signal : ℕ) (core : Bool) → ending ≢ Signaled signal core) → text ≡ phrase_text phrase ++ outcome_text ending
 unended_text text head phrase (Exited code) e h n m = absurd (n code refl)
 unended_text text head phrase (Signaled signal core) e h n m = absurd (m signal core refl)
 unended_text text head phrase ending e h n m = phrase_alone text head phrase e h ∙ sym (append-nil (phrase_text phrase))

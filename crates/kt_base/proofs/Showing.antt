@@ -1,6 +1,6 @@
 -- The contents of a writer over several writes.
 use Rattle.std.proofs.Common.{Option, Some, None, Result, Ok, Err, is_err, arith, ◌≡◌, ◌<◌, ℕ, Bool, true, false, List, [], ◌∷◌, ◌++◌, length, take, drop, refl, ap, ◌∙◌, sym, subst, append_assoc, take-append-drop}
-use Rattle.kt_base.proofs.Common.{append-nil, length-drop, encodes-append, Appends, Keeps, Holds, Shows, utf8}
+use Rattle.kt_base.proofs.Common.{append-nil, length-drop, encodes-append, Appends, Keeps, AppendsText, Shows, utf8}
 use Rattle.std.specs.Result.{IsErrAnd}
 
 -- the bytes of two joined texts are the bytes of the first text, then those of the second
@@ -33,7 +33,7 @@ appends_kept (Some us) (Some vs) (Some ws) xs p q = q ∙ p
 appends_kept (Some us) (Some vs) None xs p q = absurd q
 appends_kept (Some us) None c xs p q = absurd p
 
-both : (a b d : Option (List ℕ)) (failed : Bool) (xs ys : List ℕ) → Holds a b false xs → Holds b d failed ys → Holds a d failed (xs ++ ys)
+both : (a b d : Option (List ℕ)) (failed : Bool) (xs ys : List ℕ) → AppendsText a b false xs → AppendsText b d failed ys → AppendsText a d failed (xs ++ ys)
 both a b d false xs ys p q = appends_both a b d xs ys p q
 both a b d true xs ys p q = (xs ++ q.0, q.1, q.2, ap (λ (z : List ℕ). xs ++ z) q.3 ∙ sym (append_assoc xs q.0 (q.2 ∷ q.1)), appends_both a b d xs q.0 p q.4)
 

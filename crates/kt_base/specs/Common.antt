@@ -13,11 +13,11 @@ pub use Rattle.kt_base.specs.LastValues.{IsReplaced, last_values, value_of}
 pub use Rattle.kt_base.specs.Lines.{is_newline}
 pub use Rattle.kt_base.specs.Lossy.{lossy}
 pub use Rattle.kt_base.specs.Phrases.{phrase_text}
-pub use Rattle.kt_base.specs.Reasons.{core_text, counted_text, ending_text, reason_text, refused_reason}
+pub use Rattle.kt_base.specs.Reasons.{core_dump_text, counted_text, outcome_text, reason_text, refused_reason}
 pub use Rattle.kt_base.specs.Shows.{Shows, joined}
 pub use Rattle.kt_base.specs.Texts.{after, before, is_empty}
 pub use Rattle.kt_base.specs.Utf8.{utf8}
 pub use Rattle.kt_base.specs.Verdicts.{broken, expected_failure, failed, passed, skipped}
-pub use Rattle.kt_base.specs.Words.{byte_row_in, named, row_in}
+pub use Rattle.kt_base.specs.Words.{byte_keyword_row, named, keyword_row}
 pub use Rattle.kt_base.specs.declared.variable.Variable.{Variable}
 pub use Rattle.kt_base.specs.declared.verdict.Kind.TheVariants.{Passed}

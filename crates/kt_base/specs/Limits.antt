@@ -5,14 +5,14 @@ use Rattle.std.specs.Prelude.{ℕ}
 abbrev pub largest_width : ℕ
 largest_width = 256
 
--- `longest_timeout`: the longest time limit of a test case, in seconds.
-abbrev pub longest_timeout : ℕ
-longest_timeout = 1000000
+-- `longest_timeout_seconds`: the longest time limit of a test case, in seconds.
+abbrev pub longest_timeout_seconds : ℕ
+longest_timeout_seconds = 1000000
 
 -- `last_run`: the greatest number of a run. Runs are numbered from 1.
 abbrev pub last_run : ℕ
 last_run = 1000000
 
--- `latest_moment`: the last millisecond of the year 9999, counted from 1970 in UTC.
-abbrev pub latest_moment : ℕ
-latest_moment = 253402300799999
+-- `latest_moment_millis`: the last millisecond of the year 9999, counted from 1970 in UTC.
+abbrev pub latest_moment_millis : ℕ
+latest_moment_millis = 253402300799999

@@ -23,14 +23,14 @@ abbrev pub further : Option (List ℕ) → ℕ
 further None = 0
 further (Some bytes) = length bytes - 1
 
--- `lossy_after n bytes`: the decoded text of `bytes` after their first `n` bytes. These belong to a
+-- `lossy_from n bytes`: the decoded text of `bytes` after their first `n` bytes. These belong to a
 -- character that began before `bytes`.
-unfoldable pub lossy_after : ℕ → List ℕ → List ℕ
-lossy_after n [] = []
-lossy_after zero (b ∷ bytes) = character (first (b ∷ bytes)) ++ lossy_after (further (first (b ∷ bytes))) bytes
-lossy_after (suc n) (b ∷ bytes) = lossy_after n bytes
+unfoldable pub lossy_from : ℕ → List ℕ → List ℕ
+lossy_from n [] = []
+lossy_from zero (b ∷ bytes) = character (first (b ∷ bytes)) ++ lossy_from (further (first (b ∷ bytes))) bytes
+lossy_from (suc n) (b ∷ bytes) = lossy_from n bytes
 
 -- `lossy bytes`: the text of `bytes`, decoded from the left: each well-formed character, and U+FFFD
 -- for each byte where no character begins.
 abbrev pub lossy : List ℕ → List ℕ
-lossy bytes = lossy_after 0 bytes
+lossy bytes = lossy_from 0 bytes

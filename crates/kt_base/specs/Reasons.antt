@@ -11,18 +11,18 @@ use Rattle.kt_base.specs.declared.failed_start.Refused.{Refused}
 use Rattle.kt_base.specs.declared.failed_start.Refused.TheVariants.{Directory, Output, Spawn, Memory}
 use Rattle.kt_base.specs.Phrases.{phrase_text}
 
--- `core_text core`: the text that follows the number of a signal: a remark on the core dump if
+-- `core_dump_text core`: the text that follows the number of a signal: a remark on the core dump if
 -- `core` is true, otherwise nothing.
-abbrev pub core_text : Bool → List ℕ
-core_text false = []
-core_text true = codes " (core dumped)"
+abbrev pub core_dump_text : Bool → List ℕ
+core_dump_text false = []
+core_dump_text true = codes " (core dumped)"
 
--- `ending_text outcome`: the text for the exit status or the signal of `outcome`. It is empty for
+-- `outcome_text outcome`: the text for the exit status or the signal of `outcome`. It is empty for
 -- another outcome.
-abbrev pub ending_text : Outcome → List ℕ
-ending_text (Exited code) = codes "exited with code " ++ decimal code
-ending_text (Signaled signal core) = codes "received signal " ++ decimal signal ++ core_text core
-ending_text _ = []
+abbrev pub outcome_text : Outcome → List ℕ
+outcome_text (Exited code) = codes "exited with code " ++ decimal code
+outcome_text (Signaled signal core) = codes "received signal " ++ decimal signal ++ core_dump_text core
+outcome_text _ = []
 
 -- `counted_text phrase m n`: the message of `phrase` with the numbers `m` and `n`. Most phrases end
 -- with `m` and do not use `n`.
@@ -38,7 +38,7 @@ counted_text phrase n _ = phrase_text phrase ++ decimal n
 abbrev pub reason_text : Reason → List ℕ
 reason_text Nothing = []
 reason_text (Fixed phrase) = phrase_text phrase
-reason_text (Ended phrase ending) = phrase_text phrase ++ ending_text ending
+reason_text (Ended phrase ending) = phrase_text phrase ++ outcome_text ending
 reason_text (Counted phrase m n) = counted_text phrase m n
 reason_text (Owned text) = text
 

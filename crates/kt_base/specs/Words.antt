@@ -2,13 +2,13 @@
 use Rattle.std.specs.Prelude.{ℕ, List, [], ◌∷◌, Option, Some, None, bytes_eq, chars, if◌then◌else◌}
 use Rattle.std.specs.Borrow.{Bor}
 
--- `row_in row`: the table row `row` as a pair of its keyword, in characters, and its value.
-abbrev pub row_in : {T : Type 0} → Bor (List ℕ) × T → List ℕ × T
-row_in row = (chars row.0.now, row.1)
+-- `keyword_row row`: the table row `row` as a pair of its keyword, in characters, and its value.
+abbrev pub keyword_row : {T : Type 0} → Bor (List ℕ) × T → List ℕ × T
+keyword_row row = (chars row.0.now, row.1)
 
--- `byte_row_in row`: the table row `row` as a pair of its keyword, in bytes, and its value.
-abbrev pub byte_row_in : {T : Type 0} → Bor (List ℕ) × T → List ℕ × T
-byte_row_in row = (row.0.now, row.1)
+-- `byte_keyword_row row`: the table row `row` as a pair of its keyword, in bytes, and its value.
+abbrev pub byte_keyword_row : {T : Type 0} → Bor (List ℕ) × T → List ℕ × T
+byte_keyword_row row = (row.0.now, row.1)
 
 -- `named rows word`: the value of the first of `rows` whose keyword is `word`, or nothing without
 -- such a row.

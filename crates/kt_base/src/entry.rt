@@ -2,7 +2,7 @@ use crate::{Bytes, Items, Text, Variables, Verdict};
 
 /// The latest timestamp that can be recorded, in milliseconds since 1970 in UTC: the last
 /// millisecond of the year 9999. The earliest timestamp is 0.
-pub const LATEST_MOMENT: u64 = 253_402_300_799_999;
+pub const LATEST_MOMENT_MILLIS: u64 = 253_402_300_799_999;
 
 /// The recorded output of a child process.
 #[derive(Drop)]

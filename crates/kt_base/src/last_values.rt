@@ -4,7 +4,7 @@ ghost use Rattle.kt_base.specs.Common.{Variable, value_of, last_values, IsReplac
 /// Theorem: `last_values`, which keeps the last value of each name, can be updated pair by pair.
 ///
 /// Proofs use these facts for code that replaces a value in place or appends a pair.
-pub fn last_values_laws()
+pub fn theorem_of_last_values()
     ensures value { (name : List ℕ) → (pairs : List Variable)
         → value_of name (last_values pairs) ≡ value_of name pairs }
 

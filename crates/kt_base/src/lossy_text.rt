@@ -5,7 +5,7 @@ use crate::{NoMemory, Text};
 use std::alloc::Global;
 
 /// Appends `bytes` to `text` if they are valid UTF-8. Appends nothing otherwise.
-fn push_utf8(text: &mut Text, bytes: &[u8]) -> Result<(), NoMemory>
+fn push_if_utf8(text: &mut Text, bytes: &[u8]) -> Result<(), NoMemory>
     ensures { OnOk result (IsUtf8 bytes.now → text.new ≡ text.old ++ chars bytes.now) }
 {
     match str::from_utf8(bytes) {
@@ -18,7 +18,7 @@ fn push_utf8(text: &mut Text, bytes: &[u8]) -> Result<(), NoMemory>
 ///
 /// U+FFFD is appended for the invalid byte. Returns the bytes after the invalid byte, or an empty
 /// slice if `bytes` is valid UTF-8.
-fn push_front<'a>(text: &mut Text, bytes: &'a [u8]) -> Result<&'a [u8], NoMemory>
+fn push_valid_prefix<'a>(text: &mut Text, bytes: &'a [u8]) -> Result<&'a [u8], NoMemory>
     ensures text { IfOk result (λ rest. text.new ++ lossy rest.now ≡ text.old ++ lossy bytes.now) }
     ensures shorter { 0 < length bytes.now → IfOk result (λ rest. length rest.now < length bytes.now) }
 {
@@ -29,7 +29,7 @@ fn push_front<'a>(text: &mut Text, bytes: &'a [u8]) -> Result<&'a [u8], NoMemory
         }
         Err(fault) => {
             let end = fault.valid_up_to();
-            push_utf8(text, &bytes[..end])?;
+            push_if_utf8(text, &bytes[..end])?;
             text.push(char::REPLACEMENT_CHARACTER)?;
             Ok(&bytes[end + 1..])
         }
@@ -49,7 +49,7 @@ pub fn lossy(alloc: Global, bytes: &[u8]) -> Result<Text, NoMemory>
     let mut text = Text::new(alloc);
     let mut rest = bytes;
     while !rest.is_empty() {
-        rest = push_front(&mut text, rest)?;
+        rest = push_valid_prefix(&mut text, rest)?;
     }
     Ok(text)
 }

@@ -10,7 +10,7 @@ use std::io::Write;
 ///
 /// - `OutputFault`: a write failed, was interrupted or wrote no byte. A proper prefix of the digits
 ///   was written.
-pub fn emit_wide_number<W: Write>(n: u128, out: &mut W) -> Result<(), OutputFault>
+pub fn emit_u128<W: Write>(n: u128, out: &mut W) -> Result<(), OutputFault>
     ensures shown { Shows (W.contents out.old) (W.contents out.new) (is_err result) (decimal n) }
     ensures ascii { utf8 (decimal n) ≡ decimal n }
 {
@@ -28,5 +28,5 @@ pub fn emit_number<W: Write>(n: u64, out: &mut W) -> Result<(), OutputFault>
     ensures shown { Shows (W.contents out.old) (W.contents out.new) (is_err result) (decimal n) }
     ensures ascii { utf8 (decimal n) ≡ decimal n }
 {
-    emit_wide_number(u128::from(n), out)
+    emit_u128(u128::from(n), out)
 }

@@ -4,7 +4,7 @@ use std::io::Write;
 
 impl Parts<'_> {
     ghost use Rattle.std.specs.Prelude.{◌≡◌, ◌++◌, OnOk, OnErr, is_err};
-    ghost use Rattle.kt_base.specs.Common.{chars, parts_text, phrase_text, counted_text, ending_text, Shows, utf8};
+    ghost use Rattle.kt_base.specs.Common.{chars, parts_text, phrase_text, counted_text, outcome_text, Shows, utf8};
 
     /// Creates the parts of a text without numbers: `head` alone.
     pub fn words(head: &str) -> Parts<'_>
@@ -24,21 +24,21 @@ impl Parts<'_> {
     ///
     /// The text is `phrase` alone if `ending` is another outcome.
     pub fn ended(phrase: Phrase, ending: Outcome) -> Parts<'static>
-        ensures { parts_text result ≡ phrase_text phrase ++ ending_text ending }
+        ensures { parts_text result ≡ phrase_text phrase ++ outcome_text ending }
     {
         match ending {
-            Outcome::Exited(code) => one_number(
+            Outcome::Exited(code) => parts_of_one_number(
                 phrase.text(),
                 "exited with code ",
                 code as u64,
                 "",
             ),
             Outcome::Signaled(signal, core) => {
-                one_number(
+                parts_of_one_number(
                     phrase.text(),
                     "received signal ",
                     signal as u64,
-                    core_words(core),
+                    core_dump_text(core),
                 )
             }
             _ => Parts::words(phrase.text()),
@@ -52,24 +52,30 @@ impl Parts<'_> {
         ensures { parts_text result ≡ counted_text phrase m n }
     {
         match phrase {
-            Phrase::OtherExitCode => two_numbers("Expected exit code ", m, " but got ", n, ""),
-            Phrase::OtherSignal => two_numbers("Expected signal ", m, " but got ", n, ""),
-            Phrase::TestsFailed => two_numbers("", m, " of ", n, " tests failed"),
-            Phrase::MemoryNeeded => two_numbers(
+            Phrase::OtherExitCode => parts_of_two_numbers(
+                "Expected exit code ",
+                m,
+                " but got ",
+                n,
+                "",
+            ),
+            Phrase::OtherSignal => parts_of_two_numbers("Expected signal ", m, " but got ", n, ""),
+            Phrase::TestsFailed => parts_of_two_numbers("", m, " of ", n, " tests failed"),
+            Phrase::MemoryNeeded => parts_of_two_numbers(
                 "Requires ",
                 m,
                 " bytes of physical memory but only ",
                 n,
                 " available",
             ),
-            Phrase::DiskNeeded => two_numbers(
+            Phrase::DiskNeeded => parts_of_two_numbers(
                 "Requires ",
                 m,
                 " bytes of free disk space but only ",
                 n,
                 " available",
             ),
-            _ => one_number(phrase.text(), "", m, ""),
+            _ => parts_of_one_number(phrase.text(), "", m, ""),
         }
     }
 
@@ -100,14 +106,14 @@ impl Parts<'_> {
             (utf8 (parts_text self.now)) }
     {
         print_words(self.head, out)?;
-        print_numbered(self.lead, self.first, out)?;
-        print_numbered(self.between, self.second, out)?;
+        print_text_and_number(self.lead, self.first, out)?;
+        print_text_and_number(self.between, self.second, out)?;
         print_words(self.tail, out)
     }
 }
 
 ghost use Rattle.std.specs.Prelude.{◌≡◌, ◌++◌, Option, OnOk, OnErr, is_err};
-ghost use Rattle.kt_base.specs.Common.{chars, decimal, number_text, parts_text, core_text, Shows, utf8};
+ghost use Rattle.kt_base.specs.Common.{chars, decimal, number_text, parts_text, core_dump_text, Shows, utf8};
 
 /// Appends the decimal digits of `n` to `text`.
 fn push_digits(n: u64, text: &mut Text) -> Result<(), NoMemory>
@@ -147,7 +153,7 @@ fn print_number<W: Write>(number: Option<u64>, out: &mut W) -> Result<(), Output
 }
 
 /// Writes `words`, then `number` in decimal, to `out`.
-fn print_numbered<W: Write>(
+fn print_text_and_number<W: Write>(
     words: &str,
     number: Option<u64>,
     out: &mut W,
@@ -160,14 +166,14 @@ fn print_numbered<W: Write>(
 }
 
 /// Returns ` (core dumped)` if `core` is `true`, or an empty text.
-fn core_words(core: bool) -> &'static str
-    ensures { chars result.now ≡ core_text core }
+fn core_dump_text(core: bool) -> &'static str
+    ensures { chars result.now ≡ core_dump_text core }
 {
     if core { " (core dumped)" } else { "" }
 }
 
 /// Creates the parts of a text with one number: `head`, `lead`, `first` in decimal, and `tail`.
-fn one_number(
+fn parts_of_one_number(
     head: &'static str,
     lead: &'static str,
     first: u64,
@@ -187,7 +193,7 @@ fn one_number(
 }
 
 /// Creates the parts of a text with two numbers: `head`, `first`, `between`, `second`, and `tail`.
-fn two_numbers(
+fn parts_of_two_numbers(
     head: &'static str,
     first: u64,
     between: &'static str,

@@ -1,5 +1,5 @@
 ghost use Rattle.std.specs.Prelude.{◌≡◌, map};
-ghost use Rattle.kt_base.specs.Common.{byte_row_in, named, row_in};
+ghost use Rattle.kt_base.specs.Common.{byte_keyword_row, named, keyword_row};
 
 use crate::Text;
 
@@ -7,7 +7,7 @@ use crate::Text;
 ///
 /// Returns `None` if no row has the keyword.
 pub fn named<T: Copy>(word: &Text, table: &[(&str, T)]) -> Option<T>
-    ensures { result ≡ named (map row_in table.now) word.now }
+    ensures { result ≡ named (map keyword_row table.now) word.now }
 {
     for row in table {
         if word.is_word(row.0) {
@@ -21,7 +21,7 @@ pub fn named<T: Copy>(word: &Text, table: &[(&str, T)]) -> Option<T>
 ///
 /// Returns `None` if no row has the keyword.
 pub fn named_bytes<T: Copy>(word: &[u8], table: &[(&str, T)]) -> Option<T>
-    ensures { result ≡ named (map byte_row_in table.now) word.now }
+    ensures { result ≡ named (map byte_keyword_row table.now) word.now }
 {
     for row in table {
         if word == row.0.as_bytes() {

@@ -1,34 +1,34 @@
 -- Lemmas on the children's cases, which no poll changes.
 use Rattle.std.proofs.Common.{◌≡◌, ℕ, zero, suc, List, [], ◌∷◌, ◌++◌, Some, map, slice_get, refl, sym, ◌∙◌, ap, remove}
-use Rattle.kt_child.proofs.Common.{Outcome, Ended, Watched, ChildrenState, Call, FinishesChild, cases_of, WaitedOn, advanced, advanced_below, last_turn, pending_with, whole_turn}
+use Rattle.kt_child.proofs.Common.{Outcome, Ended, RunningChild, ChildrenState, Call, FinishesChild, cases_of, WaitedOn, advanced, advanced_below, last_turn, pending_with, whole_turn}
 use Rattle.std.specs.Option.{option_map}
 use Rattle.std.proofs.lemmas.Option.{slice_get-map}
 use Rattle.indexmap.proofs.SetLemmas.{map-remove}
 
 -- The first part of a turn doesn't change the cases.
-pub cases_below : (n : ℕ) (ks : List Watched) → cases_of (advanced_below n ks) ≡ cases_of ks
+pub cases_below : (n : ℕ) (ks : List RunningChild) → cases_of (advanced_below n ks) ≡ cases_of ks
 cases_below zero ks = refl
 cases_below (suc n) [] = refl
 cases_below (suc n) (k ∷ ks) = ap (λ t. k.case ∷ t) (cases_below n ks)
 
 -- A turn doesn't change the cases.
-pub cases_turn : (ks : List Watched) → cases_of (map advanced ks) ≡ cases_of ks
+pub cases_turn : (ks : List RunningChild) → cases_of (map advanced ks) ≡ cases_of ks
 cases_turn [] = refl
 cases_turn (k ∷ ks) = ap (λ t. k.case ∷ t) (cases_turn ks)
 
 -- A wait doesn't change the cases of the children that it polls.
-pub cases_waited : (ks : List Watched) (calls : List Call) (place : ℕ) (outcome : Outcome) (after : List Watched)
+pub cases_waited : (ks : List RunningChild) (calls : List Call) (place : ℕ) (outcome : Outcome) (after : List RunningChild)
     → WaitedOn ks calls place outcome after → cases_of after ≡ cases_of ks
 cases_waited _ _ _ _ _ (last_turn ks calls place outcome polled) = cases_below place ks
 cases_waited _ _ _ _ _ (whole_turn ks after turn more done place outcome all waited) = cases_waited (map advanced ks) more place outcome after waited ∙ cases_turn ks
 
 -- Removing the child at an index removes its case.
-pub cases_remove : (ks : List Watched) (i : ℕ) → cases_of (remove ks i) ≡ remove (cases_of ks) i
-cases_remove ks i = map-remove (λ (k : Watched). k.case) ks i
+pub cases_remove : (ks : List RunningChild) (i : ℕ) → cases_of (remove ks i) ≡ remove (cases_of ks) i
+cases_remove ks i = map-remove (λ (k : RunningChild). k.case) ks i
 
 -- The case at an index is that of the child at that index.
-pub case_at : (ks : List Watched) (i : ℕ) (k : Watched) → slice_get ks i ≡ Some k → slice_get (cases_of ks) i ≡ Some k.case
-case_at ks i k e = slice_get-map (λ (x : Watched). x.case) ks i ∙ ap (option_map (λ (x : Watched). x.case)) e
+pub case_at : (ks : List RunningChild) (i : ℕ) (k : RunningChild) → slice_get ks i ≡ Some k → slice_get (cases_of ks) i ≡ Some k.case
+case_at ks i k e = slice_get-map (λ (x : RunningChild). x.case) ks i ∙ ap (option_map (λ (x : RunningChild). x.case)) e
 
 -- `Left old calls e new`: a wait with `calls` takes the state `old` to `new`. Its polls end with
 -- the finished child at `place`, and the calls after them determine its end `e`.
@@ -37,8 +37,8 @@ pub record Left (old : ChildrenState) (calls : List Call) (e : Ended) (new : Chi
   pub rest : List Call
   pub place : ℕ
   pub outcome : Outcome
-  pub after : List Watched
-  pub over : Watched
+  pub after : List RunningChild
+  pub over : RunningChild
   pub asked : calls ≡ polls ++ rest
   pub waited : WaitedOn old.children polls place outcome after
   pub there : slice_get after place ≡ Some over

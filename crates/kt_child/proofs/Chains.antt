@@ -1,6 +1,6 @@
 -- Lemmas on chains of calls.
 use Rattle.std.proofs.Common.{◌≡◌, List, [], ◌∷◌, ◌++◌, Result, Ok, Err, refl, inl, inr}
-use Rattle.kt_child.proofs.Common.{Refused, OsFault, Chain, Call, Ask, Tried, cause_of}
+use Rattle.kt_child.proofs.Common.{Refused, OsFault, Chain, Call, Ask, MakesCalls, cause_of}
 
 -- Two chains of calls, one after the other, are a chain.
 pub chain_append : {O : Type 0} (leads : O → Call → O → Type 0) (a b d : O) (xs ys : List Call)
@@ -9,9 +9,9 @@ chain_append leads a b d [] ys h k = rw h at k
 chain_append leads a b d (x ∷ xs) ys h k = (h.0, h.1, chain_append leads h.0 b d xs ys h.2 k)
 
 -- `Tries leads a asks r b`: the calls of `asks`, up to the first that fails, take the system from
--- `a` to `b` and give the result `r` (`Tried`).
+-- `a` to `b` and give the result `r` (`MakesCalls`).
 abbrev pub Tries : {O : Type 0} → (O → Call → O → Type 0) → O → List Ask → Result (Unit {0}) Refused → O → Type 0
-Tries leads a asks r b = (calls : List Call) × Chain leads a calls b × Tried asks calls r
+Tries leads a asks r b = (calls : List Call) × Chain leads a calls b × MakesCalls asks calls r
 
 -- A call that succeeds, followed by the other calls, tries all of them.
 pub tries_more : {O : Type 0} (leads : O → Call → O → Type 0) (a b d : O) (ask : Ask) (asks : List Ask) (r : Result (Unit {0}) Refused)

@@ -1,6 +1,6 @@
 -- The next attempt number never decreases, and no number occurs twice in a driver state.
 use Rattle.std.proofs.Common.{◌≡◌, ℕ, ◌==◌, ◌&&◌, ◌+◌, ◌-◌, ◌^◌, ◌<◌, ◌≤◌, List, [], ◌∷◌, ◌++◌, Bool, true, false, map, refl, sym, ◌∙◌, ap, subst, arith, inl, inr}
-use Rattle.kt_child.proofs.Common.{nat_tests, Alive, DriverState, Body, Cleanup, Call, CaseAttempt, Chain, Driver, End, Ended, Ends, IsPolled, Job, NoEvent, Role, Runs, Start as Started, StartAnswer, Starts, Then, Trace, alive_after, limit_of, one_if, AttemptsDiffer, IsApart, NumbersDiffer, numbers, times, Request, Wait, ListOf, Serves, ServesAll, is_attempt}
+use Rattle.kt_child.proofs.Common.{nat_tests, PolledChild, DriverState, Body, Cleanup, Call, CaseAttempt, Chain, Driver, End, Ended, Ends, IsPolled, Job, NoEvent, Role, Runs, Start as Started, StartAnswer, Starts, Then, Trace, children_after_start, limit_of, one_if, AttemptsDiffer, IsApart, NumbersDiffer, numbers, times, Request, Wait, ListOf, Serves, ServesAll, is_attempt}
 use Rattle.kt_child.specs.Driving.Numbers.{Start}
 use Rattle.kt_sched.specs.declared.job.StartAnswer.TheVariants.{Started as StartedAt, Refused as RefusedFor}
 use Rattle.kt_child.specs.Driving.DriverState.{killed, later, paused, polled}
@@ -34,7 +34,7 @@ times_join n [] ys = omega arith
 times_join n (x ∷ xs) ys = omega (arith, times_join n xs ys)
 
 -- `runs_by a`: the attempt number of the running child `a`.
-abbrev runs_by : Alive → ℕ
+abbrev runs_by : PolledChild → ℕ
 runs_by a = a.case.attempt
 
 -- `owed_by c`: the attempt number of the pending case `c`.
@@ -42,20 +42,20 @@ abbrev owed_by : CaseAttempt → ℕ
 owed_by c = c.attempt
 
 -- No call changes the attempt numbers of the running children.
-call_kept : (old new : List Alive) (call : Call) → IsPolled old call new → map runs_by new ≡ map runs_by old
+call_kept : (old new : List PolledChild) (call : Call) → IsPolled old call new → map runs_by new ≡ map runs_by old
 call_kept _ _ _ (polled a others answer) = refl
 call_kept _ _ _ (killed a others done) = refl
 call_kept _ _ _ (later a others after call h) = ap (λ t. a.case.attempt ∷ t) (call_kept others after call h)
 call_kept _ _ _ (paused alive done) = refl
 
 -- No list of calls changes the attempt numbers of the running children.
-calls_kept : (calls : List Call) (old new : List Alive) → Chain IsPolled old calls new → map runs_by new ≡ map runs_by old
+calls_kept : (calls : List Call) (old new : List PolledChild) → Chain IsPolled old calls new → map runs_by new ≡ map runs_by old
 calls_kept [] old new h = ap (map runs_by) h
 calls_kept (call ∷ calls) old new (mid, first, rest) = calls_kept calls mid new rest ∙ call_kept old mid call first
 
 -- A start adds the attempt number of its case at most once.
-started_most : (n : ℕ) (alive : List Alive) (job : Job) (c : CaseAttempt) (answer : StartAnswer)
-    → times n (map runs_by (alive_after alive job c answer)) ≤ times n (map runs_by alive) + one_if (n == c.attempt)
+started_most : (n : ℕ) (alive : List PolledChild) (job : Job) (c : CaseAttempt) (answer : StartAnswer)
+    → times n (map runs_by (children_after_start alive job c answer)) ≤ times n (map runs_by alive) + one_if (n == c.attempt)
 started_most n alive job c (RefusedFor cause) = omega arith
 started_most n alive job c (StartedAt moment) =
     omega (arith, times_more runs_by n alive (record { case = c; limit = limit_of job c.role; heard = [] }))

@@ -1,6 +1,6 @@
 -- Lemmas on the state after a start, after a wait, and after a pending case was removed.
 use Rattle.std.proofs.Common.{◌≡◌, ℕ, suc, ◌+◌, ◌≤◌, List, ◌++◌, slice_get, take, drop, Bool, true, Some, refl, ◌∙◌, ap, subst, arith, ◌==◌, [], ◌∷◌, false, remove}
-use Rattle.kt_child.proofs.Common.{Job, Paths, StartAnswer, case_of, limit_of, spawned, state_after_start, All, All-append, All-take, All-drop, All-push, Role, Outcome, Watched, CaseAttempt, Ended, Chain, Call, IsChildrenState, IsOn, count_at, count_in, one_if, WaitedOn, IsEvidence, running_after_end, pending_after_end, ChildrenState, cases_of, is_among, pending_with, shown, shown_at, shown_in, FinishesChild}
+use Rattle.kt_child.proofs.Common.{Job, Paths, StartAnswer, case_of, limit_of, spawned, state_after_start, All, All-append, All-take, All-drop, All-push, Role, Outcome, RunningChild, CaseAttempt, Ended, Chain, Call, IsChildrenState, IsRunningChild, count_at, count_in, one_if, WaitedOn, IsEvidence, running_after_end, pending_after_end, ChildrenState, cases_of, is_among, pending_with, shown, shown_at, shown_in, FinishesChild}
 use Rattle.kt_sched.specs.Children.{Child as Shown, running_after_start}
 use Rattle.kt_sched.specs.declared.job.StartAnswer.TheVariants.{Started as StartedAt, Refused as RefusedFor}
 use Rattle.kt_child.proofs.CaseSteps.{Left, case_at, cases_remove, waited_cases}
@@ -17,16 +17,16 @@ once_more true n m h p = let z : n + m ≡ 0 = h refl in omega arith
 once_more false n m h p = omega arith
 
 -- Appending a child appends its case.
-pub cases_more : (ks : List Watched) (k : Watched) → cases_of (ks ++ k ∷ []) ≡ cases_of ks ++ k.case ∷ []
-cases_more ks k = map-append (λ (x : Watched). x.case) ks (k ∷ [])
+pub cases_more : (ks : List RunningChild) (k : RunningChild) → cases_of (ks ++ k ∷ []) ≡ cases_of ks ++ k.case ∷ []
+cases_more ks k = map-append (λ (x : RunningChild). x.case) ks (k ∷ [])
 
 -- The invariant is true after a start at a free position.
-pub state_started : (children children' : List Watched) (pending pending' : List CaseAttempt) (k : Watched)
-    → IsChildrenState children pending → IsOn k → count_at k.case.position (cases_of children) + count_at k.case.position pending ≡ 0
+pub state_started : (children children' : List RunningChild) (pending pending' : List CaseAttempt) (k : RunningChild)
+    → IsChildrenState children pending → IsRunningChild k → count_at k.case.position (cases_of children) + count_at k.case.position pending ≡ 0
     → children' ≡ children ++ k ∷ [] → pending' ≡ pending → IsChildrenState children' pending'
 state_started children children' pending pending' k b on free e f =
     rw (e, f) (record {
-      on = All-push IsOn children k b.on on;
+      on = All-push IsRunningChild children k b.on on;
       once = λ i.
           omega (
             arith,
@@ -46,7 +46,7 @@ shown_started b job role number paths (StartedAt moment) free k r =
     ap (λ t. shown_at t k r) (cases_more b.children (spawned (limit_of job role) c)) ∙ shown_append (cases_of b.children) c k r (omega (arith, free))
 
 -- The invariant is true after a pending case was removed.
-pub state_taken : (children : List Watched) (pending pending' : List CaseAttempt) (p : ℕ) (c : CaseAttempt)
+pub state_taken : (children : List RunningChild) (pending pending' : List CaseAttempt) (p : ℕ) (c : CaseAttempt)
     → IsChildrenState children pending → slice_get pending p ≡ Some c → pending' ≡ remove pending p → IsChildrenState children pending'
 state_taken children pending pending' p c b at e =
     rw e (record { on = b.on; once = λ i. omega (arith, times_less position i pending p c at, b.once i) })
@@ -58,12 +58,12 @@ free_taken cases pending p c once at =
     omega (arith, times_less position c.position pending p c at, ap one_if (same_number c.position), once c.position)
 
 -- The invariant is true after a child has finished.
-pub state_after : (children after children' : List Watched) (pending pending' : List CaseAttempt) (p : ℕ) (k : Watched)
-    → IsChildrenState children pending → cases_of after ≡ cases_of children → All IsOn after → slice_get after p ≡ Some k
+pub state_after : (children after children' : List RunningChild) (pending pending' : List CaseAttempt) (p : ℕ) (k : RunningChild)
+    → IsChildrenState children pending → cases_of after ≡ cases_of children → All IsRunningChild after → slice_get after p ≡ Some k
     → children' ≡ remove after p → pending' ≡ pending_with k.case pending → IsChildrenState children' pending'
 state_after children after children' pending pending' p k b same on at e q =
     rw (e, q) (record {
-      on = All-append IsOn (take p after) (drop (suc p) after) (All-take IsOn p after on) (All-drop IsOn (suc p) after on);
+      on = All-append IsRunningChild (take p after) (drop (suc p) after) (All-take IsRunningChild p after on) (All-drop IsRunningChild (suc p) after on);
       once = λ i.
           omega (
             arith,
@@ -105,14 +105,14 @@ module _ (old new : ChildrenState) (calls : List Call) (e : Ended) (once : Once 
       rw (w.left.8, w.left.9) (ap (λ t. is_among t k) w.pending ∙ among_owed (cases_of old.children) old.pending w.over.case k over_shown)
 
 -- The polls and the calls after them are the calls of one wait.
-pub waited_all : {O : Type 0} (leads : O → Call → O → Type 0) (a b d : O) (old new : ChildrenState) (children after : List Watched) (place : ℕ) (outcome : Outcome) (k : Watched) (e : Ended)
+pub waited_all : {O : Type 0} (leads : O → Call → O → Type 0) (a b d : O) (old new : ChildrenState) (children after : List RunningChild) (place : ℕ) (outcome : Outcome) (k : RunningChild) (e : Ended)
     → (calls : List Call) × Chain leads a calls b × WaitedOn children calls place outcome after
     → (calls : List Call) × Chain leads b calls d × FinishesChild k.case calls outcome e
     → children ≡ old.children → slice_get after place ≡ Some k
     → new.children ≡ remove after place → new.pending ≡ pending_with k.case old.pending
     → (calls : List Call) × Chain leads a calls d × ((w : Left old calls e new) × (w.over ≡ k))
 waited_all leads a b d old new children after place outcome k e (xs, p, w) (ys, q, l) same at f g =
-    let P : List Watched → Type 0 = λ t. WaitedOn t xs place outcome after in (
+    let P : List RunningChild → Type 0 = λ t. WaitedOn t xs place outcome after in (
       xs ++ ys,
       chain_append leads a b d xs ys p q,
       (

@@ -1,6 +1,6 @@
 -- Lemmas on one turn, poll by poll.
 use Rattle.std.proofs.Common.{◌≡◌, ℕ, zero, suc, ◌+◌, ◌<◌, List, [], ◌∷◌, ◌++◌, length, take, Bool, Result, refl, sym, ◌∙◌, ap, add-one, append_assoc, append-nil}
-use Rattle.kt_child.proofs.Common.{set, take_more, Child, All, All-get_or, slice_get-get_or, Outcome, Polled, OsFault, Watch, AfterPoll, More, Watched, Chain, Call, child_of, asked_by_poll, after_poll, watch_after, IsOn, PolledAll, PolledUntil, advanced, advanced_below}
+use Rattle.kt_child.proofs.Common.{set, take_more, Child, All, All-get_or, slice_get-get_or, Outcome, Polled, OsFault, PollCounts, AfterPoll, More, RunningChild, Chain, Call, child_of, asked_by_poll, after_poll, watch_after, IsRunningChild, PolledAll, PolledUntil, advanced, advanced_below}
 use Rattle.std.proofs.Math.ListN.{get_or}
 use Rattle.std.proofs.lemmas.List.{get_or_default}
 use Rattle.kt_child.specs.declared.polling.AfterPoll.TheVariants.{Ended}
@@ -8,13 +8,13 @@ use Rattle.kt_child.proofs.Chains.{chain_append}
 use Rattle.kt_child.proofs.Outcomes.{ends_so}
 
 -- A child that was not polled yet is unchanged.
-pub watched_at : (i : ℕ) (s : List Watched) (d : Watched) → get_or (advanced_below i s) i d ≡ get_or s i d
+pub watched_at : (i : ℕ) (s : List RunningChild) (d : RunningChild) → get_or (advanced_below i s) i d ≡ get_or s i d
 watched_at zero s d = refl
 watched_at (suc i) [] d = refl
 watched_at (suc i) (k ∷ s) d = watched_at i s d
 
 -- Advancing the child at index `i` after the first `i` children advances one more.
-set_next : (i : ℕ) (s : List Watched) (d : Watched) → set (advanced_below i s) i (advanced (get_or s i d)) ≡ advanced_below (suc i) s
+set_next : (i : ℕ) (s : List RunningChild) (d : RunningChild) → set (advanced_below i s) i (advanced (get_or s i d)) ≡ advanced_below (suc i) s
 set_next zero [] d = refl
 set_next zero (k ∷ s) d = refl
 set_next (suc i) [] d = refl
@@ -22,14 +22,14 @@ set_next (suc i) (k ∷ s) d = ap (λ t. advanced k ∷ t) (set_next i s d)
 
 -- `OnePoll leads now new turn name k`: one poll of the child `k` with the name `name` takes the
 -- system from `now` to `new`. `turn` is the child's state after it.
-abbrev pub OnePoll : {O : Type 0} → (O → Call → O → Type 0) → O → O → AfterPoll → Child → Watched → Type 0
+abbrev pub OnePoll : {O : Type 0} → (O → Call → O → Type 0) → O → O → AfterPoll → Child → RunningChild → Type 0
 OnePoll leads now new turn name k =
     (answer : Result Polled OsFault) × (done : Bool)
     × Chain leads now (asked_by_poll name k.limit k.watch answer done) new
     × (turn ≡ after_poll k.limit k.watch answer done)
 
 -- A poll of one more child, after which it still runs, extends a turn.
-polled_snoc : (ks : List Watched) (k : Watched) (xs : List Call) (answer : Result Polled OsFault) (done : Bool)
+polled_snoc : (ks : List RunningChild) (k : RunningChild) (xs : List Call) (answer : Result Polled OsFault) (done : Bool)
     → PolledAll ks xs → More ≡ after_poll k.limit k.watch answer done
     → PolledAll (ks ++ k ∷ []) (xs ++ asked_by_poll (child_of k.case) k.limit k.watch answer done)
 polled_snoc [] k xs answer done h e =
@@ -46,7 +46,7 @@ polled_snoc (j ∷ ks) k xs answer done (a, d, more, eq, went, rest) e =
     )
 
 -- For a turn over the children of `init`, at the index `i`.
-module _ (init children : List Watched) (i : ℕ) (d : Watched) (lt : i < length init) (e : children ≡ advanced_below i init) where
+module _ (init children : List RunningChild) (i : ℕ) (d : RunningChild) (lt : i < length init) (e : children ≡ advanced_below i init) where
   -- A poll of the next child, after which it still runs, extends the calls of the turn.
   pub step_more : {O : Type 0} (leads : O → Call → O → Type 0) (start now new : O) (name : Child) → name ≡ child_of (get_or children i d).case
       → (calls : List Call) × Chain leads start calls now × PolledAll (take i init) calls
@@ -61,7 +61,7 @@ module _ (init children : List Watched) (i : ℕ) (d : Watched) (lt : i < length
 
   -- A poll of the next child with which it finishes ends the turn.
   pub step_over : {O : Type 0} (leads : O → Call → O → Type 0) (start now new : O) (name : Child) → name ≡ child_of (get_or children i d).case
-      → (outcome : Outcome) → All IsOn init
+      → (outcome : Outcome) → All IsRunningChild init
       → (calls : List Call) × Chain leads start calls now × PolledAll (take i init) calls
       → OnePoll leads now new (Ended outcome) name (get_or children i d)
       → (calls : List Call) × Chain leads start calls new × PolledUntil init i calls outcome
@@ -69,19 +69,19 @@ module _ (init children : List Watched) (i : ℕ) (d : Watched) (lt : i < length
       let k = get_or init i d in
       let o = rw (n, e, watched_at i init d) at one in
       let ys = asked_by_poll (child_of k.case) k.limit k.watch o.0 o.1 in
-      let yields = ends_so k.limit k.watch o.0 o.1 outcome (All-get_or IsOn init i d lt on).0 (sym o.3) in
+      let yields = ends_so k.limit k.watch o.0 o.1 outcome (All-get_or IsRunningChild init i d lt on).0 (sym o.3) in
       let both = chain_append leads start now new calls ys chain o.2 in
       (calls ++ ys, both, (calls, ys, refl, polled, rw (slice_get-get_or init i d lt) (o.0, o.1, refl, sym o.3, yields)))
 
   -- The child at index `i` doesn't depend on the default element.
-  pub same_at : (f : Watched) → get_or children i d ≡ get_or children i f
+  pub same_at : (f : RunningChild) → get_or children i d ≡ get_or children i f
   same_at f = rw (e, watched_at i init d, watched_at i init f) (get_or_default init i d f lt)
 
   -- Storing the poll counts of the next child advances it.
-  pub step_set : (f : Watched) (w : Watch) → w ≡ watch_after (get_or children i d).limit (get_or children i d).watch
+  pub step_set : (f : RunningChild) (w : PollCounts) → w ≡ watch_after (get_or children i d).limit (get_or children i d).watch
       → set children i (record { case = (get_or children i f).case; limit = (get_or children i f).limit; watch = w }) ≡ advanced_below (i + 1) init
   step_set f w g = rw (g, same_at f, e, watched_at i init f, add-one i) (set_next i init f)
 
   -- The child at index `i` is running.
-  pub on_at : All IsOn init → IsOn (get_or children i d)
-  on_at h = rw (e, watched_at i init d) (All-get_or IsOn init i d lt h)
+  pub on_at : All IsRunningChild init → IsRunningChild (get_or children i d)
+  on_at h = rw (e, watched_at i init d) (All-get_or IsRunningChild init i d lt h)

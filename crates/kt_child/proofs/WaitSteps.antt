@@ -1,31 +1,31 @@
 -- Lemmas on a sequence of whole turns.
 use Rattle.std.proofs.Common.{◌≡◌, ℕ, ◌+◌, ◌*◌, ◌-◌, List, [], ◌∷◌, ◌++◌, length, map, Bool, refl, ap, append_assoc}
-use Rattle.kt_child.proofs.Common.{Outcome, Watched, Chain, Call, Pause, PolledAll, PolledUntil, WaitedOn, advanced, advanced_below, last_turn, whole_turn}
+use Rattle.kt_child.proofs.Common.{Outcome, RunningChild, Chain, Call, Pause, PolledAll, PolledUntil, WaitedOn, advanced, advanced_below, last_turn, whole_turn}
 use Rattle.kt_child.proofs.Chains.{chain_append}
 
 -- `polls_left k`: the number of polls until the child `k` has finished at the latest.
-abbrev polls_left : Watched → ℕ
+abbrev polls_left : RunningChild → ℕ
 polls_left k = (100 * k.limit - k.watch.before) + (500 - k.watch.after)
 
 -- `first_left children`: the number of polls that the first child has left, or 0 without children.
-abbrev pub first_left : List Watched → ℕ
+abbrev pub first_left : List RunningChild → ℕ
 first_left [] = 0
 first_left (k ∷ s) = polls_left k
 
 -- Advancing all children one by one is a whole turn.
-pub all_advanced : (s : List Watched) → advanced_below (length s) s ≡ map advanced s
+pub all_advanced : (s : List RunningChild) → advanced_below (length s) s ≡ map advanced s
 all_advanced [] = refl
 all_advanced (k ∷ s) = ap (λ t. advanced k ∷ t) (all_advanced s)
 
 -- `Waiting leads start init now children`: some calls take the system from `start` to `now`. With
 -- them, a wait of `children` is a wait of `init`.
-abbrev pub Waiting : {O : Type 0} → (O → Call → O → Type 0) → O → List Watched → O → List Watched → Type 0
+abbrev pub Waiting : {O : Type 0} → (O → Call → O → Type 0) → O → List RunningChild → O → List RunningChild → Type 0
 Waiting leads start init now children =
     (calls : List Call) × Chain leads start calls now
-    × ((more : List Call) (place : ℕ) (outcome : Outcome) (after : List Watched) → WaitedOn children more place outcome after → WaitedOn init (calls ++ more) place outcome after)
+    × ((more : List Call) (place : ℕ) (outcome : Outcome) (after : List RunningChild) → WaitedOn children more place outcome after → WaitedOn init (calls ++ more) place outcome after)
 
 -- A turn without a finished child, and a pause, extend the wait.
-pub waiting_more : {O : Type 0} (leads : O → Call → O → Type 0) (start now mid new : O) (init children : List Watched) (d : Bool)
+pub waiting_more : {O : Type 0} (leads : O → Call → O → Type 0) (start now mid new : O) (init children : List RunningChild) (d : Bool)
     → Waiting leads start init now children
     → (calls : List Call) × Chain leads now calls mid × PolledAll children calls
     → leads mid (Pause d) new
@@ -41,7 +41,7 @@ waiting_more leads start now mid new init children d (calls, chain, on) (ys, cha
 )
 
 -- A turn with a finished child completes the wait.
-pub waiting_over : {O : Type 0} (leads : O → Call → O → Type 0) (start now new : O) (init children last : List Watched) (place : ℕ) (outcome : Outcome)
+pub waiting_over : {O : Type 0} (leads : O → Call → O → Type 0) (start now new : O) (init children last : List RunningChild) (place : ℕ) (outcome : Outcome)
     → Waiting leads start init now children
     → (calls : List Call) × Chain leads now calls new × PolledUntil children place calls outcome
     → last ≡ advanced_below place children

@@ -13,19 +13,19 @@ pub use Rattle.kt_child.specs.Driving.ChildrenState.{idle_state, is_among, shown
 pub use Rattle.kt_child.specs.Driving.DriverState.{TakesNumber, Waited, driver_state, driver_state_of}
 pub use Rattle.kt_child.specs.Driving.DriverSteps.{DriverStarts, DriverWaits}
 pub use Rattle.kt_child.specs.Driving.JobPlan.{case_of, limit_of, list_case, list_purpose, program_directory, program_path, spawning_for, spawning_of, want_of}
-pub use Rattle.kt_child.specs.Driving.Lists.{ListsBy, RanList, WatchedList}
+pub use Rattle.kt_child.specs.Driving.Lists.{ListsBy, RunsList, AwaitsList}
 pub use Rattle.kt_child.specs.Driving.Numbers.{AttemptsDiffer, NumbersDiffer}
 pub use Rattle.kt_child.specs.Driving.Roots.{FindsRoot, driver_words, root_of}
 pub use Rattle.kt_child.specs.Driving.Runs.{EndsFollow, RunsFrom}
-pub use Rattle.kt_child.specs.Driving.Starting.{Begun, SetUp, SetUpIn, SetUpNew, Started, Tried, cause_of, child_asks, furnish_asks, spawn_ask, spawned}
+pub use Rattle.kt_child.specs.Driving.Starting.{StartsByPlan, SetUp, SetUpExisting, SetUpNew, Started, MakesCalls, cause_of, child_asks, new_attempt_asks, spawn_ask, spawned}
 pub use Rattle.kt_child.specs.Ending.Ends.{FinishesChild, Removes, err_of, is_over, out_of}
 pub use Rattle.kt_child.specs.Ending.Gathering.{Gathers, ReadsClaim, ReadsTap}
 pub use Rattle.kt_child.specs.Ending.Parts.{IsEnd, Reads, next_part}
 pub use Rattle.kt_child.specs.Ending.Reads.{IsListWithin, IsReadWithin, bytes_of, list_of}
 pub use Rattle.kt_child.specs.Host.HostAnswers.{HostLeads, IsFront, IsHostRead, IsOpened, IsPolledOf, TakesAtMost, limit_after}
-pub use Rattle.kt_child.specs.Host.HostStands.{AllProceed, AllStay, IsLastEnd, OthersStay, Proceeds, stand_in, stand_of}
-pub use Rattle.kt_child.specs.Host.Lateness.{IsLate, IsLateAt, Looks, Sees}
-pub use Rattle.kt_child.specs.Inner.Children.{IsOn, IsOnBy, IsWatched, TakesBytes, count_in, state_after_start, with_pending}
+pub use Rattle.kt_child.specs.Host.HostStands.{AllProceed, AllStay, IsLastEnd, OthersStay, Proceeds, process_state_in, process_state}
+pub use Rattle.kt_child.specs.Host.Lateness.{IsLate, IsLateAt, UpdatesLateCheck, IsLateCheck}
+pub use Rattle.kt_child.specs.Inner.Children.{IsRunningChild, IsRunningWithin, IsWatched, TakesBytes, count_in, state_after_start, with_pending}
 pub use Rattle.kt_child.specs.Inner.Host.{IsAt, IsCommandOf, IsFaultOf, IsFree, IsUnopened, RunsIn, after_removed, after_set}
 pub use Rattle.kt_child.specs.Inner.Started.{IsStart}
 pub use Rattle.kt_child.specs.Planning.ChildPlan.{child_of, common_variables, env_of, own_variables, paths_of, removed_names, test_variable, variable, variable_argument, words_of}

@@ -14,11 +14,11 @@ pub use Rattle.kt_sched.specs.declared.job.Job.{Job}
 pub use Rattle.kt_sched.specs.declared.job.StartAnswer.{StartAnswer}
 pub use Rattle.kt_sched.specs.declared.job.StartAnswer.TheVariants.{Refused, Started}
 pub use Rattle.kt_child.specs.declared.planning.CaseAttempt.{CaseAttempt}
-pub use Rattle.kt_child.specs.declared.planning.Spawning.{Spawning}
+pub use Rattle.kt_child.specs.declared.planning.SpawnPlan.{SpawnPlan}
 pub use Rattle.kt_child.specs.declared.planning.Want.{Want}
 pub use Rattle.kt_child.specs.declared.planning.workdir.Paths.{Paths}
-pub use Rattle.kt_child.specs.declared.polling.Watch.{Watch}
-pub use Rattle.kt_child.specs.declared.polling.Watched.{Watched}
+pub use Rattle.kt_child.specs.declared.polling.PollCounts.{PollCounts}
+pub use Rattle.kt_child.specs.declared.polling.RunningChild.{RunningChild}
 pub use Rattle.kt_child.specs.declared.system.Child.{Child}
 pub use Rattle.kt_child.specs.declared.system.EnvPlan.{EnvPlan}
 pub use Rattle.kt_child.specs.declared.system.FileRead.{FileRead}

@@ -9,16 +9,16 @@ unfoldable pub use Rattle.std.specs.Str.{chars}
 pub use Rattle.kt_base.specs.Digits.{decimal_from, is_digit, up_to}
 pub use Rattle.kt_base.specs.Lines.{is_newline, lines, onto}
 pub use Rattle.kt_base.specs.Lossy.{lossy}
-pub use Rattle.kt_claim.specs.Bytes.{is_blank, is_word_byte, newline, number}
+pub use Rattle.kt_claim.specs.Bytes.{is_blank, is_keyword_byte, newline, number}
 pub use Rattle.kt_claim.specs.ClaimReading.{ClaimReading, Holds}
-pub use Rattle.kt_claim.specs.Inner.LineStates.{Facts, KeepsFor, Knows, LineState, Released, after_opening, bailing, facts_of, facts_of_kind, facts_with, held_before, is_decided, is_reason, nothing, opened, planning, testing}
-pub use Rattle.kt_claim.specs.Inner.ResultReading.{after_bracket, after_known, claim_after, claim_with, closed, may_have_number, numbered, plainly, reason_in, value_of, with_number_in, with_reason_in}
+pub use Rattle.kt_claim.specs.Inner.LineStates.{Facts, KeepsFor, IsStateAfter, LineState, IsStateMidLine, after_opening, bailing, facts_of, facts_of_kind, facts_with, with_held_return, is_decided, is_reason, nothing, opened, planning, test_facts}
+pub use Rattle.kt_claim.specs.Inner.ResultReading.{after_bracket, claim_of_keyword, claim_after, claim_with, closed, may_have_number, numbered, plainly, reason_in, value_of, with_number_in, with_reason_in}
 unfoldable pub use Rattle.kt_claim.specs.Inner.ResultReading.{claim_of, claim_of_line, number_in, word_of}
 pub use Rattle.kt_claim.specs.Inner.TapReading.{HasLines, IsTally, first, has_second, one, state_of, with_plan}
-pub use Rattle.kt_claim.specs.ResultFile.{IsClaimOf, IsNumber, IsReason, Says, after_digits, after_number, after_word, closes, digits, fault_of, fits_line, has_bracket, has_number, has_reason, is, limit, line, with_number, with_reason}
+pub use Rattle.kt_claim.specs.ResultFile.{IsClaimOf, IsNumber, IsReason, Says, after_digits, after_number, after_word, closes, digits, fault_of, line_has_fault, has_bracket, has_number, has_reason, is, limit, line, with_number, with_reason}
 pub use Rattle.kt_claim.specs.TapStream.{begins, below_limit, count, directive_in, is_plan_end, front, heard, is_bail, is_test, is_unexcused, lines_of, past, plan, plan_for, planned_from, skip_reason, skips, tap_of_lines, trimmed, why, without_return}
-pub use Rattle.kt_claim.specs.declared.begun.Begun.{Begun}
-pub use Rattle.kt_claim.specs.declared.begun.Begun.TheVariants.{Digits, Nothing}
+pub use Rattle.kt_claim.specs.declared.begun.LineProgress.{LineProgress}
+pub use Rattle.kt_claim.specs.declared.begun.LineProgress.TheVariants.{Digits, Nothing}
 pub use Rattle.kt_claim.specs.declared.begun.LineKind.{LineKind}
 pub use Rattle.kt_claim.specs.declared.evidence.Claim.{Claim}
 pub use Rattle.kt_claim.specs.declared.evidence.ClaimFault.{ClaimFault}

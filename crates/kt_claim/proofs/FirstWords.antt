@@ -1,6 +1,6 @@
 -- The keyword that a line begins with.
 use Rattle.std.proofs.Common.{◌≡◌, ℕ, Bool, true, false, List, refl, sym, subst, codes}
-use Rattle.kt_claim.proofs.Common.{bytes_eq, list_any, bytes_eq-Decides, is_newline, word_of, after_known}
+use Rattle.kt_claim.proofs.Common.{bytes_eq, list_any, bytes_eq-Decides, is_newline, word_of, claim_of_keyword}
 use Rattle.kt_claim.specs.ResultFile as says
 use Rattle.kt_claim.specs.declared.result_line.Word.TheVariants as word
 use Rattle.kt_claim.proofs.Words.{Agrees, plain_word, passed_word, number_word}
@@ -11,10 +11,10 @@ pub by_word : (t : Bool) (w x : List ℕ) (P : List ℕ → Type 0) → bytes_eq
 by_word true w x P e here next = subst P (sym ((bytes_eq-Decides w x).0 e)) here
 by_word false w x P e here next = next e
 
--- `Read rest w`: `after_known` gives the claim of a line of the keyword `w` and `rest`, or its
+-- `Read rest w`: `claim_of_keyword` gives the claim of a line of the keyword `w` and `rest`, or its
 -- error.
 abbrev pub Read : List ℕ → List ℕ → Type 0
-Read rest w = Agrees w rest (after_known (word_of w) rest)
+Read rest w = Agrees w rest (claim_of_keyword (word_of w) rest)
 
 pub unknown : (w rest : List ℕ) → bytes_eq w (codes "passed") ≡ false → bytes_eq w (codes "failed") ≡ false → bytes_eq w (codes "skipped") ≡ false
     → bytes_eq w (codes "expected_death") ≡ false → bytes_eq w (codes "expected_failure") ≡ false → bytes_eq w (codes "expected_timeout") ≡ false

@@ -1,10 +1,10 @@
 -- Lines of a text that is read in pieces.
 use Rattle.std.proofs.Common.{◌≡◌, ℕ, ◌≤◌, ◌<◌, ◌^◌, Bool, true, false, List, [], ◌∷◌, ◌++◌, map, length, refl, ap, sym, ◌∙◌, append_assoc, arith}
-use Rattle.kt_claim.proofs.Common.{list_any, append-nil, length-append, is_newline, lines, onto, without_return, trimmed, tap_of_lines, lines_of, LineState, held_before, facts_of, facts_of_kind, facts_with, is_reason, KeepsFor, Knows, IsTally, HasLines, Tally, Begun, LineKind}
+use Rattle.kt_claim.proofs.Common.{list_any, append-nil, length-append, is_newline, lines, onto, without_return, trimmed, tap_of_lines, lines_of, LineState, with_held_return, facts_of, facts_of_kind, facts_with, is_reason, KeepsFor, IsStateAfter, IsTally, HasLines, Tally, LineProgress, LineKind}
 use Rattle.kt_claim.specs.TapStream.{limit}
 use Rattle.kt_claim.specs.declared.evidence.Tap.{Tap}
 use Rattle.kt_claim.specs.declared.begun.LineKind.TheVariants.{Plan}
-use Rattle.kt_claim.specs.declared.begun.Begun.TheVariants as begun
+use Rattle.kt_claim.specs.declared.begun.LineProgress.TheVariants as begun
 use Rattle.kt_claim.proofs.Tallies.{quiet}
 use Rattle.std.proofs.lemmas.Bool.{or_parts}
 
@@ -33,19 +33,19 @@ abbrev pub Ends : LineState → LineKind → Type 0
 Ends line kind = (is_reason line.begun ≡ false → (kept : List ℕ) → facts_of_kind kind [] ≡ facts_with line.begun kept []) × (is_reason line.begun ≡ true → kind ≡ Plan 0)
 
 -- If a line ends in the state `b`, its facts are the facts of its kind.
-pub ends_at : (b : Begun) (kept : List ℕ) (kind : LineKind) → KeepsFor b kept
+pub ends_at : (b : LineProgress) (kept : List ℕ) (kind : LineKind) → KeepsFor b kept
     → (is_reason b ≡ false → (k : List ℕ) → facts_of_kind kind [] ≡ facts_with b k []) → (is_reason b ≡ true → kind ≡ Plan 0)
     → facts_with b kept [] ≡ facts_of_kind kind (trimmed kept)
 ends_at begun.Reason kept kind keeps plain reason =
     ap (λ (xs : List ℕ). facts_of_kind (Plan 0) (trimmed xs)) (append-nil kept) ∙ ap (λ (k : LineKind). facts_of_kind k (trimmed kept)) (sym (reason refl))
 ends_at b kept kind keeps plain reason = sym (plain refl kept) ∙ ap (λ (xs : List ℕ). facts_of_kind kind (trimmed xs)) (sym keeps)
 
-pub no_more : (held : Bool) (b : Begun) (kept : List ℕ) → facts_with b kept (without_return (held_before held [])) ≡ facts_with b kept []
+pub no_more : (held : Bool) (b : LineProgress) (kept : List ℕ) → facts_with b kept (without_return (with_held_return held [])) ≡ facts_with b kept []
 no_more true b kept = refl
 no_more false b kept = refl
 
 -- A line that has ended has the facts of its kind.
-pub line_is : (line : LineState) (kind : LineKind) (came : List ℕ) → Ends line kind → Knows line.begun line.kept line.held came → facts_of (without_return came) ≡ facts_of_kind kind (trimmed line.kept)
+pub line_is : (line : LineState) (kind : LineKind) (came : List ℕ) → Ends line kind → IsStateAfter line.begun line.kept line.held came → facts_of (without_return came) ≡ facts_of_kind kind (trimmed line.kept)
 line_is line kind came ends k =
     ap (λ (xs : List ℕ). facts_of (without_return xs)) (sym (append-nil came)) ∙ k.tells [] ∙ no_more line.held line.begun line.kept ∙ ends_at line.begun line.kept kind k.keeps ends.0 ends.1
 
@@ -86,7 +86,7 @@ any-append (x ∷ xs) ys a b =
     rw (or_parts (is_newline x) (list_any is_newline xs) a).0 (any-append xs ys (or_parts (is_newline x) (list_any is_newline xs) a).1 b)
 
 pub line_goes_on : (tally : Tally) (line new : LineState) (part fed : List ℕ) → list_any is_newline part ≡ false
-    → ((came : List ℕ) → Knows line.begun line.kept line.held came → Knows new.begun new.kept new.held (came ++ part)) → HasLines tally line fed → HasLines tally new (fed ++ part)
+    → ((came : List ℕ) → IsStateAfter line.begun line.kept line.held came → IsStateAfter new.begun new.kept new.held (came ++ part)) → HasLines tally line fed → HasLines tally new (fed ++ part)
 line_goes_on tally line new part fed none goes h = record {
   whole = h.whole;
   open_line = h.open_line ++ part;

@@ -1,19 +1,19 @@
 -- Lines that are read in parts.
 use Rattle.std.proofs.Common.{◌≡◌, ℕ, true, false, eqb, List, [], ◌∷◌, ◌++◌, refl, ap, sym, ◌∙◌, append_assoc}
-use Rattle.kt_claim.proofs.Common.{false≢true, facts_of, facts_with, is_decided, KeepsFor, Knows, Released, without_return, Begun}
-use Rattle.kt_claim.specs.declared.begun.Begun.TheVariants as begun
+use Rattle.kt_claim.proofs.Common.{false≢true, facts_of, facts_with, is_decided, KeepsFor, IsStateAfter, IsStateMidLine, without_return, LineProgress}
+use Rattle.kt_claim.specs.declared.begun.LineProgress.TheVariants as begun
 
 -- In a decided state, the bytes that follow don't change the facts of a line.
-pub decided : (b : Begun) (kept xs ys : List ℕ) → is_decided b ≡ true → facts_with b kept xs ≡ facts_with b kept ys
+pub decided : (b : LineProgress) (kept xs ys : List ℕ) → is_decided b ≡ true → facts_with b kept xs ≡ facts_with b kept ys
 decided (begun.Decided k) kept xs ys e = refl
 decided _ kept xs ys e = absurd (false≢true e)
 
 -- `TakesIn first state kept now part rest`: reading the bytes of `part` before `rest` leads from
 -- the state `first` to `state`, with equal facts. No byte was kept: `now` is `kept`.
-abbrev pub TakesIn : Begun → Begun → List ℕ → List ℕ → List ℕ → List ℕ → Type 0
+abbrev pub TakesIn : LineProgress → LineProgress → List ℕ → List ℕ → List ℕ → List ℕ → Type 0
 TakesIn first state kept now part rest = KeepsFor first kept → (now ≡ kept) × KeepsFor state now × ((more : List ℕ) → facts_with first kept (part ++ more) ≡ facts_with state now (rest ++ more))
 
-abbrev pub TookIn : Begun → Begun → List ℕ → List ℕ → List ℕ → Type 0
+abbrev pub TookIn : LineProgress → LineProgress → List ℕ → List ℕ → List ℕ → Type 0
 TookIn first state kept now part = KeepsFor first kept → KeepsFor state now × ((more : List ℕ) → facts_with first kept (part ++ more) ≡ facts_with state now more)
 
 -- ---- carriage returns
@@ -27,7 +27,7 @@ pub no_return : (b : ℕ) (more : List ℕ) → (eqb b 13) ≡ false → without
 no_return b [] e = rw e refl
 no_return b (c ∷ more) e = refl
 
-pub tells_all : (s : Begun) (kept came : List ℕ) → Released s kept came → (xs : List ℕ) (b : ℕ) (more : List ℕ)
+pub tells_all : (s : LineProgress) (kept came : List ℕ) → IsStateMidLine s kept came → (xs : List ℕ) (b : ℕ) (more : List ℕ)
     → facts_of (without_return (came ++ (xs ++ b ∷ more))) ≡ facts_with s kept (xs ++ without_return (b ∷ more))
 tells_all s kept came r [] b more = r.tells b more
 tells_all s kept came r (x ∷ xs) b more = r.tells x (xs ++ b ∷ more) ∙ ap (facts_with s kept) (return-append (x ∷ xs) b more)
@@ -36,8 +36,8 @@ pub snoc-more : (came front part more : List ℕ) (b : ℕ) → part ≡ front +
 snoc-more came front part more b parts = append_assoc came part more ∙ ap (λ (xs : List ℕ). came ++ xs) (ap (λ (xs : List ℕ). xs ++ more) parts ∙ append_assoc front (b ∷ []) more)
 
 -- A carriage return at the end of a part is held back.
-pub holds_back : (s next : Begun) (kept now came front part : List ℕ) (b : ℕ) → part ≡ front ++ b ∷ [] → b ≡ 13
-    → Released s kept came → TookIn s next kept now front → Knows next now true (came ++ part)
+pub holds_back : (s next : LineProgress) (kept now came front part : List ℕ) (b : ℕ) → part ≡ front ++ b ∷ [] → b ≡ 13
+    → IsStateMidLine s kept came → TookIn s next kept now front → IsStateAfter next now true (came ++ part)
 holds_back s next kept now came front part b parts is r took = let t = took r.keeps in record {
   keeps = t.0;
   tells = λ more. ap (λ (xs : List ℕ). facts_of (without_return xs)) (snoc-more came front part more b parts)
@@ -45,8 +45,8 @@ holds_back s next kept now came front part b parts is r took = let t = took r.ke
 }
 
 -- Another byte at the end of a part is not held back.
-pub holds_none : (s next : Begun) (kept now came front part : List ℕ) (b : ℕ) → part ≡ front ++ b ∷ [] → eqb b 13 ≡ false
-    → Released s kept came → TookIn s next kept now part → Knows next now false (came ++ part)
+pub holds_none : (s next : LineProgress) (kept now came front part : List ℕ) (b : ℕ) → part ≡ front ++ b ∷ [] → eqb b 13 ≡ false
+    → IsStateMidLine s kept came → TookIn s next kept now part → IsStateAfter next now false (came ++ part)
 holds_none s next kept now came front part b parts isnt r took = let t = took r.keeps in record {
   keeps = t.0;
   tells = λ more. ap (λ (xs : List ℕ). facts_of (without_return xs)) (snoc-more came front part more b parts)

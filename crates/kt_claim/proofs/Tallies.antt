@@ -1,6 +1,6 @@
 -- A tally with one more line.
 use Rattle.std.proofs.Common.{◌≡◌, ℕ, ◌+◌, ◌<◌, ◌^◌, Bool, true, false, List, [], ◌∷◌, ◌++◌, length, Option, Some, None, Result, Ok, Err, refl, ap, sym, subst, ◌∙◌, arith, ◌&&◌, ◌||◌, is_some, IfOk}
-use Rattle.kt_claim.proofs.Common.{list_any, filter_map, append-nil, Facts, facts_of, nothing, bailing, testing, planning, option_or, is_bail, is_test, is_unexcused, plan, count, heard, tap_of_lines, IsTally, one, first, has_second, with_plan, Tally}
+use Rattle.kt_claim.proofs.Common.{list_any, filter_map, append-nil, Facts, facts_of, nothing, bailing, test_facts, planning, option_or, is_bail, is_test, is_unexcused, plan, count, heard, tap_of_lines, IsTally, one, first, has_second, with_plan, Tally}
 use Rattle.kt_claim.proofs.Counts.{any-snoc, heard_none, heard_bail, heard_more, heard-le, count-snoc, count-le, plans-snoc, first-snoc, second-snoc}
 use Rattle.std.proofs.Math.Bool.{or-false}
 
@@ -60,7 +60,7 @@ or_and_false false true = refl
 or_and_false false false = refl
 
 -- A line without a plan leaves the plan of the tally as it is.
-pub no_plan : (old new : Tally) (line : List ℕ) (lines : List (List ℕ)) (tests fails : Bool) → facts_of line ≡ testing tests fails → old.bailed ≡ false → new.bailed ≡ false
+pub no_plan : (old new : Tally) (line : List ℕ) (lines : List (List ℕ)) (tests fails : Bool) → facts_of line ≡ test_facts tests fails → old.bailed ≡ false → new.bailed ≡ false
     → new.plan ≡ old.plan → new.second ≡ old.second → new.tests ≡ old.tests + one tests → new.failures ≡ old.failures + one fails
     → IsTally old lines → IsTally new (lines ++ line ∷ [])
 no_plan old new line lines tests fails is was goes plans seconds more worse h =
@@ -82,12 +82,12 @@ with_bail t new line lines is was made h =
     rw made (same_heard (record t { bailed = true }) lines (lines ++ line ∷ []) (heard_bail lines line none bails)
     (sym (any-snoc is_bail lines line ∙ ap (λ (b : Bool). b || is_bail line) none ∙ bails)) h.planned h.second h.tests h.failures)
 
-pub with_test : (t new : Tally) (line : List ℕ) (lines : List (List ℕ)) → facts_of line ≡ testing true false → t.bailed ≡ false
+pub with_test : (t new : Tally) (line : List ℕ) (lines : List (List ℕ)) → facts_of line ≡ test_facts true false → t.bailed ≡ false
     → (t.tests < 2 ^ 32 → new ≡ record t { tests = t.tests + 1 }) → length lines < 2 ^ 32 → IsTally t lines → IsTally new (lines ++ line ∷ [])
 with_test t new line lines is was made few h =
     rw (made (few_tests t lines few h)) (no_plan t (record t { tests = t.tests + 1 }) line lines true false is was was refl refl refl (omega arith) h)
 
-pub with_failure : (t mid new : Tally) (line : List ℕ) (lines : List (List ℕ)) → facts_of line ≡ testing true true → t.bailed ≡ false
+pub with_failure : (t mid new : Tally) (line : List ℕ) (lines : List (List ℕ)) → facts_of line ≡ test_facts true true → t.bailed ≡ false
     → (t.tests < 2 ^ 32 → mid ≡ record t { tests = t.tests + 1 }) → (mid.failures < 2 ^ 32 → new ≡ record mid { failures = mid.failures + 1 })
     → length lines < 2 ^ 32 → IsTally t lines → IsTally new (lines ++ line ∷ [])
 with_failure t mid new line lines is was halfway made few h =

@@ -1,6 +1,6 @@
 -- The keywords of a result file, with and without a number.
 use Rattle.std.proofs.Common.{◌≡◌, ℕ, suc, ◌+◌, Bool, true, false, not, cond, List, [], ◌∷◌, ◌++◌, length, take, drop, Option, Some, None, refl, ap, sym, subst, ◌∙◌, append_assoc, arith, ◌&&◌, ◌==◌, nat_le, nat_lt, codes, MatchOption, if◌then◌else◌}
-use Rattle.kt_claim.proofs.Common.{prefix_len, list_any, list_all, find, false≢true, eqb-true, ltb-true, lt-ltb, take-append-drop, is_digit, up_to, lossy, is_newline, newline, number, IsReason, IsNumber, with_reason, with_number, Says, has_bracket, closes, digits, after_digits, has_number, after_number, has_reason, fits_line, claim_with, numbered, reason_in, with_reason_in, closed, value_of, number_in, with_number_in, may_have_number, after_bracket, plainly, claim_after, Claim, ClaimFault, UnknownWord, BadNumber, UnexpectedReason, NoReason, Word}
+use Rattle.kt_claim.proofs.Common.{prefix_len, list_any, list_all, find, false≢true, eqb-true, ltb-true, lt-ltb, take-append-drop, is_digit, up_to, lossy, is_newline, newline, number, IsReason, IsNumber, with_reason, with_number, Says, has_bracket, closes, digits, after_digits, has_number, after_number, has_reason, line_has_fault, claim_with, numbered, reason_in, with_reason_in, closed, value_of, number_in, with_number_in, may_have_number, after_bracket, plainly, claim_after, Claim, ClaimFault, UnknownWord, BadNumber, UnexpectedReason, NoReason, Word}
 use Rattle.std.proofs.lemmas.Bool.Decides.{nat_tests}
 use Rattle.kt_claim.specs.ResultFile as says
 use Rattle.kt_claim.specs.declared.evidence.Claim.TheVariants as claim
@@ -13,7 +13,7 @@ use Rattle.std.proofs.lemmas.Bool.{and_parts, or_parts}
 -- `Agrees w rest c`: a line of the keyword `w` and `rest` spells the claim `c`, or `c` is the
 -- line's first error.
 abbrev pub Agrees : List ℕ → List ℕ → Claim → Type 0
-Agrees w rest c = MatchOption (find (fits_line w rest) (UnknownWord ∷ BadNumber ∷ UnexpectedReason ∷ NoReason ∷ [])) (Says (w ++ (rest ++ newline)) c) (λ g. c ≡ claim.Malformed g)
+Agrees w rest c = MatchOption (find (line_has_fault w rest) (UnknownWord ∷ BadNumber ∷ UnexpectedReason ∷ NoReason ∷ [])) (Says (w ++ (rest ++ newline)) c) (λ g. c ≡ claim.Malformed g)
 
 -- `Rows known number passed rest`: the first error of a line with `rest` after its keyword. The
 -- keyword is known if `known`, may have a number if `number`, and is `passed` if `passed`.

@@ -4,7 +4,7 @@ use Rattle.std.specs.List.{prefix_len, starts_with, ends_with, list_any, list_al
 use Rattle.kt_base.specs.Lossy.{lossy}
 use Rattle.kt_base.specs.Digits.{is_digit}
 use Rattle.kt_base.specs.Lines.{is_newline}
-use Rattle.kt_claim.specs.Bytes.{newline, is_word_byte, number}
+use Rattle.kt_claim.specs.Bytes.{newline, is_keyword_byte, number}
 use Rattle.kt_claim.specs.declared.evidence.Claim.{Claim}
 use Rattle.kt_claim.specs.declared.evidence.Claim.TheVariants.{Malformed, Passed, Failed, Skipped, ExpectedFailure, ExpectedDeath, ExpectedTimeout, ExpectedExit, ExpectedSignal}
 use Rattle.kt_claim.specs.declared.evidence.ClaimFault.{ClaimFault}
@@ -56,11 +56,11 @@ line file = take (length file - 1) file
 
 -- `word file`: the letters from a to z and underscores that the line of `file` begins with.
 abbrev pub word : List ℕ → List ℕ
-word file = take (prefix_len is_word_byte (line file)) (line file)
+word file = take (prefix_len is_keyword_byte (line file)) (line file)
 
 -- `after_word file`: the bytes of the file's line after `word file`.
 abbrev pub after_word : List ℕ → List ℕ
-after_word file = drop (prefix_len is_word_byte (line file)) (line file)
+after_word file = drop (prefix_len is_keyword_byte (line file)) (line file)
 
 -- `is expected found`: `found` is the keyword `expected`.
 abbrev pub is : List ℕ → List ℕ → Bool
@@ -107,14 +107,14 @@ after_number rest = if has_bracket rest then drop 1 (after_digits rest) else res
 abbrev pub has_reason : List ℕ → Bool
 has_reason rest = starts_with nat_eq rest (codes ": ") && nat_lt 2 (length rest)
 
--- `fits_line w rest fault`: a line of the keyword `w` and the bytes `rest` has the error `fault`,
+-- `line_has_fault w rest fault`: a line of the keyword `w` and the bytes `rest` has the error `fault`,
 -- if it has no earlier error of `rows`.
-abbrev pub fits_line : List ℕ → List ℕ → ClaimFault → Bool
-fits_line w rest UnknownWord = not (is_known w)
-fits_line w rest BadNumber = has_bracket rest && not (takes_number w && has_number rest)
-fits_line w rest UnexpectedReason = is (codes "passed") w && nat_lt 0 (length rest)
-fits_line w rest NoReason = not (is (codes "passed") w) && not (has_reason (after_number rest))
-fits_line w rest _ = false
+abbrev pub line_has_fault : List ℕ → List ℕ → ClaimFault → Bool
+line_has_fault w rest UnknownWord = not (is_known w)
+line_has_fault w rest BadNumber = has_bracket rest && not (takes_number w && has_number rest)
+line_has_fault w rest UnexpectedReason = is (codes "passed") w && nat_lt 0 (length rest)
+line_has_fault w rest NoReason = not (is (codes "passed") w) && not (has_reason (after_number rest))
+line_has_fault w rest _ = false
 
 -- `fits file fault`: `file` has the error `fault`, if it has no earlier error of `rows`.
 abbrev pub fits : List ℕ → ClaimFault → Bool
@@ -122,7 +122,7 @@ fits file TooLong = nat_lt limit (length file)
 fits file Empty = length file == 0
 fits file NoNewline = not (ends_with nat_eq file newline)
 fits file SeveralLines = list_any is_newline (line file)
-fits file fault = fits_line (word file) (after_word file) fault
+fits file fault = line_has_fault (word file) (after_word file) fault
 
 -- `rows`: the errors in their order. A file has the first error that fits it.
 abbrev pub rows : List ClaimFault

@@ -2,7 +2,7 @@
 use Rattle.std.specs.Prelude.{◌≡◌, ℕ, ◌<◌, ◌≤◌, ◌⊎◌, Bool, true, false, List, [], ◌++◌, length, Some}
 use Rattle.kt_base.specs.Lines.{lines}
 use Rattle.kt_claim.specs.TapStream.{limit, without_return, trimmed, skip_reason, plan}
-use Rattle.kt_claim.specs.Inner.LineStates.{LineState, held_before}
+use Rattle.kt_claim.specs.Inner.LineStates.{LineState, with_held_return}
 use Rattle.kt_claim.specs.Inner.TapReading.{HasLines}
 use Rattle.kt_claim.specs.declared.tally.Tally.{Tally}
 
@@ -16,20 +16,20 @@ pub record StreamReading : Type 0 where
   pub too_long : Bool
   pub failed : Bool
 
--- `HoldsStream too_long reader fed`: if `too_long` is true, `fed` is longer than the limit.
+-- `RepresentsStream too_long reader fed`: if `too_long` is true, `fed` is longer than the limit.
 -- Otherwise, `reader` has the length, the counts and the open line of `fed`.
-abbrev pub HoldsStream : Bool → StreamReading → List ℕ → Type 0
-HoldsStream true reader fed = limit < length fed
-HoldsStream false reader fed = (reader.length ≡ length fed) × (length fed ≤ limit) × HasLines reader.tally reader.line fed
+abbrev pub RepresentsStream : Bool → StreamReading → List ℕ → Type 0
+RepresentsStream true reader fed = limit < length fed
+RepresentsStream false reader fed = (reader.length ≡ length fed) × (length fed ≤ limit) × HasLines reader.tally reader.line fed
 
 -- `HasStream reader fed`: `reader` has read the bytes `fed`, and no allocation failed.
 abbrev pub HasStream : StreamReading → List ℕ → Type 0
-HasStream reader fed = (reader.failed ≡ false) × HoldsStream reader.too_long reader fed
+HasStream reader fed = (reader.failed ≡ false) × RepresentsStream reader.too_long reader fed
 
--- `KeepsLittle line fed`: `line` keeps no bytes of `fed`, or only the reason of a plan of no tests.
+-- `KeepsOnlyReason line fed`: `line` keeps no bytes of `fed`, or only the reason of a plan of no tests.
 -- That is the reason in the open line of `fed`, as far as it was read.
-abbrev pub KeepsLittle : LineState → List ℕ → Type 0
-KeepsLittle line fed =
+abbrev pub KeepsOnlyReason : LineState → List ℕ → Type 0
+KeepsOnlyReason line fed =
     (line.kept ≡ [])
     ⊎ ((whole : List (List ℕ)) × (came : List ℕ) × ((more : List ℕ) → lines (fed ++ more) ≡ whole ++ lines (came ++ more))
-    × ((more : List ℕ) → plan (without_return (came ++ more)) ≡ Some (0, skip_reason (trimmed (line.kept ++ without_return (held_before line.held more))))))
+    × ((more : List ℕ) → plan (without_return (came ++ more)) ≡ Some (0, skip_reason (trimmed (line.kept ++ without_return (with_held_return line.held more))))))

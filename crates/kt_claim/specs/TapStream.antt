@@ -52,9 +52,9 @@ abbrev pub front : (ℕ → Bool) → List ℕ → List ℕ
 front test [] = []
 front test (b ∷ text) = if test b then b ∷ front test text else []
 
--- `not_blank b`: `b` is neither a space nor a tab.
-abbrev pub not_blank : ℕ → Bool
-not_blank b = not (is_blank b)
+-- `is_not_blank b`: `b` is neither a space nor a tab.
+abbrev pub is_not_blank : ℕ → Bool
+is_not_blank b = not (is_blank b)
 
 -- `trimmed text`: `text` without the blanks at its end.
 abbrev pub trimmed : List ℕ → List ℕ
@@ -72,17 +72,17 @@ abbrev pub is_gap : List ℕ → Bool
 is_gap [] = true
 is_gap (b ∷ rest) = is_blank b
 
--- `begins_with_word word line`: the line begins with `word`, and a blank or the end follows.
-abbrev pub begins_with_word : List ℕ → List ℕ → Bool
-begins_with_word word line = begins word line && is_gap (drop (length word) line)
+-- `starts_with_word word line`: the line begins with `word`, and a blank or the end follows.
+abbrev pub starts_with_word : List ℕ → List ℕ → Bool
+starts_with_word word line = begins word line && is_gap (drop (length word) line)
 
 -- `is_not_ok line`: `line` is a failed test, with a directive or not.
 abbrev pub is_not_ok : List ℕ → Bool
-is_not_ok line = begins_with_word (codes "not ok") line
+is_not_ok line = starts_with_word (codes "not ok") line
 
 -- `is_test line`: `line` is a test, passed or failed.
 abbrev pub is_test : List ℕ → Bool
-is_test line = begins_with_word (codes "ok") line || is_not_ok line
+is_test line = starts_with_word (codes "ok") line || is_not_ok line
 
 -- ---- directives
 
@@ -94,7 +94,7 @@ Directive = Bool × List ℕ
 -- `reason_of text`: the reason in `text`, the bytes after the four letters of a directive. The rest
 -- of the directive's word and the blanks around the reason are left out.
 abbrev pub reason_of : List ℕ → List ℕ
-reason_of text = trimmed (past is_blank (past not_blank text))
+reason_of text = trimmed (past is_blank (past is_not_blank text))
 
 -- `directive_at text`: the directive that `text` begins with, if any.
 abbrev pub directive_at : List ℕ → Option Directive
@@ -103,16 +103,16 @@ directive_at text =
     else if says (codes "skip") text then Some (true, reason_of (drop 4 text))
     else None
 
--- `after_hash escaped b rest`: the directive that `rest` begins with after blanks, if the byte `b`
+-- `state_after_hash escaped b rest`: the directive that `rest` begins with after blanks, if the byte `b`
 -- before it is a hash (35) and `escaped` is false.
-abbrev pub after_hash : Bool → ℕ → List ℕ → Option Directive
-after_hash escaped b rest = if b == 35 && not escaped then directive_at (past is_blank rest) else None
+abbrev pub state_after_hash : Bool → ℕ → List ℕ → Option Directive
+state_after_hash escaped b rest = if b == 35 && not escaped then directive_at (past is_blank rest) else None
 
 -- `directive_in escaped text`: the first directive in `text`, if any. `escaped` is true if a
 -- backslash precedes `text`.
 abbrev pub directive_in : Bool → List ℕ → Option Directive
 directive_in escaped [] = None
-directive_in escaped (b ∷ rest) = option_or (after_hash escaped b rest) (directive_in (b == 92) rest)
+directive_in escaped (b ∷ rest) = option_or (state_after_hash escaped b rest) (directive_in (b == 92) rest)
 
 -- `directive line`: the first directive in `line`, if any.
 abbrev pub directive : List ℕ → Option Directive
@@ -193,18 +193,18 @@ compared planned reason tests failures =
     else if tests == 0 then SkipAll reason
     else Counted failures tests
 
--- `by_plans plans tests failures`: the result of a stream without a bail out, by its plans and the
+-- `tap_of_plans plans tests failures`: the result of a stream without a bail out, by its plans and the
 -- numbers of tests and failures.
-abbrev pub by_plans : List (ℕ × List ℕ) → ℕ → ℕ → Tap
-by_plans [] tests failures = Invalid NoPlan
-by_plans ((planned, reason) ∷ []) tests failures = compared planned reason tests failures
-by_plans (one ∷ other ∷ more) tests failures = Invalid SecondPlan
+abbrev pub tap_of_plans : List (ℕ × List ℕ) → ℕ → ℕ → Tap
+tap_of_plans [] tests failures = Invalid NoPlan
+tap_of_plans ((planned, reason) ∷ []) tests failures = compared planned reason tests failures
+tap_of_plans (one ∷ other ∷ more) tests failures = Invalid SecondPlan
 
 -- `tap_of_lines lines`: the result of the lines of a stream.
 abbrev pub tap_of_lines : List (List ℕ) → Tap
 tap_of_lines lines =
     if list_any is_bail lines then BailedOut
-    else by_plans (filter_map plan (heard lines)) (count is_test (heard lines)) (count is_unexcused (heard lines))
+    else tap_of_plans (filter_map plan (heard lines)) (count is_test (heard lines)) (count is_unexcused (heard lines))
 
 -- `tap_of text`: the result of the TAP stream `text`.
 abbrev pub tap_of : List ℕ → Tap

@@ -26,7 +26,7 @@ pub enum Letters {
 
 /// A reason to look for a directive in a line.
 #[derive(Clone, Copy)]
-pub enum Purpose {
+pub enum DirectivePurpose {
     /// A directive excuses a failed test.
     Excuse,
     /// A directive explains a plan of no tests.
@@ -44,7 +44,7 @@ pub enum Opening {
 
 /// A state of the reader within a TAP line, after the bytes of the line that were read.
 #[derive(Clone, Copy)]
-pub enum Begun {
+pub enum LineProgress {
     /// No byte was read.
     Nothing,
     /// A part of an opening, of which these bytes are missing.
@@ -55,11 +55,11 @@ pub enum Begun {
     Blanks(u64),
     /// Bytes without a directive, which may follow. The flag is `true` if the last byte is a
     /// backslash.
-    Looking(Purpose, bool),
+    Looking(DirectivePurpose, bool),
     /// A hash, and blanks if any. A directive may follow.
-    Hash(Purpose),
+    Hash(DirectivePurpose),
     /// A hash, blanks if any, and the first letters of a directive.
-    Lettered(Purpose, Letters),
+    DirectiveLetters(DirectivePurpose, Letters),
     /// A skip directive, with more bytes of its word if any.
     Word,
     /// Blanks after the word of a skip directive.
@@ -74,7 +74,7 @@ pub enum Begun {
 #[derive(Drop)]
 pub struct OpenLine {
     /// The state of the reader within the line.
-    pub begun: Begun,
+    pub begun: LineProgress,
     /// The reason of a plan of no tests, as far as it was read.
     pub kept: Vec<u8>,
     /// `true` if the last byte was a carriage return, which belongs to the line only if more bytes

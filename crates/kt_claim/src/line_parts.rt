@@ -1,9 +1,9 @@
 //! Reads the parts of a line, and finds the kind of a line at its end.
 
 ghost use Rattle.std.specs.Prelude.{◌≡◌, ◌∷◌, ◌++◌, ℕ, List, [], IfOk, OnOk, None, false, true};
-ghost use Rattle.kt_claim.specs.Common.{facts_with, is_kept, is_decided, KeepsFor, Knows, Released, trimmed, after_opening, directed, facts_of_kind, is_reason};
+ghost use Rattle.kt_claim.specs.Common.{facts_with, is_kept, is_decided, KeepsFor, IsStateAfter, IsStateMidLine, trimmed, after_opening, directed, facts_of_kind, is_reason};
 
-use crate::begun::{Begun, LineKind, OpenLine, Opening, Purpose};
+use crate::begun::{DirectivePurpose, LineKind, LineProgress, OpenLine, Opening};
 use crate::line_steps::{LIMIT, is_blank, step};
 use kt_base::NoMemory;
 
@@ -38,7 +38,7 @@ fn lone(opening: Opening) -> LineKind
 /// `lacks` are the missing bytes of the opening.
 fn opened(opening: Opening, lacks: &'static [u8]) -> LineKind
     ensures { (kept : List ℕ) → facts_of_kind result []
-        ≡ facts_with (Begun.Opened opening lacks.entry) kept [] }
+        ≡ facts_with (LineProgress.Opened opening lacks.entry) kept [] }
 {
     if lacks.is_empty() {
         lone(opening)
@@ -51,7 +51,7 @@ fn opened(opening: Opening, lacks: &'static [u8]) -> LineKind
 ///
 /// With 1,000,000,000 tests or more, the line is not a plan.
 fn planned(tests: u64) -> LineKind
-    ensures { (kept : List ℕ) → facts_of_kind result [] ≡ facts_with (Begun.Blanks tests) kept [] }
+    ensures { (kept : List ℕ) → facts_of_kind result [] ≡ facts_with (LineProgress.Blanks tests) kept [] }
 {
     if tests < LIMIT {
         LineKind::Plan(tests)
@@ -64,7 +64,7 @@ fn planned(tests: u64) -> LineKind
 ///
 /// `value` is the value of the digits. Without digits, it is `None`, and the line is not a plan.
 fn counted(value: Option<u64>) -> LineKind
-    ensures { (kept : List ℕ) → facts_of_kind result [] ≡ facts_with (Begun.Digits value) kept [] }
+    ensures { (kept : List ℕ) → facts_of_kind result [] ≡ facts_with (LineProgress.Digits value) kept [] }
 {
     match value {
         None => LineKind::Other,
@@ -75,61 +75,65 @@ fn counted(value: Option<u64>) -> LineKind
 /// Returns the kind of a TAP line that ends without a directive.
 ///
 /// It is a failed test for `Excuse`, and a plan of no tests for `Explain`.
-fn undirected(purpose: Purpose) -> LineKind
+fn undirected(purpose: DirectivePurpose) -> LineKind
     ensures { facts_of_kind result [] ≡ directed purpose None }
 {
     match purpose {
-        Purpose::Excuse => LineKind::Failure,
-        Purpose::Explain => LineKind::Plan(0),
+        DirectivePurpose::Excuse => LineKind::Failure,
+        DirectivePurpose::Explain => LineKind::Plan(0),
     }
 }
 
 /// Returns the kind of a TAP line that ends in the state `begun`.
 ///
 /// The kind of a plan of no tests does not contain the plan's reason.
-pub fn ended(begun: Begun) -> LineKind
+pub fn ended(begun: LineProgress) -> LineKind
     ensures plain { is_reason begun ≡ false → (kept : List ℕ)
         → facts_of_kind result [] ≡ facts_with begun kept [] }
     ensures reason { is_reason begun ≡ true → result ≡ LineKind.Plan 0 }
 {
     match begun {
-        Begun::Nothing => LineKind::Other,
-        Begun::Opened(opening, lacks) => opened(opening, lacks),
-        Begun::Digits(value) => counted(value),
-        Begun::Blanks(tests) => planned(tests),
-        Begun::Looking(purpose, _) => undirected(purpose),
-        Begun::Hash(purpose) => undirected(purpose),
-        Begun::Lettered(purpose, _) => undirected(purpose),
-        Begun::Word => LineKind::Plan(0),
-        Begun::Gap => LineKind::Plan(0),
-        Begun::Reason => LineKind::Plan(0),
-        Begun::Decided(kind) => kind,
+        LineProgress::Nothing => LineKind::Other,
+        LineProgress::Opened(opening, lacks) => opened(opening, lacks),
+        LineProgress::Digits(value) => counted(value),
+        LineProgress::Blanks(tests) => planned(tests),
+        LineProgress::Looking(purpose, _) => undirected(purpose),
+        LineProgress::Hash(purpose) => undirected(purpose),
+        LineProgress::DirectiveLetters(purpose, _) => undirected(purpose),
+        LineProgress::Word => LineKind::Plan(0),
+        LineProgress::Gap => LineKind::Plan(0),
+        LineProgress::Reason => LineKind::Plan(0),
+        LineProgress::Decided(kind) => kind,
     }
 }
 
 /// Returns `true` if the byte `b` belongs to a reason after the state `begun`.
-fn is_kept(begun: Begun, b: u8) -> bool
+fn is_kept(begun: LineProgress, b: u8) -> bool
     ensures { result ≡ is_kept begun b }
 {
     match begun {
-        Begun::Reason => true,
-        Begun::Gap => !is_blank(b),
+        LineProgress::Reason => true,
+        LineProgress::Gap => !is_blank(b),
         _ => false,
     }
 }
 
 /// Returns `true` if the kind of a TAP line in the state `begun` is known.
-fn is_decided(begun: Begun) -> bool
+fn is_decided(begun: LineProgress) -> bool
     ensures { result ≡ is_decided begun }
 {
-    matches!(begun, Begun::Decided(_))
+    matches!(begun, LineProgress::Decided(_))
 }
 
 /// Reads the next bytes of a TAP line, and returns the new state.
 ///
 /// Bytes of a reason are appended to `kept`. Once the kind of the line is known, the rest is
 /// ignored.
-fn take_in(begun: Begun, kept: &mut Vec<u8>, part: &[u8]) -> Result<Begun, NoMemory>
+fn feed_bytes(
+    begun: LineProgress,
+    kept: &mut Vec<u8>,
+    part: &[u8],
+) -> Result<LineProgress, NoMemory>
     ensures { IfOk result (λ after. KeepsFor begun kept.old.items → KeepsFor after kept.new.items
         × ((more : List ℕ) → facts_with begun kept.old.items (part.now ++ more)
         ≡ facts_with after kept.new.items more)) }
@@ -142,7 +146,7 @@ fn take_in(begun: Begun, kept: &mut Vec<u8>, part: &[u8]) -> Result<Begun, NoMem
         }
         if is_kept(state, *b) {
             kept.extend_from_slice(rest)?;
-            return Ok(Begun::Reason);
+            return Ok(LineProgress::Reason);
         }
         state = step(state, *b);
         rest = after;
@@ -153,12 +157,12 @@ fn take_in(begun: Begun, kept: &mut Vec<u8>, part: &[u8]) -> Result<Begun, NoMem
 /// Reads the carriage return that was held back, if `held` is `true`, and returns the new state.
 ///
 /// The caller has more bytes of the TAP line, so the carriage return is not at its end.
-fn release(begun: Begun, kept: &mut Vec<u8>, held: bool) -> Result<Begun, NoMemory>
-    ensures { IfOk result (λ after. (came : List ℕ) → Knows begun kept.old.items held came
-        → Released after kept.new.items came) }
+fn release(begun: LineProgress, kept: &mut Vec<u8>, held: bool) -> Result<LineProgress, NoMemory>
+    ensures { IfOk result (λ after. (came : List ℕ) → IsStateAfter begun kept.old.items held came
+        → IsStateMidLine after kept.new.items came) }
 {
     if held {
-        take_in(begun, kept, b"\r")
+        feed_bytes(begun, kept, b"\r")
     } else {
         Ok(begun)
     }
@@ -173,19 +177,19 @@ fn release(begun: Begun, kept: &mut Vec<u8>, held: bool) -> Result<Begun, NoMemo
 /// - `NoMemory`: an allocation fails.
 pub fn go_on(line: &mut OpenLine, part: &[u8]) -> Result<(), NoMemory>
     ensures { OnOk result ((came : List ℕ)
-        → Knows line.old.begun line.old.kept.items line.old.held came
-        → Knows line.new.begun line.new.kept.items line.new.held (came ++ part.now)) }
+        → IsStateAfter line.old.begun line.old.kept.items line.old.held came
+        → IsStateAfter line.new.begun line.new.kept.items line.new.held (came ++ part.now)) }
 {
     let Some((last, front)) = part.split_last() else {
         return Ok(());
     };
     let begun = release(line.begun, &mut line.kept, line.held)?;
     if *last == b'\r' {
-        line.begun = take_in(begun, &mut line.kept, front)?;
+        line.begun = feed_bytes(begun, &mut line.kept, front)?;
         line.held = true;
         return Ok(());
     }
-    line.begun = take_in(begun, &mut line.kept, part)?;
+    line.begun = feed_bytes(begun, &mut line.kept, part)?;
     line.held = false;
     Ok(())
 }

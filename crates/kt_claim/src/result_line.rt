@@ -2,7 +2,7 @@
 
 ghost use Rattle.std.specs.Prelude.{◌≡◌, ◌≤◌, length, IfOk, option_map};
 ghost use Rattle.std.specs.List.{prefix_len};
-ghost use Rattle.kt_claim.specs.Bytes.{is_word_byte};
+ghost use Rattle.kt_claim.specs.Bytes.{is_keyword_byte};
 ghost use Rattle.kt_claim.specs.ResultFile.{limit};
 ghost use Rattle.kt_claim.specs.Inner.ResultReading.{number_in, reason_in, numbered, claim_with, after_bracket, claim_of, word_of, may_have_number};
 
@@ -54,7 +54,7 @@ impl Word {
 
 /// Returns the number of letters from a to z and underscores that `text` begins with.
 fn word_length(text: &[u8]) -> usize
-    ensures value { result ≡ prefix_len is_word_byte text.now }
+    ensures value { result ≡ prefix_len is_keyword_byte text.now }
     ensures within { result ≤ length text.now }
 {
     text.iter()

@@ -5,14 +5,14 @@ ghost use Rattle.kt_claim.specs.Common.{list_any, is_newline, tap_of_lines, line
 ghost use Rattle.kt_claim.specs.TapStream.{limit};
 
 use crate::Tap;
-use crate::begun::{Begun, OpenLine};
+use crate::begun::{LineProgress, OpenLine};
 use crate::line_parts::{ended, go_on, trimmed};
 use crate::tally::Tally;
 use kt_base::{NoMemory, line_length};
 use std::alloc::Global;
 
 /// Reads `part`, the next bytes of the open line `line` of a TAP stream.
-fn take_part(line: &mut OpenLine, part: &[u8]) -> Result<(), NoMemory>
+fn feed_part(line: &mut OpenLine, part: &[u8]) -> Result<(), NoMemory>
     ensures { OnOk result (list_any is_newline part.now ≡ false → (tally : Tally) (fed : List ℕ)
         → HasLines tally (state_of line.old) fed
         → HasLines tally (state_of line.new) (fed ++ part.now)) }
@@ -29,7 +29,7 @@ fn end_line(alloc: Global, tally: Tally, line: &mut OpenLine) -> Result<Tally, N
         → HasLines after (state_of line.new) (fed ++ 10 ∷ [])) }
 {
     let after = tally.add(alloc, ended(line.begun), trimmed(&line.kept))?;
-    line.begun = Begun::Nothing;
+    line.begun = LineProgress::Nothing;
     line.kept.clear();
     line.held = false;
     Ok(after)
@@ -71,7 +71,7 @@ pub fn read(
     let mut rest = piece;
     while !rest.is_empty() {
         let (part, after) = rest.split_at(line_length(rest));
-        take_part(line, part)?;
+        feed_part(line, part)?;
         let Some((_, after)) = after.split_first() else {
             return Ok(tally);
         };

@@ -1,7 +1,7 @@
 ghost use Rattle.std.specs.Prelude.{◌≡◌, IfOk};
 ghost use Rattle.kt_claim.specs.Common.{tap_of};
 
-use crate::begun::{Begun, OpenLine};
+use crate::begun::{LineProgress, OpenLine};
 use crate::tally::Tally;
 use crate::tap_lines::{read, tap_at_end};
 use crate::{Tap, TapFault};
@@ -48,7 +48,7 @@ impl Model for TapReader {
 
 impl TapReader {
     ghost use Rattle.std.specs.Prelude.{false, ◌≡◌, ◌++◌, ℕ, List, [], true, IfOk, OnOk, OnErr, IsErr};
-    ghost use Rattle.kt_claim.specs.Common.{HasStream, KeepsLittle, tap_of};
+    ghost use Rattle.kt_claim.specs.Common.{HasStream, KeepsOnlyReason, tap_of};
 
     /// Creates a reader that has read nothing. The call doesn't allocate.
     pub fn new(alloc: Global) -> Self
@@ -58,7 +58,7 @@ impl TapReader {
             alloc,
             tally: Tally::new(),
             line: OpenLine {
-                begun: Begun::Nothing,
+                begun: LineProgress::Nothing,
                 kept: Vec::new(alloc),
                 held: false,
             },
@@ -79,7 +79,7 @@ impl TapReader {
         ensures ok { OnOk result ((fed : List ℕ) → HasStream self.old fed
             → HasStream self.new (fed ++ piece.now)) }
         ensures bounded { (fed : List ℕ) → HasStream self.new fed → self.new.too_long ≡ false
-            → KeepsLittle self.new.line fed }
+            → KeepsOnlyReason self.new.line fed }
         ensures err { OnErr result (self.new.failed ≡ true) }
         ensures failed { self.old.failed ≡ true → IsErr result }
     {

@@ -19,13 +19,13 @@ pub use Rattle.kt_base.specs.declared.verdict.Kind.{Kind}
 pub use Rattle.kt_base.specs.declared.entry.Run.{Run}
 pub use Rattle.kt_child.specs.Driving.ChildrenState.{ChildrenState, idle_state, is_among}
 pub use Rattle.kt_plan.proofs.PlansFit.{plan_fits}
-pub use Rattle.kt_plan.specs.Questions.{OfHost, OfTree, Question, leads_by, of_host}
+pub use Rattle.kt_plan.specs.Questions.{CallToHost, CallToTree, WorldCall, leads_by, host_calls}
 pub use Rattle.kt_plan.specs.declared.cases.Candidate.{Candidate}
 pub use Rattle.kt_report.proofs.InTurn.{shows_cut_off, shows_whole}
 pub use Rattle.kt_report.specs.Junits.{case_bytes, ending, heading, junit_bytes}
 pub use Rattle.kt_report.specs.Lines.{line_bytes}
-pub use Rattle.kt_report.specs.Pairs.{entry_bytes, with_meta}
-pub use Rattle.kt_report.specs.Texts.{IsDateOf, by_section, chosen_of, entries_of, is_of, last_kind, opening, same_kind, summary, text_bytes, titled_lines}
+pub use Rattle.kt_report.specs.Pairs.{entry_bytes, with_properties}
+pub use Rattle.kt_report.specs.Texts.{IsDateOf, entries_by_section, chosen_of, entries_of, is_of, last_kind, opening, same_kind, summary, text_bytes, titled_lines}
 pub use Rattle.kt_sched.specs.Children.{IsIdle}
 pub use Rattle.kt_sched.specs.EntryOf.{AreEntries, Gains, IsEntry, IsEntryOf, decided, ended, refused}
 pub use Rattle.kt_sched.specs.Plan.{IsPlan}
@@ -40,7 +40,7 @@ pub use Rattle.kt_sched.specs.declared.totals.Totals.{Totals}
 pub use Rattle.kt_store.specs.Ask.{IsStoreFault}
 pub use Rattle.kt_store.specs.Heads.{IsNumbered, entry_at, head_at, head_of, outlined, outputs_of, without_outputs, without_pairs}
 pub use Rattle.kt_store.specs.Runs.{AreNumbered, finish, finish_refusal, finish_refusal_of, has_position, insert_at, new_run, put_refusal, put_refusal_of, run_at, with_entry}
-pub use Rattle.kt_store.specs.Serving.{Agrees, Outlasts, Serves, changed_by}
+pub use Rattle.kt_store.specs.Serving.{Agrees, SurvivesCrash, Serves, runs_after}
 pub use Rattle.kt_store.specs.StoreCalls.{Began, Finished, Head, Outline, Outputs, Pairs, Put, StoreCall}
 pub use Rattle.kt_store.specs.declared.result_store.CaseOutputs.{CaseOutputs}
 pub use Rattle.kt_store.specs.declared.result_store.RunHead.{RunHead}
@@ -54,27 +54,27 @@ unfoldable pub use Rattle.std.specs.Str.{chars}
 pub use Rattle.kt_cli.specs.CaseLines.{case_line}
 pub use Rattle.kt_cli.specs.Debugging.{all_debug_bytes, debug_bytes, debug_exit}
 pub use Rattle.kt_cli.specs.FaultLines.{memory_line, refusal_line}
-pub use Rattle.kt_cli.specs.HostAnswers.{IsHostAnswer, IsLook, host_world, look_kept, running_kept}
-pub use Rattle.kt_cli.specs.Inner.Debugging.{DebugEnds, Debugged, Prints}
+pub use Rattle.kt_cli.specs.HostAnswers.{IsHostAnswer, IsFileCall, host_world, look_kept, running_kept}
+pub use Rattle.kt_cli.specs.Inner.Debugging.{DebugEnds, ExecutesDebug, Prints}
 pub use Rattle.kt_cli.specs.Inner.FaultLines.{run_line}
 pub use Rattle.kt_cli.specs.Inner.MemoryRuns.{FindsPlace, ServesInMemory, closing_refusal, entry_refusal, place_among}
 pub use Rattle.kt_cli.specs.Inner.Pages.{Says, SaysMore}
 pub use Rattle.kt_cli.specs.Inner.Recording.{Recorded, Recording, recording, sink_fault_of}
 pub use Rattle.kt_cli.specs.Inner.Recordings.{RecordEnds, RecordedAll, RecordedNone, RecordedSome, Records}
-pub use Rattle.kt_cli.specs.Inner.Reports.{DidReport, EndsEntries, JunitOrUnread, TextOrUnread, WritesEntries, WritesFirst, WritesJunit, WritesText}
+pub use Rattle.kt_cli.specs.Inner.Reports.{WritesReport, EndsEntries, JunitOrUnread, TextOrUnread, WritesEntries, WritesFirst, WritesJunit, WritesText}
 pub use Rattle.kt_cli.specs.Inner.Stores.{put_all}
-pub use Rattle.kt_cli.specs.Inner.Testing.{RanPlan}
-pub use Rattle.kt_cli.specs.Machines.{InDirectory, HostResponse, Searched, directories, further, here, nowhere}
-pub use Rattle.kt_cli.specs.Meaning.{AsksFirst, Course, CutShort, CommandResult, IsAskedOnly, IsPrepared, IsUnasked, Means, Seen, cut, debugged, nothing_to_debug, junit_cut, listed, listing, listing_exit, no_memory, preparing, report_cut, reported, reported_junit, selecting, stopped, taken, tested, text_cut}
+pub use Rattle.kt_cli.specs.Inner.Testing.{ExecutesPlan}
+pub use Rattle.kt_cli.specs.Machines.{HasProgram, HostResponse, SearchesDirectories, directories, further, here, nowhere}
+pub use Rattle.kt_cli.specs.Meaning.{MakesCallPrefix, LeadsWorld, EndsEarly, CommandResult, OnlyListsCases, IsPrepared, MakesNoCalls, Means, CommandCalls, cut, debugged, nothing_to_debug, junit_cut, listed, listing, listing_exit, no_memory, preparing, report_cut, reported, reported_junit, selecting, stopped, taken, tested, text_cut}
 pub use Rattle.kt_cli.specs.MemoryRuns.{LeavesInMemory, memory_runs}
 pub use Rattle.kt_cli.specs.Pages.{Printed}
 pub use Rattle.kt_cli.specs.Performing.{RunsCommand, WithResults, OverProcesses, NoRoot, Program, State, needs_nothing, closed, done, no_driver, no_surroundings, no_world, none_made, not_absolute, not_opened, program, state}
 pub use Rattle.kt_cli.specs.Recordings.{AllRecorded, IsStopped}
-pub use Rattle.kt_cli.specs.Reports.{DifferInOutputs, DifferInPairs, JunitCut, Misses, Reported, ReportedJunit, TextCut, Unread, asked_outputs, asked_pairs, ending_of, next_bytes, no_outputs, no_pairs, no_run, run_of, run_shown, pairs_shown, no_output}
+pub use Rattle.kt_cli.specs.Reports.{DifferInOutputs, DifferInPairs, JunitEndsEarly, LacksRun, Reported, ReportedJunit, TextEndsEarly, RunIsUnreadable, asked_outputs, asked_pairs, ending_of, next_bytes, no_outputs, no_pairs, no_run, run_of, run_shown, pairs_shown, no_output}
 pub use Rattle.kt_cli.specs.Scenes.{Scene, World, launcher_of, scene, with_store, world_of}
-pub use Rattle.kt_cli.specs.SoundStores.{Left, with_new}
-pub use Rattle.kt_cli.specs.Stores.{Agree, Stored, beside, beside_by, by_position, changed, put_among, puts}
-pub use Rattle.kt_cli.specs.Testing.{PlannedRun, TestCut, Tested, begins, exit_of, not_begun, not_finished, not_put, not_run, results, results_exit, run_for}
+pub use Rattle.kt_cli.specs.SoundStores.{StoreIsSound, with_new}
+pub use Rattle.kt_cli.specs.Stores.{Agree, CallsStore, beside, crash_runs_after, by_position, changed, put_among, puts}
+pub use Rattle.kt_cli.specs.Testing.{PlannedRun, TestEndsEarly, Tested, begins, exit_of, not_begun, not_finished, not_put, not_run, results, results_exit, run_for}
 pub use Rattle.kt_cli.specs.Totals.{bad_count, good_count, lines}
 pub use Rattle.kt_cli.specs.Warnings.{warning_at, warnings}
 pub use Rattle.kt_cli.specs.declared.commands.report_stop.JunitStop.TheVariants.{Refused, Report}

@@ -1,7 +1,7 @@
 -- Entries that are recorded and printed one after the other.
 use Rattle.std.proofs.Common.{Option, Result, Ok, Err, count_by, take, ◌==◌, ◌≤◌, ◌≡◌, ℕ, Bool, List, [], ◌∷◌, ◌++◌, length, refl, sym, ap, ◌∙◌, subst, append-nil}
 use Rattle.std.proofs.Math.Seq.{take-length}
-use Rattle.kt_cli.proofs.Common.{Entry, line_bytes, Job, SinkFault, Totals, RunFault, NoMemory, SinkFailed, Gains, AreEntries, recorded, EndsAs, Trace, StoreCall, Put, Says, Recorded, Recording, RecordEnds, Stored, puts, lines}
+use Rattle.kt_cli.proofs.Common.{Entry, line_bytes, Job, SinkFault, Totals, RunFault, NoMemory, SinkFailed, Gains, AreEntries, recorded, EndsAs, Trace, StoreCall, Put, Says, Recorded, Recording, RecordEnds, CallsStore, puts, lines}
 use Rattle.kt_store.specs.declared.result_store.StoreSpec as keeping
 use Rattle.kt_cli.proofs.Saying.{says_both, says_nothing}
 use Rattle.kt_cli.proofs.StoreChains.{stored_none, stored_both, stored_as}
@@ -17,7 +17,7 @@ module _ {S R : Type 0} (keep : keeping.Ghosts R) (gives : S → Entry → Resul
     pub same_store : name t ≡ name s
     pub same_out : other t ≡ other s
     pub same_number : (state t).number ≡ (state s).number
-    pub stored : Stored keep (puts (state s).number es ++ last) (state s).store (state t).store
+    pub stored : CallsStore keep (puts (state s).number es ++ last) (state s).store (state t).store
     pub says : Says (state s).held (state s).failed (state t).held (state t).failed (lines es)
 
   -- a recorder that accepted entries has put and printed them
@@ -33,7 +33,7 @@ module _ {S R : Type 0} (keep : keeping.Ghosts R) (gives : S → Entry → Resul
         same_out = r.same_out ∙ p.1;
         same_number = r.same_number ∙ p.2.0;
         stored = stored_both keep (Put (state s).number e (Ok tt) ∷ []) (puts (state s).number es ++ []) (state s).store (state m).store (state t).store p.2.1
-            (subst (λ (i : ℕ). Stored keep (puts i es ++ []) (state m).store (state t).store) p.2.0 r.stored);
+            (subst (λ (i : ℕ). CallsStore keep (puts i es ++ []) (state m).store (state t).store) p.2.0 r.stored);
         says = says_both (state s).held (state m).held (state t).held (state s).failed (state m).failed (state t).failed (line_bytes e) (lines es) p.2.2 r.says;
       }
 
@@ -68,7 +68,7 @@ module _ {S R : Type 0} (keep : keeping.Ghosts R) (gives : S → Entry → Resul
           same_number = p.2.0 ∙ g.same_number;
           stored = stored_both keep (puts (state s).number es) (Put (state s).number f.refused (Err why) ∷ []) (state s).store (state f.mid).store (state t).store
               (stored_as keep (puts (state s).number es ++ []) (puts (state s).number es) (state s).store (state f.mid).store (append-nil (puts (state s).number es)) g.stored)
-              (subst (λ (i : ℕ). Stored keep (Put i f.refused (Err why) ∷ []) (state f.mid).store (state t).store) g.same_number p.2.1.2);
+              (subst (λ (i : ℕ). CallsStore keep (Put i f.refused (Err why) ∷ []) (state f.mid).store (state t).store) g.same_number p.2.1.2);
           says = subst (λ (b : Bool). Says (state s).held (state s).failed (state t).held b (lines es)) (sym p.2.2)
               (subst (λ (o : Option (List ℕ)). Says (state s).held (state s).failed o (state f.mid).failed (lines es)) (sym p.2.3) g.says);
         };

@@ -1,6 +1,6 @@
 -- A JUnit report, written one entry at a time.
 use Rattle.std.proofs.Common.{Option, Ok, Err, Bool, true, false, get_or, drop, flat_map, ◌≡◌, ◌<◌, ◌≤◌, ◌+◌, ℕ, List, [], ◌∷◌, ◌++◌, length, map, refl, ap, ◌∙◌, sym, subst, append-nil, append_assoc, drop_of_length-le}
-use Rattle.kt_cli.proofs.Common.{Entry, Run, Shows, StoreFault, shows_as, shows_both, shows_more, heading, case_bytes, ending, without_outputs, Outputs, CaseOutputs, outputs_of, Refused, Report, WritesFirst, WritesJunit, ending_of, DifferInOutputs, asked_outputs, Stored}
+use Rattle.kt_cli.proofs.Common.{Entry, Run, Shows, StoreFault, shows_as, shows_both, shows_more, heading, case_bytes, ending, without_outputs, Outputs, CaseOutputs, outputs_of, Refused, Report, WritesFirst, WritesJunit, ending_of, DifferInOutputs, asked_outputs, CallsStore}
 use Rattle.kt_report.specs.Cases.{with_outputs}
 use Rattle.kt_report.specs.declared.report_fault.ReportFault.{ReportFault}
 use Rattle.kt_report.proofs.Outlines.{same_heading}
@@ -45,7 +45,7 @@ module _ {R : Type 0} (keep : keeping.Ghosts R) (run : Run) (store : R) (was : O
         subst (λ (es : List Entry). DifferInOutputs (w.0 ++ es) run.entries)
         (subst (λ (es : List Entry). drop i es ≡ e ∷ drop (i + 1) es) same (drop_more xs i d low ∙ ap (λ (x : Entry). x ∷ drop (i + 1) xs) (sym is))) w.1
 
-    stored : (o : CaseOutputs) → Stored keep (Outputs run.number e.position (Ok o) ∷ []) mid after → Stored keep (asked_outputs run.number (w.0 ++ one e o ∷ [])) store after
+    stored : (o : CaseOutputs) → CallsStore keep (Outputs run.number e.position (Ok o) ∷ []) mid after → CallsStore keep (asked_outputs run.number (w.0 ++ one e o ∷ [])) store after
     stored o p =
         stored_as keep _ _ store after (sym (map-append (λ (x : Entry). Outputs run.number x.position (Ok (outputs_of x))) w.0 (one e o ∷ [])))
         (stored_both keep (asked_outputs run.number w.0) (Outputs run.number e.position (Ok o) ∷ []) store mid after w.2 p)
@@ -54,10 +54,10 @@ module _ {R : Type 0} (keep : keeping.Ghosts R) (run : Run) (store : R) (was : O
     bytes f o s = shows_as (flat_map_more case_bytes (heading run) w.0 (one e o)) (shows_both w.3 s)
 
     -- the report ends early if the outputs of a case can't be read
-    pub outputs_refused : (fault : StoreFault) → Stored keep (Outputs run.number e.position (Err fault) ∷ []) mid after → WritesJunit keep store after was held run (Err (Refused fault))
+    pub outputs_refused : (fault : StoreFault) → CallsStore keep (Outputs run.number e.position (Err fault) ∷ []) mid after → WritesJunit keep store after was held run (Err (Refused fault))
     outputs_refused fault p = record { ends = (w.0, drop (i + 1) run.entries, e, stands, stored_both keep (asked_outputs run.number w.0) (Outputs run.number e.position (Err fault) ∷ []) store mid after w.2 p, w.3) }
 
-    module _ {now : Option (List ℕ)} (o : CaseOutputs) (p : Stored keep (Outputs run.number e.position (Ok o) ∷ []) mid after) where
+    module _ {now : Option (List ℕ)} (o : CaseOutputs) (p : CallsStore keep (Outputs run.number e.position (Ok o) ∷ []) mid after) where
       -- the report ends early if a case can't be written
       pub case_cut : (fault : ReportFault) → Shows held now true (case_bytes (one e o)) → WritesJunit keep store after was now run (Err (Report fault))
       case_cut fault s = record {

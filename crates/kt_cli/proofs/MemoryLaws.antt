@@ -1,7 +1,7 @@
 -- Runs in memory are looked up and changed.
 use Rattle.std.proofs.Common.{Option, Some, None, Ok, Err, true, slice_get, insert, ◌==◌, ◌≡◌, ℕ, ◌≤◌, List, [], ◌∷◌, length, arith, refl, sym, ap, ◌∙◌, get_or, set, inr, subst, unwrap_or}
 use Rattle.std.proofs.lemmas.Option.{slice_get_read}
-use Rattle.kt_cli.proofs.Common.{find, nat_tests, set-get_or, Entry, Run, StoreFault, NoRun, CaseOutputs, outputs_of, entry_at, AreNumbered, insert_at, run_at, put_refusal_of, finish_refusal_of, Agrees, Serves, changed_by, StoreCall, Put, Finished, Head, Outputs, RunHead, head_of, option_map, LeavesInMemory, memory_runs, ServesInMemory, FindsPlace, entry_refusal, closing_refusal, place_among}
+use Rattle.kt_cli.proofs.Common.{find, nat_tests, set-get_or, Entry, Run, StoreFault, NoRun, CaseOutputs, outputs_of, entry_at, AreNumbered, insert_at, run_at, put_refusal_of, finish_refusal_of, Agrees, Serves, runs_after, StoreCall, Put, Finished, Head, Outputs, RunHead, head_of, option_map, LeavesInMemory, memory_runs, ServesInMemory, FindsPlace, entry_refusal, closing_refusal, place_among}
 use Rattle.kt_store.proofs.RunsByNumber.{run_found}
 use Rattle.kt_store.proofs.Numbered.{numbers_changed, ordered_changed}
 use Rattle.kt_store.proofs.ServeLemmas.{always_outlasts}
@@ -11,7 +11,7 @@ use Rattle.kt_cli.proofs.Numbered.{entry_placed, finish_placed}
 pub serves_in_memory : (old : List Run) (call : StoreCall) (new : List Run) → ServesInMemory old call new → Serves memory_runs call old new
 serves_in_memory old call new h = record {
   asked = tt;
-  stands = λ runs is. (h.1 (subst (λ (rs : List Run). AreNumbered 1 rs) (sym is.0) is.1) ∙ ap (λ (rs : List Run). changed_by call rs) is.0, numbers_changed call runs is.1, ordered_changed call runs is.1 is.2 (subst (λ (rs : List Run). Agrees rs call) is.0 h.0));
+  stands = λ runs is. (h.1 (subst (λ (rs : List Run). AreNumbered 1 rs) (sym is.0) is.1) ∙ ap (λ (rs : List Run). runs_after call rs) is.0, numbers_changed call runs is.1, ordered_changed call runs is.1 is.2 (subst (λ (rs : List Run). Agrees rs call) is.0 h.0));
   earlier = λ runs is sound. tt;
   agrees = λ runs is sound. subst (λ (rs : List Run). Agrees rs call) is.0 h.0;
   crash = λ runs may is. always_outlasts LeavesInMemory (λ _ _. tt) call runs may old new;

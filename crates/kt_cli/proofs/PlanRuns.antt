@@ -1,7 +1,7 @@
--- A plan that is run over a store has the effect `RanPlan`.
+-- A plan that is run over a store has the effect `ExecutesPlan`.
 use Rattle.std.proofs.Common.{Option, Result, Ok, Err, Bool, false, if◌then◌else◌, ◌≡◌, ℕ, List, [], ◌∷◌, ◌++◌, length, refl, ap, ◌∙◌, subst, append-nil, ◌⊎◌, inl, inr}
-use Rattle.kt_cli.proofs.Common.{Shows, utf8, Entry, SinkFault, Totals, RunFault, NoMemory, SinkFailed, NoEvent, StoreCall, Began, Put, Finished, StoreFault, run_line, memory_line, refusal_line, Says, sink_fault_of, Records, RecordEnds, RecordedAll, RecordedSome, RecordedNone, Scene, scene, Stored, puts, RanPlan, PlannedRun, begins, exit_of, results, results_exit, not_begun, not_run, not_put, not_finished, lines}
-use Rattle.kt_cli.specs.Testing.{Tested, TestCut, ending, recorded as all_recorded}
+use Rattle.kt_cli.proofs.Common.{Shows, utf8, Entry, SinkFault, Totals, RunFault, NoMemory, SinkFailed, NoEvent, StoreCall, Began, Put, Finished, StoreFault, run_line, memory_line, refusal_line, Says, sink_fault_of, Records, RecordEnds, RecordedAll, RecordedSome, RecordedNone, Scene, scene, CallsStore, puts, ExecutesPlan, PlannedRun, begins, exit_of, results, results_exit, not_begun, not_run, not_put, not_finished, lines}
+use Rattle.kt_cli.specs.Testing.{Tested, TestEndsEarly, ending, recorded as all_recorded}
 use Rattle.kt_sched.specs.declared.launcher.Launcher as launcher
 use Rattle.kt_store.specs.declared.result_store.StoreSpec as keeping
 use Rattle.kt_store.specs.declared.store_fault.StoreFault.TheVariants as store
@@ -17,9 +17,9 @@ refused_line : (why : SinkFault) (fault : StoreFault) → why ≡ sink_fault_of 
 refused_line why fault is = ap (λ (f : SinkFault). run_line (SinkFailed f)) is ∙ put_refusal_line fault
 
 module _ {L R : Type 0} (l : launcher.Ghosts L) (keep : keeping.Ghosts R) (planned : PlannedRun) (old : Scene L R) where
-  -- a plan whose run could not be begun has the effect `RanPlan`
-  pub ran_unbegun : (mid : R) (total : ℕ) (why : StoreFault) (now : Option (List ℕ)) (f : Bool) (exit : ℕ) → total ≡ length planned.plan → Stored keep (Began total planned.moment (Err why) ∷ []) old.store mid
-      → Shows old.held now f (utf8 (refusal_line why)) → exit ≡ (if f then 2 else 2) → RanPlan l keep planned old (scene old.world mid now) exit
+  -- a plan whose run could not be begun has the effect `ExecutesPlan`
+  pub ran_unbegun : (mid : R) (total : ℕ) (why : StoreFault) (now : Option (List ℕ)) (f : Bool) (exit : ℕ) → total ≡ length planned.plan → CallsStore keep (Began total planned.moment (Err why) ∷ []) old.store mid
+      → Shows old.held now f (utf8 (refusal_line why)) → exit ≡ (if f then 2 else 2) → ExecutesPlan l keep planned old (scene old.world mid now) exit
   ran_unbegun mid total why now f exit t calls s e = record {
     trace = NoEvent;
     leads = refl;
@@ -31,12 +31,12 @@ module _ {L R : Type 0} (l : launcher.Ghosts L) (keep : keeping.Ghosts R) (plann
     printed = record { failed = f; shows = s; exits = e };
   }
 
-  module _ (new : L) (begun after : R) (number total : ℕ) (mid now : Option (List ℕ)) (f g : Bool) (exit : ℕ) (t : total ≡ length planned.plan) (begin : Stored keep (Began total planned.moment (Ok number) ∷ []) old.store begun) where
+  module _ (new : L) (begun after : R) (number total : ℕ) (mid now : Option (List ℕ)) (f g : Bool) (exit : ℕ) (t : total ≡ length planned.plan) (begin : CallsStore keep (Began total planned.moment (Ok number) ∷ []) old.store begun) where
     module _ (answer : Result Totals RunFault) (r : Records l keep planned.plan planned.width number (scene old.world begun old.held) (scene new after mid) answer f) where
-      -- a plan whose run was begun has the effect `RanPlan`, by the calls that follow
-      ran : (last : R) (more : List StoreCall) (bytes : List ℕ) (due : ℕ) → Stored keep more begun last
-          → Tested planned r.trace (begins planned (Ok number) ∷ more) bytes due ⊎ TestCut planned r.trace (begins planned (Ok number) ∷ more) bytes due
-          → Says old.held false now g bytes → exit ≡ (if g then 2 else due) → RanPlan l keep planned old (scene new last now) exit
+      -- a plan whose run was begun has the effect `ExecutesPlan`, by the calls that follow
+      ran : (last : R) (more : List StoreCall) (bytes : List ℕ) (due : ℕ) → CallsStore keep more begun last
+          → Tested planned r.trace (begins planned (Ok number) ∷ more) bytes due ⊎ TestEndsEarly planned r.trace (begins planned (Ok number) ∷ more) bytes due
+          → Says old.held false now g bytes → exit ≡ (if g then 2 else due) → ExecutesPlan l keep planned old (scene new last now) exit
       ran last more bytes due p is s e = record {
         trace = r.trace;
         leads = r.leads;
@@ -56,8 +56,8 @@ module _ {L R : Type 0} (l : launcher.Ghosts L) (keep : keeping.Ghosts R) (plann
       ends_as : (other : Result Totals RunFault) → answer ≡ other → RecordEnds planned.plan planned.width number r.trace r.entries r.last other
       ends_as other a = subst (λ (x : Result Totals RunFault). RecordEnds planned.plan planned.width number r.trace r.entries r.last x) a r.ends
 
-      -- a plan has the effect `RanPlan` if an allocation or a put failed
-      pub ran_failed : (why : RunFault) → answer ≡ Err why → Says mid f now g (utf8 (run_line why)) → exit ≡ (if g then 2 else 2) → RanPlan l keep planned old (scene new after now) exit
+      -- a plan has the effect `ExecutesPlan` if an allocation or a put failed
+      pub ran_failed : (why : RunFault) → answer ≡ Err why → Says mid f now g (utf8 (run_line why)) → exit ≡ (if g then 2 else 2) → ExecutesPlan l keep planned old (scene new after now) exit
       ran_failed (NoMemory refusal) a s e =
           let none : RecordedNone r.trace r.entries r.last = ends_as (Err (NoMemory refusal)) a in
           let no_calls : puts number r.entries ++ r.last ≡ [] = ap (λ (es : List Entry). puts number es ++ r.last) none.none ∙ none.taken in
@@ -76,21 +76,21 @@ module _ {L R : Type 0} (l : launcher.Ghosts L) (keep : keeping.Ghosts R) (plann
         every = ends_as (Ok totals) a
 
         -- the puts and one more call have the effect of both
-        then_ends : (end : StoreCall) → Stored keep (end ∷ []) after last → Stored keep (puts number r.entries ++ end ∷ []) begun last
+        then_ends : (end : StoreCall) → CallsStore keep (end ∷ []) after last → CallsStore keep (puts number r.entries ++ end ∷ []) begun last
         then_ends end p =
             let all : puts number r.entries ++ r.last ≡ puts number r.entries = ap (λ (cs : List StoreCall). puts number r.entries ++ cs) every.taken ∙ append-nil (puts number r.entries) in
             stored_both keep (puts number r.entries) (end ∷ []) begun after last (stored_as keep (puts number r.entries ++ r.last) (puts number r.entries) begun after all r.stored) p
 
-        -- a plan whose run could not be finished has the effect `RanPlan`
-        pub ran_unfinished : (why : StoreFault) → Stored keep (Finished number (Err why) ∷ []) after last → (fault : SinkFault) → fault ≡ sink_fault_of why
-            → Says mid f now g (utf8 (run_line (SinkFailed fault))) → exit ≡ (if g then 2 else 2) → RanPlan l keep planned old (scene new last now) exit
+        -- a plan whose run could not be finished has the effect `ExecutesPlan`
+        pub ran_unfinished : (why : StoreFault) → CallsStore keep (Finished number (Err why) ∷ []) after last → (fault : SinkFault) → fault ≡ sink_fault_of why
+            → Says mid f now g (utf8 (run_line (SinkFailed fault))) → exit ≡ (if g then 2 else 2) → ExecutesPlan l keep planned old (scene new last now) exit
         ran_unfinished why p fault is s e =
             ran last (puts number r.entries ++ Finished number (Err why) ∷ []) (lines r.entries ++ utf8 (refusal_line why)) 2 (then_ends (Finished number (Err why)) p)
             (inr (not_finished number r.entries why every.all)) (after_lines (utf8 (refusal_line why)) (subst (λ (xs : List ℕ). Says mid f now g (utf8 xs)) (refused_line fault why is) s)) e
 
-        -- a plan whose cases were all recorded has the effect `RanPlan`
-        pub ran_all : (due : ℕ) → Stored keep (Finished number (Ok tt) ∷ []) after last → Says mid f now g (ending totals.good totals.total totals.bad planned.words planned.unmatched) → due ≡ exit_of totals.bad planned.unmatched → exit ≡ (if g then 2 else due)
-            → RanPlan l keep planned old (scene new last now) exit
+        -- a plan whose cases were all recorded has the effect `ExecutesPlan`
+        pub ran_all : (due : ℕ) → CallsStore keep (Finished number (Ok tt) ∷ []) after last → Says mid f now g (ending totals.good totals.total totals.bad planned.words planned.unmatched) → due ≡ exit_of totals.bad planned.unmatched → exit ≡ (if g then 2 else due)
+            → ExecutesPlan l keep planned old (scene new last now) exit
         ran_all due p s d e =
             let es = r.entries in
             ran last (puts number es ++ Finished number (Ok tt) ∷ []) (results es planned.words planned.unmatched) (results_exit es planned.unmatched) (then_ends (Finished number (Ok tt)) p)

@@ -7,7 +7,7 @@ use Rattle.std.proofs.lemmas.Str.{IsUtf8-drop}
 use Rattle.std.specs.Char.{len_utf8}
 use Rattle.std.specs.Str.Pattern.{FindsChar}
 use Rattle.std.specs.List.{after_first, before_first, position_or_len, slice_split}
-use Rattle.kt_cli.proofs.Common.{InDirectory, HostResponse, Searched, directories, further, here, nowhere}
+use Rattle.kt_cli.proofs.Common.{HasProgram, HostResponse, SearchesDirectories, directories, further, here, nowhere}
 
 -- `colon b`: `b` is a colon
 abbrev pub colon : ℕ → Bool
@@ -26,22 +26,22 @@ behind_text s behind i j u f b =
 module _ {M : Type 0} (answers : M → HostResponse → M → Type 0) (name : List ℕ) where
   -- if the program is not in the first directory, the search continues after the colon
   pub goes_on : (among rest directory behind : List ℕ) (was old mid : M) → position_or_len colon rest < length rest → directory ≡ before_first colon rest
-      → behind ≡ after_first colon rest → InDirectory answers name directory false old mid
-      → ((answer : Bool) (new : M) → Searched answers name (directories rest) answer old new → Searched answers name (directories among) answer was new)
-      → (answer : Bool) (new : M) → Searched answers name (directories behind) answer mid new → Searched answers name (directories among) answer was new
+      → behind ≡ after_first colon rest → HasProgram answers name directory false old mid
+      → ((answer : Bool) (new : M) → SearchesDirectories answers name (directories rest) answer old new → SearchesDirectories answers name (directories among) answer was new)
+      → (answer : Bool) (new : M) → SearchesDirectories answers name (directories behind) answer mid new → SearchesDirectories answers name (directories among) answer was new
   goes_on among rest directory behind was old mid within d b lacks goes answer new s =
-      goes answer new (subst (λ (ds : List (List ℕ)). Searched answers name ds answer old new)
+      goes answer new (subst (λ (ds : List (List ℕ)). SearchesDirectories answers name ds answer old new)
       (ap (λ (x : List ℕ). x ∷ directories behind) d ∙ ap (λ (x : List ℕ). before_first colon rest ∷ slice_split colon x) b ∙ sym (slice_split_first colon rest 0 within))
       (further directory (directories behind) answer old mid new lacks s))
 
   -- the search ends in the directory that has the program
   pub goes_here : (rest directory : List ℕ) (old new : M) → position_or_len colon rest < length rest → directory ≡ before_first colon rest
-      → InDirectory answers name directory true old new → Searched answers name (directories rest) true old new
+      → HasProgram answers name directory true old new → SearchesDirectories answers name (directories rest) true old new
   goes_here rest directory old new within d has =
       rw (slice_split_first colon rest 0 within) (here (before_first colon rest) (slice_split colon (after_first colon rest)) old new (rw d at has))
 
   -- the search ends in the last directory
-  pub goes_last : (rest : List ℕ) (answer : Bool) (old new : M) → position_or_len colon rest ≡ length rest → InDirectory answers name rest answer old new
-      → Searched answers name (directories rest) answer old new
+  pub goes_last : (rest : List ℕ) (answer : Bool) (old new : M) → position_or_len colon rest ≡ length rest → HasProgram answers name rest answer old new
+      → SearchesDirectories answers name (directories rest) answer old new
   goes_last rest true old new none is = rw (none_splits rest none) (here rest [] old new is)
   goes_last rest false old new none is = rw (none_splits rest none) (further rest [] false old new new is (nowhere new))

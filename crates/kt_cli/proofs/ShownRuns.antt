@@ -1,6 +1,6 @@
 -- Runs that are read and shown.
 use Rattle.std.proofs.Common.{Option, Some, None, Ok, Err, Bool, true, false, ◌⊎◌, if◌then◌else◌, flat_map, ◌≡◌, ℕ, List, [], ◌∷◌, ◌++◌, refl, ap, sym, subst, inl, inr}
-use Rattle.kt_cli.proofs.Common.{Shows, utf8, Entry, Kind, Run, shows_as, shows_both, heading, case_bytes, ending, junit_bytes, StoreCall, Head, IsNumbered, Misses, Outline, Outputs, Pairs, RunHead, StoreFault, Refused, Report, NoPairs, Output, memory_line, refusal_line, TextOrUnread, JunitOrUnread, DidReport, WritesJunit, WritesText, run_of, Reported, run_shown, pairs_shown, ReportedJunit, Unread, no_pairs, no_output, no_outputs, asked_outputs, ending_of, asked_pairs, next_bytes, IsDateOf, last_kind, opening, summary, text_bytes, titled_lines, Stored, Date}
+use Rattle.kt_cli.proofs.Common.{Shows, utf8, Entry, Kind, Run, shows_as, shows_both, heading, case_bytes, ending, junit_bytes, StoreCall, Head, IsNumbered, LacksRun, Outline, Outputs, Pairs, RunHead, StoreFault, Refused, Report, NoPairs, Output, memory_line, refusal_line, TextOrUnread, JunitOrUnread, WritesReport, WritesJunit, WritesText, run_of, Reported, run_shown, pairs_shown, ReportedJunit, RunIsUnreadable, no_pairs, no_output, no_outputs, asked_outputs, ending_of, asked_pairs, next_bytes, IsDateOf, last_kind, opening, summary, text_bytes, titled_lines, CallsStore, Date}
 use Rattle.kt_report.specs.declared.report_fault.ReportFault.{ReportFault}
 use Rattle.kt_base.specs.declared.emission.OutputFault.{OutputFault}
 use Rattle.kt_cli.specs.declared.commands.report_stop.ReportError.{ReportError}
@@ -14,26 +14,26 @@ use Rattle.kt_cli.proofs.StoreChains.{stored_both, stored_none}
 module _ {R : Type 0} (keep : keeping.Ghosts R) (number : Option ℕ) where
   -- ---- reading
 
-  pub reads_no_head : (old new : R) (fault : StoreFault) → Stored keep (Head number (Err fault) ∷ []) old new → ReadsRun keep number old new (Err (Unshown fault))
+  pub reads_no_head : (old new : R) (fault : StoreFault) → CallsStore keep (Head number (Err fault) ∷ []) old new → ReadsRun keep number old new (Err (Unshown fault))
   reads_no_head old new fault p = record { calls = Head number (Err fault) ∷ []; stored = p; finds = no_head fault }
 
-  pub reads_missing : (old mid new : R) (why : ReportError) → Stored keep (Head number (Ok None) ∷ []) old mid → IsMissing keep number mid new why → ReadsRun keep number old new (Err why)
+  pub reads_missing : (old mid new : R) (why : ReportError) → CallsStore keep (Head number (Ok None) ∷ []) old mid → IsMissing keep number mid new why → ReadsRun keep number old new (Err why)
   reads_missing old mid new why p m = record {
     calls = Head number (Ok None) ∷ m.calls;
     stored = stored_both keep (Head number (Ok None) ∷ []) m.calls old mid new p m.stored;
     finds = m.finds;
   }
 
-  pub reads_no_outline : (old mid new : R) (head : RunHead) (fault : StoreFault) → Stored keep (Head number (Ok (Some head)) ∷ []) old mid → IsNumbered number head
-      → Stored keep (Outline head.number (Err fault) ∷ []) mid new → ReadsRun keep number old new (Err (Unshown fault))
+  pub reads_no_outline : (old mid new : R) (head : RunHead) (fault : StoreFault) → CallsStore keep (Head number (Ok (Some head)) ∷ []) old mid → IsNumbered number head
+      → CallsStore keep (Outline head.number (Err fault) ∷ []) mid new → ReadsRun keep number old new (Err (Unshown fault))
   reads_no_outline old mid new head fault p n q = record {
     calls = Head number (Ok (Some head)) ∷ Outline head.number (Err fault) ∷ [];
     stored = stored_both keep (Head number (Ok (Some head)) ∷ []) (Outline head.number (Err fault) ∷ []) old mid new p q;
     finds = no_outline head fault n;
   }
 
-  pub reads_run : (old mid new : R) (head : RunHead) (entries kept : List Entry) → kept ≡ entries → Stored keep (Head number (Ok (Some head)) ∷ []) old mid → IsNumbered number head
-      → Stored keep (Outline head.number (Ok entries) ∷ []) mid new → ReadsRun keep number old new (Ok (run_of head kept))
+  pub reads_run : (old mid new : R) (head : RunHead) (entries kept : List Entry) → kept ≡ entries → CallsStore keep (Head number (Ok (Some head)) ∷ []) old mid → IsNumbered number head
+      → CallsStore keep (Outline head.number (Ok entries) ∷ []) mid new → ReadsRun keep number old new (Ok (run_of head kept))
   reads_run old mid new head entries kept k p n q = record {
     calls = Head number (Ok (Some head)) ∷ Outline head.number (Ok entries) ∷ [];
     stored = stored_both keep (Head number (Ok (Some head)) ∷ []) (Outline head.number (Ok entries) ∷ []) old mid new p q;
@@ -47,19 +47,19 @@ module _ {R : Type 0} (keep : keeping.Ghosts R) (number : Option ℕ) where
   missing_last old none = subst (λ (o : Option ℕ). IsMissing keep o old old NoRuns) none (record { calls = []; stored = stored_none keep old; finds = missing (Head None (Ok None) ∷ []) NoRuns no_last_run })
 
   module _ (old new : R) (wanted : ℕ) (some : Some wanted ≡ number) where
-    pub missing_all : Stored keep (Head None (Ok None) ∷ []) old new → IsMissing keep number old new NoRuns
+    pub missing_all : CallsStore keep (Head None (Ok None) ∷ []) old new → IsMissing keep number old new NoRuns
     missing_all p = subst (λ (o : Option ℕ). IsMissing keep o old new NoRuns) some (record { calls = Head None (Ok None) ∷ []; stored = p; finds = missing _ NoRuns (none_at_all wanted) })
 
-    pub missing_this : (last : RunHead) → Stored keep (Head None (Ok (Some last)) ∷ []) old new → IsMissing keep number old new (NoRun wanted)
+    pub missing_this : (last : RunHead) → CallsStore keep (Head None (Ok (Some last)) ∷ []) old new → IsMissing keep number old new (NoRun wanted)
     missing_this last p = subst (λ (o : Option ℕ). IsMissing keep o old new (NoRun wanted)) some (record { calls = Head None (Ok (Some last)) ∷ []; stored = p; finds = missing _ (NoRun wanted) (not_this_one wanted last) })
 
-    pub missing_unread : (fault : StoreFault) → Stored keep (Head None (Err fault) ∷ []) old new → IsMissing keep number old new (Unshown fault)
+    pub missing_unread : (fault : StoreFault) → CallsStore keep (Head None (Err fault) ∷ []) old new → IsMissing keep number old new (Unshown fault)
     missing_unread fault p = record { calls = Head None (Err fault) ∷ []; stored = p; finds = no_last wanted fault (sym some) }
 
 module _ {R : Type 0} (keep : keeping.Ghosts R) (number : Option ℕ) where
   not_shown : (M C : List StoreCall → List ℕ → ℕ → Type 0) (calls : List StoreCall) (why : ReportError)
-      → ((cs : List StoreCall) (line : List ℕ) → Misses number cs line → M cs (utf8 line) 2)
-      → ((cs : List StoreCall) (xs : List ℕ) → Unread number cs xs 2 → C cs xs 2) → FindsRun number calls (Err why)
+      → ((cs : List StoreCall) (line : List ℕ) → LacksRun number cs line → M cs (utf8 line) 2)
+      → ((cs : List StoreCall) (xs : List ℕ) → RunIsUnreadable number cs xs 2 → C cs xs 2) → FindsRun number calls (Err why)
       → M calls (utf8 (not_shown_line why)) 2 ⊎ C calls (utf8 (not_shown_line why)) 2
   not_shown M C calls why none unread (missing cs other m) = inl (none calls (not_shown_line why) m)
   not_shown M C calls why none unread (no_head fault) = inr (unread calls (utf8 (refusal_line fault)) (unread_head fault))
@@ -69,42 +69,42 @@ module _ {R : Type 0} (keep : keeping.Ghosts R) (number : Option ℕ) where
   module _ (old new : R) (was now : Option (List ℕ)) (exit : ℕ) where
     -- a report did what its calls and its output show
     did : {M : List StoreCall → List ℕ → ℕ → Type 0} {C : Bool → List StoreCall → List ℕ → ℕ → Type 0} (calls : List StoreCall) (bytes : List ℕ) (due : ℕ) (f : Bool)
-        → Stored keep calls old new
-        → M calls bytes due ⊎ C f calls bytes due → Shows was now f bytes → exit ≡ (if f then 2 else due) → DidReport keep old new was now exit M C
+        → CallsStore keep calls old new
+        → M calls bytes due ⊎ C f calls bytes due → Shows was now f bytes → exit ≡ (if f then 2 else due) → WritesReport keep old new was now exit M C
     did calls bytes due f p is s e = record { calls = calls; stored = p; bytes = bytes; due = due; printed = record { failed = f; shows = s; exits = e }; is = is }
 
     -- a report without a run prints the error line
     pub did_not_show : (M : List StoreCall → List ℕ → ℕ → Type 0) (C : Bool → List StoreCall → List ℕ → ℕ → Type 0) (why : ReportError) (f : Bool)
-        → ((cs : List StoreCall) (line : List ℕ) → Misses number cs line → M cs (utf8 line) 2)
-        → ((cs : List StoreCall) (xs : List ℕ) → Unread number cs xs 2 → C f cs xs 2)
-        → ReadsRun keep number old new (Err why) → Shows was now f (utf8 (not_shown_line why)) → exit ≡ (if f then 2 else 2) → DidReport keep old new was now exit M C
+        → ((cs : List StoreCall) (line : List ℕ) → LacksRun number cs line → M cs (utf8 line) 2)
+        → ((cs : List StoreCall) (xs : List ℕ) → RunIsUnreadable number cs xs 2 → C f cs xs 2)
+        → ReadsRun keep number old new (Err why) → Shows was now f (utf8 (not_shown_line why)) → exit ≡ (if f then 2 else 2) → WritesReport keep old new was now exit M C
     did_not_show M C why f none unread r s e = did r.calls (utf8 (not_shown_line why)) 2 f r.stored (not_shown M (C f) r.calls why none unread r.finds) s e
 
     -- a report that read the run makes the calls for the run and then for its properties or outputs
     did_more : {M : List StoreCall → List ℕ → ℕ → Type 0} {C : Bool → List StoreCall → List ℕ → ℕ → Type 0} (mid : R) (calls asked : List StoreCall) (bytes : List ℕ) (due : ℕ) (f : Bool)
-        → Stored keep calls old mid → Stored keep asked mid new → M (calls ++ asked) bytes due ⊎ C f (calls ++ asked) bytes due → Shows was now f bytes → exit ≡ (if f then 2 else due)
-        → DidReport keep old new was now exit M C
+        → CallsStore keep calls old mid → CallsStore keep asked mid new → M (calls ++ asked) bytes due ⊎ C f (calls ++ asked) bytes due → Shows was now f bytes → exit ≡ (if f then 2 else due)
+        → WritesReport keep old new was now exit M C
     did_more mid calls asked bytes due f p q is s e = did (calls ++ asked) bytes due f (stored_both keep calls asked old mid new p q) is s e
 
     module _ (kinds : List Kind) (verbose : Bool) where
       -- `Texts verbose`: the effect of `report`
       abbrev Texts : Bool → Type 0
-      Texts v = DidReport keep old new was now exit (Reported number kinds v) (TextOrUnread number kinds v)
+      Texts v = WritesReport keep old new was now exit (Reported number kinds v) (TextOrUnread number kinds v)
 
       -- `report` prints the text without properties
-      pub did_show : (calls : List StoreCall) (run : Run) (f : Bool) → verbose ≡ false → Stored keep calls old new → FindsRun number calls (Ok run)
+      pub did_show : (calls : List StoreCall) (run : Run) (f : Bool) → verbose ≡ false → CallsStore keep calls old new → FindsRun number calls (Ok run)
           → ((date : Date) × IsDateOf run.started date × Shows was now f (text_bytes date kinds false run)) → exit ≡ (if f then 2 else 0) → Texts verbose
       did_show calls run f off p (read head outline e) d x = subst Texts (sym off) (did calls (text_bytes d.0 kinds false run) 0 f p (inl (run_shown head outline d.0 e d.1)) d.2 x)
 
       -- `report` prints the text with properties
-      pub did_show_pairs : (mid : R) (calls : List StoreCall) (run : Run) → verbose ≡ true → Stored keep calls old mid → FindsRun number calls (Ok run)
+      pub did_show_pairs : (mid : R) (calls : List StoreCall) (run : Run) → verbose ≡ true → CallsStore keep calls old mid → FindsRun number calls (Ok run)
           → WritesText keep mid new was now kinds run (Ok tt) → exit ≡ 0 → Texts verbose
       did_show_pairs mid calls run on p (read head outline e) w x =
           subst Texts (sym on)
           (did_more mid calls (asked_pairs run.number w.ends.0) (titled_lines true None w.ends.0 ++ summary w.ends.1 run) 0 false p w.ends.4 (inl (pairs_shown head outline w.ends.0 w.ends.1 e w.ends.2 w.ends.3)) w.ends.5 x)
 
       -- `report` ends early if properties can't be read
-      pub did_refuse_pairs : (mid : R) (calls : List StoreCall) (run : Run) (held : Option (List ℕ)) (f : Bool) (fault : StoreFault) → verbose ≡ true → Stored keep calls old mid
+      pub did_refuse_pairs : (mid : R) (calls : List StoreCall) (run : Run) (held : Option (List ℕ)) (f : Bool) (fault : StoreFault) → verbose ≡ true → CallsStore keep calls old mid
           → FindsRun number calls (Ok run) → WritesText keep mid new was held kinds run (Err (NoPairs fault)) → Shows held now f (utf8 (refusal_line fault))
           → exit ≡ (if f then 2 else 2) → Texts verbose
       did_refuse_pairs mid calls run held f fault on p (read head outline e) w s x =
@@ -114,7 +114,7 @@ module _ {R : Type 0} (keep : keeping.Ghosts R) (number : Option ℕ) where
           (inr (inr (refl, no_pairs head outline w.ends.0 w.ends.1 w.ends.2 fault e w.ends.3))) (shows_both w.ends.5 s) x)
 
       -- a report ends early if a write fails
-      pub did_stop_pairs : (mid : R) (calls : List StoreCall) (run : Run) (fault : OutputFault) → verbose ≡ true → Stored keep calls old mid → FindsRun number calls (Ok run)
+      pub did_stop_pairs : (mid : R) (calls : List StoreCall) (run : Run) (fault : OutputFault) → verbose ≡ true → CallsStore keep calls old mid → FindsRun number calls (Ok run)
           → WritesText keep mid new was now kinds run (Err (Output fault)) → exit ≡ 2 → Texts verbose
       did_stop_pairs mid calls run fault on p (read head outline e) w x =
           subst Texts (sym on)
@@ -123,23 +123,23 @@ module _ {R : Type 0} (keep : keeping.Ghosts R) (number : Option ℕ) where
 
     -- the effect of `report-junit`
     abbrev Junit : Type 0
-    Junit = DidReport keep old new was now exit (ReportedJunit number) (JunitOrUnread number)
+    Junit = WritesReport keep old new was now exit (ReportedJunit number) (JunitOrUnread number)
 
     -- `report-junit` prints the JUnit report
-    pub did_show_junit : (mid : R) (calls : List StoreCall) (run : Run) → Stored keep calls old mid → FindsRun number calls (Ok run) → WritesJunit keep mid new was now run (Ok tt) → exit ≡ 0 → Junit
+    pub did_show_junit : (mid : R) (calls : List StoreCall) (run : Run) → CallsStore keep calls old mid → FindsRun number calls (Ok run) → WritesJunit keep mid new was now run (Ok tt) → exit ≡ 0 → Junit
     did_show_junit mid calls run p (read head outline e) w x =
         did_more mid calls (asked_outputs run.number w.ends.0) (junit_bytes (record run { entries = w.ends.0 })) 0 false p w.ends.2 (inl (run_shown_junit head outline w.ends.0 e w.ends.1))
         (shows_as (ap (λ (xs : List ℕ). xs ++ flat_map case_bytes w.ends.0 ++ ending) (heading_shown run w.ends.0 w.ends.1)) w.ends.3) x
 
     -- `report-junit` ends early if outputs can't be read
-    pub did_refuse : (mid : R) (calls : List StoreCall) (run : Run) (held : Option (List ℕ)) (f : Bool) (fault : StoreFault) → Stored keep calls old mid → FindsRun number calls (Ok run)
+    pub did_refuse : (mid : R) (calls : List StoreCall) (run : Run) (held : Option (List ℕ)) (f : Bool) (fault : StoreFault) → CallsStore keep calls old mid → FindsRun number calls (Ok run)
         → WritesJunit keep mid new was held run (Err (Refused fault)) → Shows held now f (utf8 (refusal_line fault)) → exit ≡ (if f then 2 else 2) → Junit
     did_refuse mid calls run held f fault p (read head outline e) w s x =
         did_more mid calls (asked_outputs run.number w.ends.0 ++ Outputs run.number w.ends.2.position (Err fault) ∷ []) (heading run ++ flat_map case_bytes w.ends.0 ++ utf8 (refusal_line fault)) 2 f p w.ends.4
         (inr (inr (no_outputs head outline w.ends.0 w.ends.1 w.ends.2 fault e w.ends.3))) (shows_both w.ends.5 s) x
 
     -- `report-junit` ends early if an allocation fails
-    pub did_cut : (mid : R) (calls : List StoreCall) (run : Run) (held : Option (List ℕ)) (f : Bool) (fault : ReportFault) → Stored keep calls old mid → FindsRun number calls (Ok run)
+    pub did_cut : (mid : R) (calls : List StoreCall) (run : Run) (held : Option (List ℕ)) (f : Bool) (fault : ReportFault) → CallsStore keep calls old mid → FindsRun number calls (Ok run)
         → WritesJunit keep mid new was held run (Err (Report fault)) → Shows held now f (utf8 memory_line) → exit ≡ (if f then 2 else 2) → Junit
     did_cut mid calls run held f fault p (read head outline e) w s x =
         let h = w.ends.4.holds in
@@ -147,7 +147,7 @@ module _ {R : Type 0} (keep : keeping.Ghosts R) (number : Option ℕ) where
         (shows_both {xs = h.0} (record { holds = h.4 }) s) x
 
     -- a report ends early if a write fails
-    pub did_stop : (mid : R) (calls : List StoreCall) (run : Run) (fault : ReportFault) → Stored keep calls old mid → FindsRun number calls (Ok run) → WritesJunit keep mid new was now run (Err (Report fault)) → exit ≡ 2 → Junit
+    pub did_stop : (mid : R) (calls : List StoreCall) (run : Run) (fault : ReportFault) → CallsStore keep calls old mid → FindsRun number calls (Ok run) → WritesJunit keep mid new was now run (Err (Report fault)) → exit ≡ 2 → Junit
     did_stop mid calls run fault p (read head outline e) w x =
         did_more mid calls (asked_outputs run.number w.ends.0) (heading run ++ flat_map case_bytes w.ends.0 ++ ending_of w.ends.1) 2 true p w.ends.3
         (inr (inr (no_junit_output head outline w.ends.0 w.ends.1 refl e w.ends.2))) w.ends.4 x

@@ -1,6 +1,6 @@
 -- Effect of a command on the runs of a sound store.
 use Rattle.std.proofs.Common.{Option, Some, None, Ok, Err, Bool, true, false, map, ◌≡◌, ℕ, suc, List, [], ◌∷◌, ◌++◌, length, refl, sym, ap, ◌∙◌, subst, append-nil, ◌⊎◌, inl, inr}
-use Rattle.kt_cli.proofs.Common.{AllByRecursion, Entry, Run, Job, plan_fits, AreEntries, IsPlan, Trace, IsStoreFault, entry_at, AreNumbered, new_run, run_at, with_entry, put_refusal, finish_refusal, StoreCall, Began, Put, Finished, Head, Misses, Outline, Outputs, Pairs, outputs_of, without_outputs, RunHead, StoreFault, Command, Kind, Seen, Means, stopped, listed, tested, debugged, nothing_to_debug, reported, reported_junit, CutShort, no_memory, cut, report_cut, text_cut, junit_cut, CommandResult, Scene, World, AllRecorded, JunitOrUnread, Reported, run_shown, pairs_shown, no_run, ReportedJunit, Unread, TextCut, no_pairs, no_output, asked_outputs, asked_pairs, with_new, Left, put_all, Agrees, changed_by, puts, changed, Agree, PlannedRun, run_for, Tested, TestCut, not_begun, not_run, not_put, not_finished}
+use Rattle.kt_cli.proofs.Common.{AllByRecursion, Entry, Run, Job, plan_fits, AreEntries, IsPlan, Trace, IsStoreFault, entry_at, AreNumbered, new_run, run_at, with_entry, put_refusal, finish_refusal, StoreCall, Began, Put, Finished, Head, LacksRun, Outline, Outputs, Pairs, outputs_of, without_outputs, RunHead, StoreFault, Command, Kind, CommandCalls, Means, stopped, listed, tested, debugged, nothing_to_debug, reported, reported_junit, EndsEarly, no_memory, cut, report_cut, text_cut, junit_cut, CommandResult, Scene, World, AllRecorded, JunitOrUnread, Reported, run_shown, pairs_shown, no_run, ReportedJunit, RunIsUnreadable, TextEndsEarly, no_pairs, no_output, asked_outputs, asked_pairs, with_new, StoreIsSound, put_all, Agrees, runs_after, puts, changed, Agree, PlannedRun, run_for, Tested, TestEndsEarly, not_begun, not_run, not_put, not_finished}
 use Rattle.kt_sched.specs.RecordOrder.{recorded as record_order}
 use Rattle.kt_cli.specs.Reports.{no_last_run, none_at_all, not_this_one, run_shown as run_shown_junit, no_run as no_junit, no_head as unread_head, no_last as unread_last, no_outline as unread_outline, no_outputs as cut_outputs, no_memory as cut_junit, no_output as no_junit_output}
 use Rattle.kt_cli.specs.SoundStores.{Adds, none, one_run, OnlyFails, entries_put}
@@ -54,10 +54,10 @@ none_coming runs calls e = subst (λ (cs : List StoreCall). Coming runs cs) (sym
 module _ (runs : List Run) (h : AreNumbered 1 runs) where
   module _ (k total moment : ℕ) (n : k ≡ suc (length runs)) (es : List Entry) where
     -- one more call after all puts changes the runs with all entries
-    after_end : (end : StoreCall) → changed (puts k es ++ end ∷ []) (runs ++ new_run runs total moment ∷ []) ≡ changed_by end (with_new runs moment total false es)
+    after_end : (end : StoreCall) → changed (puts k es ++ end ∷ []) (runs ++ new_run runs total moment ∷ []) ≡ runs_after end (with_new runs moment total false es)
     after_end end =
         changed-append (puts k es) (end ∷ []) (runs ++ new_run runs total moment ∷ [])
-        ∙ ap (λ (rs : List Run). changed_by end rs) (changed-puts k es (runs ++ new_run runs total moment ∷ []) ∙ put_new runs k total moment es h n)
+        ∙ ap (λ (rs : List Run). runs_after end rs) (changed-puts k es (runs ++ new_run runs total moment ∷ []) ∙ put_new runs k total moment es h n)
 
     agree_end : (end : StoreCall) → Agree (runs ++ new_run runs total moment ∷ []) (puts k es ++ end ∷ []) → Agrees (with_new runs moment total false es) end
     agree_end end a =
@@ -65,7 +65,7 @@ module _ (runs : List Run) (h : AreNumbered 1 runs) where
         (agree_later (puts k es) (end ∷ []) (runs ++ new_run runs total moment ∷ []) a).0
 
     -- a begun run, its puts and one more call append a run with these entries
-    one_coming : (end : StoreCall) (finished : Bool) → entries_put (end ∷ []) ≡ [] → changed_by end (with_new runs moment total false es) ≡ with_new runs moment total finished es
+    one_coming : (end : StoreCall) (finished : Bool) → entries_put (end ∷ []) ≡ [] → runs_after end (with_new runs moment total false es) ≡ with_new runs moment total finished es
         → (finished ≡ true → length es ≡ total) → AllByRecursion OnlyFails (end ∷ []) → Coming runs (Began total moment (Ok k) ∷ (puts k es ++ end ∷ []))
     one_coming end finished none_put is whole all = record {
       only_fails = (tt, puts_done k es (end ∷ []) all);
@@ -80,7 +80,7 @@ module _ (runs : List Run) (h : AreNumbered 1 runs) where
       one_coming k total planned.moment a.0.0 es (Finished k (Ok tt)) true refl (finish_new runs k total planned.moment es h a.0.0) (λ f. all_count planned.plan planned.width T es all)
       (tt, tt)
 
-  cut_coming : (planned : PlannedRun) (T : Trace) (calls : List StoreCall) (bytes : List ℕ) (exit : ℕ) → IsPlan planned.plan → TestCut planned T calls bytes exit → Agree runs calls
+  cut_coming : (planned : PlannedRun) (T : Trace) (calls : List StoreCall) (bytes : List ℕ) (exit : ℕ) → IsPlan planned.plan → TestEndsEarly planned T calls bytes exit → Agree runs calls
       → Coming runs calls
   cut_coming planned T calls bytes exit is (not_begun why e) a = record { only_fails = (elim a.0 [ inl f ↦ inl f | inr f ↦ inr f.0 ], tt); adds = none refl }
   cut_coming planned T calls bytes exit is (not_run k e) a = record { only_fails = (tt, tt); adds = one_run planned.moment (length planned.plan) false refl (λ f. absurd (cc)) }
@@ -100,7 +100,7 @@ module _ (runs : List Run) (h : AreNumbered 1 runs) where
 -- ---- reports
 
 -- reading calls change nothing, and successful calls have no fault
-module _ (call : Entry → StoreCall) (reads : (e : Entry) (runs : List Run) → changed_by (call e) runs ≡ runs) (done : (e : Entry) → OnlyFails (call e)) where
+module _ (call : Entry → StoreCall) (reads : (e : Entry) (runs : List Run) → runs_after (call e) runs ≡ runs) (done : (e : Entry) → OnlyFails (call e)) where
   asked_change : (shown : List Entry) (runs : List Run) → changed (map call shown) runs ≡ runs
   asked_change [] runs = refl
   asked_change (e ∷ shown) runs = ap (changed (map call shown)) (reads e runs) ∙ asked_change shown runs
@@ -122,7 +122,7 @@ outputs_done : (number : ℕ) (shown : List Entry) (after : List StoreCall) → 
 outputs_done number = asked_done (λ (e : Entry). Outputs number e.position (Ok (outputs_of e))) (λ e runs. refl) (λ e. tt)
 
 -- no run was found
-missing_coming : (number : Option ℕ) (runs : List Run) (calls : List StoreCall) (line : List ℕ) → Misses number calls line → Coming runs calls
+missing_coming : (number : Option ℕ) (runs : List Run) (calls : List StoreCall) (line : List ℕ) → LacksRun number calls line → Coming runs calls
 missing_coming number runs calls line no_last_run = record { only_fails = (tt, tt); adds = none refl }
 missing_coming number runs calls line (none_at_all wanted) = record { only_fails = (tt, (tt, tt)); adds = none refl }
 missing_coming number runs calls line (not_this_one wanted last) = record { only_fails = (tt, (tt, tt)); adds = none refl }
@@ -139,7 +139,7 @@ module _ (number : Option ℕ) (runs : List Run) (h : AreNumbered 1 runs) where
   pairs_coming : (head : RunHead) (outline shown : List Entry) → Coming runs (Head number (Ok (Some head)) ∷ Outline head.number (Ok outline) ∷ asked_pairs head.number shown)
   pairs_coming head outline shown = read_coming head outline (asked_pairs head.number shown) (pairs_done head.number shown [] tt) (pairs_change head.number shown runs)
 
-  unread_coming : (calls : List StoreCall) (bytes : List ℕ) (exit : ℕ) → Unread number calls bytes exit → Agree runs calls → Coming runs calls
+  unread_coming : (calls : List StoreCall) (bytes : List ℕ) (exit : ℕ) → RunIsUnreadable number calls bytes exit → Agree runs calls → Coming runs calls
   unread_coming calls bytes exit (unread_head why) a = record { only_fails = (inl a.0, tt); adds = none refl }
   unread_coming calls bytes exit (unread_last wanted why e) a = record { only_fails = (tt, (inl a.1.0, tt)); adds = none refl }
   unread_coming calls bytes exit (unread_outline head why e) a = record { only_fails = (tt, (inl (entries_there number runs head why h a.0 a.1.0), tt)); adds = none refl }
@@ -149,7 +149,7 @@ module _ (number : Option ℕ) (runs : List Run) (h : AreNumbered 1 runs) where
   reported_coming kinds verbose calls bytes exit (pairs_shown head outline shown date e d same) = pairs_coming head outline shown
   reported_coming kinds verbose calls bytes exit (no_run v cs line e) = missing_coming number runs calls line e
 
-  text_coming : (kinds : List Kind) (failed : Bool) (calls : List StoreCall) (bytes : List ℕ) (exit : ℕ) → TextCut number kinds failed calls bytes exit → Agree runs calls → Coming runs calls
+  text_coming : (kinds : List Kind) (failed : Bool) (calls : List StoreCall) (bytes : List ℕ) (exit : ℕ) → TextEndsEarly number kinds failed calls bytes exit → Agree runs calls → Coming runs calls
   text_coming kinds failed calls bytes exit (no_output head outline shown rest date f e d same) a = pairs_coming head outline shown
   text_coming kinds failed calls bytes exit (no_pairs head outline shown rest last why e same) a =
       let before = asked_pairs head.number shown in
@@ -177,8 +177,8 @@ module _ (number : Option ℕ) (runs : List Run) (h : AreNumbered 1 runs) where
 
 -- ---- all commands
 
-module _ (seen : Seen) (runs : List Run) (h : AreNumbered 1 runs) (a : Agree runs seen.calls) where
-  coming : (c : Command) (failed : Bool) (bytes : List ℕ) (exit : ℕ) → Means seen c bytes exit ⊎ CutShort seen failed c bytes exit → Coming runs seen.calls
+module _ (seen : CommandCalls) (runs : List Run) (h : AreNumbered 1 runs) (a : Agree runs seen.calls) where
+  coming : (c : Command) (failed : Bool) (bytes : List ℕ) (exit : ℕ) → Means seen c bytes exit ⊎ EndsEarly seen failed c bytes exit → Coming runs seen.calls
   coming c failed bytes exit (inl (stopped d options fault e s k)) = none_coming runs seen.calls k.calls
   coming c failed bytes exit (inl (listed options picked s k)) = none_coming runs seen.calls k.calls
   coming c failed bytes exit (inl (tested options file picked moment bs x p t)) = tested_coming runs h (run_for seen.plan options picked moment) seen.trace seen.calls bytes exit t a
@@ -193,9 +193,9 @@ module _ (seen : Seen) (runs : List Run) (h : AreNumbered 1 runs) (a : Agree run
   coming c failed bytes exit (inr (text_cut options kinds bs x u r)) = text_coming options.run runs h kinds failed seen.calls bytes exit r a
   coming c failed bytes exit (inr (junit_cut options bs x u r)) = junit_or_unread options.run runs h failed seen.calls bytes exit r a
 
--- a command on a sound store of `runs` leaves what `Left` states
+-- a command on a sound store of `runs` leaves what `StoreIsSound` states
 pub left_by : {W R : Type 0} (w : World W) (keep : keeping.Ghosts R) (c : Command) (old new : Scene W R) (exit : ℕ) (runs : List Run) (did : CommandResult w keep c old new exit)
-    → keep.stands old.store runs → keep.sound new.store → Left did runs
+    → keep.stands old.store runs → keep.sound new.store → StoreIsSound did runs
 left_by w keep c old new exit runs did h sound =
     let it = coming did.seen runs (keep.numbered old.store runs h) (did.stored.kept.agree runs h sound) c did.printed.failed did.bytes did.due did.is in
     record { only_fails = it.only_fails; adds = it.adds }

@@ -1,30 +1,30 @@
 -- Calls of a store, one after the other.
 use Rattle.std.proofs.Common.{Ok, ◌≡◌, List, [], ◌∷◌, ◌++◌, refl, sym, subst}
-use Rattle.kt_cli.proofs.Common.{Run, StoreCall, Began, Put, Finished, Head, Outline, Outputs, Pairs, chain-append, Outlasts, Serves, changed_by, beside_by, changed, beside, Agree, Stored}
+use Rattle.kt_cli.proofs.Common.{Run, StoreCall, Began, Put, Finished, Head, Outline, Outputs, Pairs, chain-append, SurvivesCrash, Serves, runs_after, crash_runs_after, changed, beside, Agree, CallsStore}
 use Rattle.kt_store.specs.declared.result_store.StoreSpec as keeping
 
 -- calls and then others change the runs one after the other
 pub changed-append : (xs ys : List StoreCall) (runs : List Run) → changed (xs ++ ys) runs ≡ changed ys (changed xs runs)
 changed-append [] ys runs = refl
-changed-append (x ∷ xs) ys runs = changed-append xs ys (changed_by x runs)
+changed-append (x ∷ xs) ys runs = changed-append xs ys (runs_after x runs)
 
 -- calls and then others change what a crash may leave one after the other
 pub beside-append : (xs ys : List StoreCall) (runs : List Run) (may : List (List Run)) → beside (xs ++ ys) runs may ≡ beside ys (changed xs runs) (beside xs runs may)
 beside-append [] ys runs may = refl
-beside-append (x ∷ xs) ys runs may = beside-append xs ys (changed_by x runs) (beside_by x runs may)
+beside-append (x ∷ xs) ys runs may = beside-append xs ys (runs_after x runs) (crash_runs_after x runs may)
 
 agree_both : (xs ys : List StoreCall) (runs : List Run) → Agree runs xs → Agree (changed xs runs) ys → Agree runs (xs ++ ys)
 agree_both [] ys runs a b = b
-agree_both (x ∷ xs) ys runs a b = (a.0, agree_both xs ys (changed_by x runs) a.1 b)
+agree_both (x ∷ xs) ys runs a b = (a.0, agree_both xs ys (runs_after x runs) a.1 b)
 
 -- later calls agree with the runs that the earlier ones left
 pub agree_later : (xs ys : List StoreCall) (runs : List Run) → Agree runs (xs ++ ys) → Agree (changed xs runs) ys
 agree_later [] ys runs a = a
-agree_later (x ∷ xs) ys runs a = agree_later xs ys (changed_by x runs) a.1
+agree_later (x ∷ xs) ys runs a = agree_later xs ys (runs_after x runs) a.1
 
--- a crash after a call leaves the runs after it or others in `beside_by`
-crash_by : {R : Type 0} (Leaves : R → List (List Run) → Type 0) (call : StoreCall) (runs : List Run) (may : List (List Run)) (a b : R) → ((m : List (List Run)) → Outlasts Leaves call runs m a b) → Leaves a (runs ∷ may)
-    → Leaves b (changed_by call runs ∷ beside_by call runs may)
+-- a crash after a call leaves the runs after it or others in `crash_runs_after`
+crash_by : {R : Type 0} (Leaves : R → List (List Run) → Type 0) (call : StoreCall) (runs : List Run) (may : List (List Run)) (a b : R) → ((m : List (List Run)) → SurvivesCrash Leaves call runs m a b) → Leaves a (runs ∷ may)
+    → Leaves b (runs_after call runs ∷ crash_runs_after call runs may)
 crash_by Leaves (Began total moment (Ok number)) runs may a b h l = h may
 crash_by Leaves (Put number e (Ok done)) runs may a b h l = h may
 crash_by Leaves (Finished number (Ok done)) runs may a b h l = h may
@@ -36,11 +36,11 @@ crash_by Leaves _ runs may a b h l = h may l
 
 module _ {R : Type 0} (keep : keeping.Ghosts R) where
   -- no calls change nothing
-  pub stored_none : (a : R) → Stored keep [] a a
+  pub stored_none : (a : R) → CallsStore keep [] a a
   stored_none a = record { answered = refl; kept = record { stands = λ runs h. h; earlier = λ runs h s. s; agree = λ runs h s. tt; crash = λ runs may h l. l } }
 
   -- calls and then others have the effect of both
-  pub stored_both : (xs ys : List StoreCall) (a b d : R) → Stored keep xs a b → Stored keep ys b d → Stored keep (xs ++ ys) a d
+  pub stored_both : (xs ys : List StoreCall) (a b d : R) → CallsStore keep xs a b → CallsStore keep ys b d → CallsStore keep (xs ++ ys) a d
   stored_both xs ys a b d p q =
       let x = p.kept in
       let y = q.kept in
@@ -55,11 +55,11 @@ module _ {R : Type 0} (keep : keeping.Ghosts R) where
       }
 
   -- equal lists of calls have the same effect
-  pub stored_as : (xs ys : List StoreCall) (a b : R) → xs ≡ ys → Stored keep xs a b → Stored keep ys a b
-  stored_as xs ys a b e p = subst (λ (cs : List StoreCall). Stored keep cs a b) e p
+  pub stored_as : (xs ys : List StoreCall) (a b : R) → xs ≡ ys → CallsStore keep xs a b → CallsStore keep ys a b
+  stored_as xs ys a b e p = subst (λ (cs : List StoreCall). CallsStore keep cs a b) e p
 
   -- one call that obeys the contract has its effect on the store
-  pub stored_call : (call : StoreCall) (a b : R) → Serves keep call a b → Stored keep (call ∷ []) a b
+  pub stored_call : (call : StoreCall) (a b : R) → Serves keep call a b → CallsStore keep (call ∷ []) a b
   stored_call call a b s = record {
     answered = (b, s.asked, refl);
     kept = record { stands = s.stands; earlier = s.earlier; agree = λ runs h sound. (s.agrees runs h sound, tt); crash = λ runs may h l. crash_by keep.leaves call runs may a b (λ m. s.crash runs m h) l };

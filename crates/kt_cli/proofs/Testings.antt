@@ -1,14 +1,14 @@
 -- Commands over a world and a store.
 use Rattle.std.proofs.Common.{Option, Some, Ok, Err, Bool, true, false, take, ◌==◌, if◌then◌else◌, ◌≡◌, ℕ, List, [], ◌∷◌, ◌++◌, refl, sym, ap, ◌∙◌, subst, ◌⊎◌, inl, inr}
-use Rattle.kt_cli.proofs.Common.{utf8, Kind, IsIdle, Job, StoreCall, Chain, Candidate, Command, ReportOptions, Entry, RunFault, NoMemory, SinkFailed, Totals, NoEvent, Trace, cases_of, needs_case, Debugged, all_debug_bytes, debug_exit, memory_line, run_line, Seen, IsPrepared, IsAskedOnly, IsUnasked, Means, stopped, tested, debugged, reported, reported_junit, taken, AsksFirst, selecting, preparing, CutShort, no_memory, cut, report_cut, text_cut, junit_cut, CommandResult, Says, Printed, Question, leads_by, of_host, TextOrUnread, JunitOrUnread, DidReport, Reported, ReportedJunit, Scene, scene, World, launcher_of, Shows, RanPlan, run_for, chain-append}
+use Rattle.kt_cli.proofs.Common.{utf8, Kind, IsIdle, Job, StoreCall, Chain, Candidate, Command, ReportOptions, Entry, RunFault, NoMemory, SinkFailed, Totals, NoEvent, Trace, cases_of, needs_case, ExecutesDebug, all_debug_bytes, debug_exit, memory_line, run_line, CommandCalls, IsPrepared, OnlyListsCases, MakesNoCalls, Means, stopped, tested, debugged, reported, reported_junit, taken, MakesCallPrefix, selecting, preparing, EndsEarly, no_memory, cut, report_cut, text_cut, junit_cut, CommandResult, Says, Printed, WorldCall, leads_by, host_calls, TextOrUnread, JunitOrUnread, WritesReport, Reported, ReportedJunit, Scene, scene, World, launcher_of, Shows, ExecutesPlan, run_for, chain-append}
 use Rattle.kt_base.specs.declared.child.Role.{Role}
 use Rattle.kt_metadata.specs.declared.host.Host.{Host}
 use Rattle.kt_suite.specs.Answers.{Answered}
 use Rattle.kt_args.specs.declared.options.CaseOptions.{CaseOptions}
-use Rattle.kt_plan.specs.declared.cases.Picked.{Picked}
+use Rattle.kt_plan.specs.declared.cases.CommandSelection.{CommandSelection}
 use Rattle.kt_plan.specs.declared.stop.Stop.{Stop}
 use Rattle.kt_plan.specs.Selecting.{Selects, SelectsOrShort}
-use Rattle.kt_cli.specs.Inner.Meaning.{asked_only, AsksOnly}
+use Rattle.kt_cli.specs.Inner.Meaning.{asked_only, ExecutesWithoutStore}
 use Rattle.kt_plan.specs.Planning.{Surveys, SurveysFirst, ArePlanned}
 use Rattle.kt_plan.proofs.LookLaws.{all_surveyed}
 use Rattle.kt_cli.specs.StopLines.{stop_line, stop_exit}
@@ -25,7 +25,7 @@ printed_as was now f exit due bytes own s k e = record { failed = f; shows = s; 
 
 module _ {W : Type 0} (w : World W) where
   -- `HasSelected c options old picked new`: the selection `picked` leads from `old` to `new`
-  abbrev HasSelected : Command → CaseOptions → W → Picked → W → Type 0
+  abbrev HasSelected : Command → CaseOptions → W → CommandSelection → W → Type 0
   HasSelected c options old picked new = Answered (leads_by w.asks w.replies) old new (λ questions. SelectsOrShort (needs_case c) options questions (Ok picked))
 
   -- an idle world is idle after a call of its host
@@ -34,77 +34,77 @@ module _ {W : Type 0} (w : World W) where
   idle_after d e mid new m t j = record { runs = λ k role. d mid new m t k role ∙ j.runs k role; pends = λ k. e mid new m t k ∙ j.pends k }
 
   -- a command that started no case did what its calls of the world mean
-  asks_only : (c : Command) (old new : W) (was now : Option (List ℕ)) (exit : ℕ) (questions : List Question) (bytes : List ℕ) (due : ℕ) → Chain (leads_by w.asks w.replies) old questions new
-      → (q : Printed was now exit bytes due) → Means (asked_only questions) c bytes due ⊎ CutShort (asked_only questions) q.failed c bytes due
-      → AsksOnly w c old new was now exit
+  asks_only : (c : Command) (old new : W) (was now : Option (List ℕ)) (exit : ℕ) (questions : List WorldCall) (bytes : List ℕ) (due : ℕ) → Chain (leads_by w.asks w.replies) old questions new
+      → (q : Printed was now exit bytes due) → Means (asked_only questions) c bytes due ⊎ EndsEarly (asked_only questions) q.failed c bytes due
+      → ExecutesWithoutStore w c old new was now exit
   asks_only c old new was now exit questions bytes due p q m = record { seen = asked_only questions; course = record { begun = new; asked = p; ran = refl }; uncalled = refl; bytes = bytes; due = due; is = m; printed = q }
 
-  only_asked : (questions : List Question) → IsAskedOnly (asked_only questions)
+  only_asked : (questions : List WorldCall) → OnlyListsCases (asked_only questions)
   only_asked questions = record { trace = refl; calls = refl }
 
   -- a command that a fault stopped prints the fault
   pub stopped_only : (c : Command) (options : CaseOptions) (old new : W) (was now : Option (List ℕ)) (exit : ℕ) (fault : Stop) → cases_of c ≡ Some options
       → Answered (leads_by w.asks w.replies) old new (λ questions. SelectsOrShort (needs_case c) options questions (Err fault))
-      → Printed was now exit (utf8 (stop_line fault)) (stop_exit fault) → AsksOnly w c old new was now exit
+      → Printed was now exit (utf8 (stop_line fault)) (stop_exit fault) → ExecutesWithoutStore w c old new was now exit
   stopped_only c options old new was now exit fault e a p =
       asks_only c old new was now exit a.asked (utf8 (stop_line fault)) (stop_exit fault) a.chain p (elim a.holds [
-        | inl s ↦ inr (subst (λ (x : Stop). CutShort (asked_only a.asked) p.failed c (utf8 (stop_line x)) (stop_exit x)) (sym s.0.1) (no_memory c options e (selecting a.asked s.1) (only_asked a.asked)))
+        | inl s ↦ inr (subst (λ (x : Stop). EndsEarly (asked_only a.asked) p.failed c (utf8 (stop_line x)) (stop_exit x)) (sym s.0.1) (no_memory c options e (selecting a.asked s.1) (only_asked a.asked)))
         | inr s ↦ inl (stopped c options fault e s (only_asked a.asked))
       ])
 
-  picked_is : (needed : Bool) (options : CaseOptions) (questions : List Question) (picked : Picked) → SelectsOrShort needed options questions (Ok picked) → Selects needed options questions (Ok picked)
+  picked_is : (needed : Bool) (options : CaseOptions) (questions : List WorldCall) (picked : CommandSelection) → SelectsOrShort needed options questions (Ok picked) → Selects needed options questions (Ok picked)
   picked_is needed options questions picked (inl s) = absurd s.0
   picked_is needed options questions picked (inr s) = s
 
   -- a command that only selected cases did what the selection means
-  pub picked_only : (c : Command) (needed : Bool) (options : CaseOptions) (old new : W) (was now : Option (List ℕ)) (exit : ℕ) (picked : Picked) (bytes : List ℕ) (due : ℕ)
-      → ((questions : List Question) → Selects needed options questions (Ok picked) → IsAskedOnly (asked_only questions) → Means (asked_only questions) c bytes due)
-      → Answered (leads_by w.asks w.replies) old new (λ questions. SelectsOrShort needed options questions (Ok picked)) → Printed was now exit bytes due → AsksOnly w c old new was now exit
+  pub picked_only : (c : Command) (needed : Bool) (options : CaseOptions) (old new : W) (was now : Option (List ℕ)) (exit : ℕ) (picked : CommandSelection) (bytes : List ℕ) (due : ℕ)
+      → ((questions : List WorldCall) → Selects needed options questions (Ok picked) → OnlyListsCases (asked_only questions) → Means (asked_only questions) c bytes due)
+      → Answered (leads_by w.asks w.replies) old new (λ questions. SelectsOrShort needed options questions (Ok picked)) → Printed was now exit bytes due → ExecutesWithoutStore w c old new was now exit
   picked_only c needed options old new was now exit picked bytes due means a p =
       asks_only c old new was now exit a.asked bytes due a.chain p (inl (means a.asked (picked_is needed options a.asked picked a.holds) (only_asked a.asked)))
 
   -- the calls of a selection, and then the first calls about its cases
-  prepared_first : (needed : Bool) (options : CaseOptions) (questions : List Question) (answers : List Reply) (picked : Picked) (cases : List Candidate) → SelectsOrShort needed options questions (Ok picked) → cases ≡ taken needed picked.chosen.cases
-      → SurveysFirst cases answers → AsksFirst needed options (questions ++ of_host answers)
+  prepared_first : (needed : Bool) (options : CaseOptions) (questions : List WorldCall) (answers : List Reply) (picked : CommandSelection) (cases : List Candidate) → SelectsOrShort needed options questions (Ok picked) → cases ≡ taken needed picked.chosen.cases
+      → SurveysFirst cases answers → MakesCallPrefix needed options (questions ++ host_calls answers)
   prepared_first needed options questions answers picked cases a same s =
       preparing questions picked answers (picked_is needed options questions picked a) (subst (λ (cs : List Candidate). SurveysFirst cs answers) same s)
 
   -- a command ends early if an allocation fails before the plan is made
-  pub short_only : (c : Command) (options : CaseOptions) (old mid new : W) (was now : Option (List ℕ)) (exit : ℕ) (picked : Picked) (cases : List Candidate) → cases_of c ≡ Some options
+  pub short_only : (c : Command) (options : CaseOptions) (old mid new : W) (was now : Option (List ℕ)) (exit : ℕ) (picked : CommandSelection) (cases : List Candidate) → cases_of c ≡ Some options
       → HasSelected c options old picked mid → cases ≡ taken (needs_case c) picked.chosen.cases → Answered w.replies mid new (λ answers. SurveysFirst cases answers)
-      → Printed was now exit (utf8 memory_line) 2 → AsksOnly w c old new was now exit
+      → Printed was now exit (utf8 memory_line) 2 → ExecutesWithoutStore w c old new was now exit
   short_only c options old mid new was now exit picked cases e a same b p =
-      asks_only c old new was now exit (a.asked ++ of_host b.asked) (utf8 memory_line) 2 (chain-append (leads_by w.asks w.replies) a.asked (of_host b.asked) old mid new a.chain (chain_of_host w.asks w.replies b.asked mid new b.chain)) p
-      (inr (no_memory c options e (prepared_first (needs_case c) options a.asked b.asked picked cases a.holds same b.holds) (only_asked (a.asked ++ of_host b.asked))))
+      asks_only c old new was now exit (a.asked ++ host_calls b.asked) (utf8 memory_line) 2 (chain-append (leads_by w.asks w.replies) a.asked (host_calls b.asked) old mid new a.chain (chain_of_host w.asks w.replies b.asked mid new b.chain)) p
+      (inr (no_memory c options e (prepared_first (needs_case c) options a.asked b.asked picked cases a.holds same b.holds) (only_asked (a.asked ++ host_calls b.asked))))
 
   -- `Prepares picked cases plan answers`: `plan` is that of `cases`, by the host's `answers`
-  abbrev pub Prepares : Picked → List Candidate → List Job → List Reply → Type 0
+  abbrev pub Prepares : CommandSelection → List Candidate → List Job → List Reply → Type 0
   Prepares picked cases plan answers = (host : Host) × Surveys cases answers host × ArePlanned picked.settings.config host 0 cases plan
 
   -- the calls for the selection, for requirements, and the last ones, together
-  asks_all : (before : List Question) (answers last : List Reply) (old mid asked begun : W) → Chain (leads_by w.asks w.replies) old before mid
-      → Chain w.replies mid answers asked → Chain w.replies asked last begun → Chain (leads_by w.asks w.replies) old (before ++ (of_host answers ++ of_host last)) begun
+  asks_all : (before : List WorldCall) (answers last : List Reply) (old mid asked begun : W) → Chain (leads_by w.asks w.replies) old before mid
+      → Chain w.replies mid answers asked → Chain w.replies asked last begun → Chain (leads_by w.asks w.replies) old (before ++ (host_calls answers ++ host_calls last)) begun
   asks_all before answers last old mid asked begun p q r =
-      chain-append (leads_by w.asks w.replies) before (of_host answers ++ of_host last) old mid begun p
-      (chain-append (leads_by w.asks w.replies) (of_host answers) (of_host last) mid asked begun
+      chain-append (leads_by w.asks w.replies) before (host_calls answers ++ host_calls last) old mid begun p
+      (chain-append (leads_by w.asks w.replies) (host_calls answers) (host_calls last) mid asked begun
       (chain_of_host w.asks w.replies answers mid asked q) (chain_of_host w.asks w.replies last asked begun r))
 
-  prepared : (needed : Bool) (options : CaseOptions) (before : List Question) (answers last : List Reply) (picked : Picked) (cases : List Candidate)
+  prepared : (needed : Bool) (options : CaseOptions) (before : List WorldCall) (answers last : List Reply) (picked : CommandSelection) (cases : List Candidate)
       (plan : List Job) (trace : Trace) (calls : List StoreCall) → SelectsOrShort needed options before (Ok picked) → Prepares picked cases plan answers
-      → IsPrepared needed options (record { questions = before ++ (of_host answers ++ of_host last); plan = plan; trace = trace; calls = calls }) picked cases last
+      → IsPrepared needed options (record { questions = before ++ (host_calls answers ++ host_calls last); plan = plan; trace = trace; calls = calls }) picked cases last
   prepared needed options before answers last picked cases plan trace calls s p =
       record { before = before; selects = picked_is needed options before picked s; answers = answers; host = p.0; surveys = p.1; asked = refl; planned = p.2 }
 
   -- `debug` prints its case after the case ran
-  pub debug_only : (options : CaseOptions) (old mid begun new : W) (was now : Option (List ℕ)) (exit : ℕ) (picked : Picked) (first : Candidate) (others cases some : List Candidate) (plan : List Job) (failed : Bool) (totals : Totals) (due : ℕ)
+  pub debug_only : (options : CaseOptions) (old mid begun new : W) (was now : Option (List ℕ)) (exit : ℕ) (picked : CommandSelection) (first : Candidate) (others cases some : List Candidate) (plan : List Job) (failed : Bool) (totals : Totals) (due : ℕ)
       → HasSelected (command.Debug options) options old picked mid → cases ≡ picked.chosen.cases → cases ≡ first ∷ others → some ≡ take 1 cases
       → Answered w.replies mid begun (Prepares picked some plan)
-      → Debugged (launcher_of w) plan begun new was now failed (Ok totals) → due ≡ (if totals.bad == 0 then 0 else 1) → exit ≡ (if failed then 2 else due)
-      → AsksOnly w (command.Debug options) old new was now exit
+      → ExecutesDebug (launcher_of w) plan begun new was now failed (Ok totals) → due ≡ (if totals.bad == 0 then 0 else 1) → exit ≡ (if failed then 2 else due)
+      → ExecutesWithoutStore w (command.Debug options) old new was now exit
   debug_only options old mid begun new was now exit picked first others cases some plan failed totals due a x n s b d k e =
       let one : Answered w.replies mid begun (Prepares picked (first ∷ []) plan) = subst (λ (xs : List Candidate). Answered w.replies mid begun (Prepares picked xs plan)) (s ∙ ap (λ (xs : List Candidate). take 1 xs) n) b in
       record {
-        seen = record { questions = a.asked ++ (of_host one.asked ++ []); plan = plan; trace = d.trace; calls = [] };
+        seen = record { questions = a.asked ++ (host_calls one.asked ++ []); plan = plan; trace = d.trace; calls = [] };
         course = record { begun = begun; asked = asks_all a.asked one.asked [] old mid begun begun a.chain one.chain refl; ran = d.leads };
         uncalled = refl;
         bytes = all_debug_bytes d.entries;
@@ -115,16 +115,16 @@ module _ {W : Type 0} (w : World W) where
       }
 
   -- `debug` ends early if an allocation fails before its case starts
-  pub debug_short : (options : CaseOptions) (old mid begun new : W) (was between now : Option (List ℕ)) (exit : ℕ) (picked : Picked) (some : List Candidate) (plan : List Job) (f g : Bool) (fault : RunFault)
+  pub debug_short : (options : CaseOptions) (old mid begun new : W) (was between now : Option (List ℕ)) (exit : ℕ) (picked : CommandSelection) (some : List Candidate) (plan : List Job) (f g : Bool) (fault : RunFault)
       → Answered (leads_by w.asks w.replies) old mid (λ questions. SelectsOrShort true options questions (Ok picked))
-      → some ≡ take 1 picked.chosen.cases → Answered w.replies mid begun (Prepares picked some plan) → Debugged (launcher_of w) plan begun new was between f (Err fault) → Says between f now g (utf8 (run_line fault)) → exit ≡ (if g then 2 else 2)
-      → AsksOnly w (command.Debug options) old new was now exit
+      → some ≡ take 1 picked.chosen.cases → Answered w.replies mid begun (Prepares picked some plan) → ExecutesDebug (launcher_of w) plan begun new was between f (Err fault) → Says between f now g (utf8 (run_line fault)) → exit ≡ (if g then 2 else 2)
+      → ExecutesWithoutStore w (command.Debug options) old new was now exit
   debug_short options old mid begun new was between now exit picked some plan f g (SinkFailed why) a same b d s e = absurd d.ends
   debug_short options old mid begun new was between now exit picked some plan f g (NoMemory refusal) a same b d s e =
       let q = d.ends in
       record {
-        seen = record { questions = a.asked ++ of_host b.asked; plan = plan; trace = d.trace; calls = [] };
-        course = record { begun = begun; asked = chain-append (leads_by w.asks w.replies) a.asked (of_host b.asked) old mid begun a.chain (chain_of_host w.asks w.replies b.asked mid begun b.chain); ran = d.leads };
+        seen = record { questions = a.asked ++ host_calls b.asked; plan = plan; trace = d.trace; calls = [] };
+        course = record { begun = begun; asked = chain-append (leads_by w.asks w.replies) a.asked (host_calls b.asked) old mid begun a.chain (chain_of_host w.asks w.replies b.asked mid begun b.chain); ran = d.leads };
         uncalled = refl;
         bytes = utf8 memory_line;
         due = 2;
@@ -134,7 +134,7 @@ module _ {W : Type 0} (w : World W) where
 
   module _ {R : Type 0} (keep : keeping.Ghosts R) where
     -- a command that makes no calls of the store did what `CommandResult` states
-    pub did_asked : (c : Command) (old new : W) (store : R) (was now : Option (List ℕ)) (exit : ℕ) → AsksOnly w c old new was now exit → CommandResult w keep c (scene old store was) (scene new store now) exit
+    pub did_asked : (c : Command) (old new : W) (store : R) (was now : Option (List ℕ)) (exit : ℕ) → ExecutesWithoutStore w c old new was now exit → CommandResult w keep c (scene old store was) (scene new store now) exit
     did_asked c old new store was now exit t = record {
       seen = t.seen;
       course = t.course;
@@ -146,13 +146,13 @@ module _ {W : Type 0} (w : World W) where
     }
 
     -- `test` did what `CommandResult` states, after its plan was run
-    pub did_test : (old new : Scene W R) (options : CaseOptions) (file : List ℕ) (mid asked begun : W) (picked : Picked) (cases : List Candidate) (plan : List Job) (moment exit : ℕ)
+    pub did_test : (old new : Scene W R) (options : CaseOptions) (file : List ℕ) (mid asked begun : W) (picked : CommandSelection) (cases : List Candidate) (plan : List Job) (moment exit : ℕ)
         → HasSelected (command.Test options file) options old.world picked mid → cases ≡ picked.chosen.cases
         → Answered w.replies mid asked (Prepares picked cases plan) → w.replies asked (Now moment) begun
-        → RanPlan (launcher_of w) keep (run_for plan options picked moment) (scene begun old.store old.held) new exit → CommandResult w keep (command.Test options file) old new exit
+        → ExecutesPlan (launcher_of w) keep (run_for plan options picked moment) (scene begun old.store old.held) new exit → CommandResult w keep (command.Test options file) old new exit
     did_test old new options file mid asked begun picked cases plan moment exit a same parts t r =
         let b : Answered w.replies mid asked (Prepares picked picked.chosen.cases plan) = subst (λ (xs : List Candidate). Answered w.replies mid asked (Prepares picked xs plan)) same parts in
-        let seen : Seen = record { questions = a.asked ++ (of_host b.asked ++ of_host (Now moment ∷ [])); plan = plan; trace = r.trace; calls = r.calls } in
+        let seen : CommandCalls = record { questions = a.asked ++ (host_calls b.asked ++ host_calls (Now moment ∷ [])); plan = plan; trace = r.trace; calls = r.calls } in
         let ready = prepared false options a.asked b.asked (Now moment ∷ []) picked picked.chosen.cases plan r.trace r.calls a.holds b.holds in
         record {
           seen = seen;
@@ -165,16 +165,16 @@ module _ {W : Type 0} (w : World W) where
         }
 
     -- `called_only calls`: the calls of a command that only calls the store
-    abbrev called_only : List StoreCall → Seen
+    abbrev called_only : List StoreCall → CommandCalls
     called_only calls = record { questions = []; plan = []; trace = NoEvent; calls = calls }
 
-    none_asked : {calls : List StoreCall} → IsUnasked (called_only calls)
+    none_asked : {calls : List StoreCall} → MakesNoCalls (called_only calls)
     none_asked = record { questions = refl; trace = refl }
 
     module _ (c : Command) (world : W) (store after : R) (was now : Option (List ℕ)) (exit : ℕ) (options : ReportOptions) where
       -- a report did what `CommandResult` states of its command
-      reports : {M : List StoreCall → List ℕ → ℕ → Type 0} {C : Bool → List StoreCall → List ℕ → ℕ → Type 0} (k : Command) → c ≡ k → (d : DidReport keep store after was now exit M C)
-          → (M d.calls d.bytes d.due → Means (called_only d.calls) k d.bytes d.due) → (C d.printed.failed d.calls d.bytes d.due → CutShort (called_only d.calls) d.printed.failed k d.bytes d.due)
+      reports : {M : List StoreCall → List ℕ → ℕ → Type 0} {C : Bool → List StoreCall → List ℕ → ℕ → Type 0} (k : Command) → c ≡ k → (d : WritesReport keep store after was now exit M C)
+          → (M d.calls d.bytes d.due → Means (called_only d.calls) k d.bytes d.due) → (C d.printed.failed d.calls d.bytes d.due → EndsEarly (called_only d.calls) d.printed.failed k d.bytes d.due)
           → CommandResult w keep c (scene world store was) (scene world after now) exit
       reports k e d means short = subst (λ (x : Command). CommandResult w keep x (scene world store was) (scene world after now) exit) (sym e) (record {
         seen = called_only d.calls;
@@ -187,16 +187,16 @@ module _ {W : Type 0} (w : World W) where
       })
 
       text_or_unread : (kinds : List Kind) (verbose failed : Bool) (calls : List StoreCall) (bytes : List ℕ) (due : ℕ) → TextOrUnread options.run kinds verbose failed calls bytes due
-          → CutShort (called_only calls) failed (command.Report options kinds verbose) bytes due
+          → EndsEarly (called_only calls) failed (command.Report options kinds verbose) bytes due
       text_or_unread kinds verbose failed calls bytes due (inl u) = report_cut options kinds verbose bytes due none_asked u
       text_or_unread kinds true failed calls bytes due (inr u) = text_cut options kinds bytes due none_asked u.1
       text_or_unread kinds false failed calls bytes due (inr u) = absurd (cc)
 
       pub did_report : (kinds : List Kind) (verbose : Bool) → c ≡ command.Report options kinds verbose
-          → DidReport keep store after was now exit (Reported options.run kinds verbose) (TextOrUnread options.run kinds verbose) → CommandResult w keep c (scene world store was) (scene world after now) exit
+          → WritesReport keep store after was now exit (Reported options.run kinds verbose) (TextOrUnread options.run kinds verbose) → CommandResult w keep c (scene world store was) (scene world after now) exit
       did_report kinds verbose e d =
           reports (command.Report options kinds verbose) e d (reported options kinds verbose d.bytes d.due none_asked) (text_or_unread kinds verbose d.printed.failed d.calls d.bytes d.due)
 
       pub did_junit : c ≡ command.ReportJunit options
-          → DidReport keep store after was now exit (ReportedJunit options.run) (JunitOrUnread options.run) → CommandResult w keep c (scene world store was) (scene world after now) exit
+          → WritesReport keep store after was now exit (ReportedJunit options.run) (JunitOrUnread options.run) → CommandResult w keep c (scene world store was) (scene world after now) exit
       did_junit e d = reports (command.ReportJunit options) e d (reported_junit options d.bytes d.due none_asked) (junit_cut options d.bytes d.due none_asked)

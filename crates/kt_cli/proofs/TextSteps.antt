@@ -1,6 +1,6 @@
 -- A text report with properties, written one entry at a time.
 use Rattle.std.proofs.Common.{Option, Some, None, Result, Ok, Err, Bool, true, false, flat_map, get_or, take, drop, ◌≡◌, ◌<◌, ◌≤◌, ◌+◌, ℕ, List, [], ◌∷◌, ◌++◌, length, map, refl, ap, ap₂, ◌∙◌, sym, subst, append_assoc, append-nil}
-use Rattle.kt_cli.proofs.Common.{Entry, Kind, Run, Shows, shows_as, shows_both, shows_more, shows_none, Pairs, StoreFault, without_pairs, titled_lines, last_kind, opening, by_section, summary, entry_bytes, with_meta, entries_of, same_kind, chosen_of, list_any, StoreCall, EndsEntries, WritesEntries, WritesText, NoPairs, Output, DifferInPairs, asked_pairs, next_bytes, IsDateOf, Date, Stored}
+use Rattle.kt_cli.proofs.Common.{Entry, Kind, Run, Shows, shows_as, shows_both, shows_more, shows_none, Pairs, StoreFault, without_pairs, titled_lines, last_kind, opening, entries_by_section, summary, entry_bytes, with_properties, entries_of, same_kind, chosen_of, list_any, StoreCall, EndsEntries, WritesEntries, WritesText, NoPairs, Output, DifferInPairs, asked_pairs, next_bytes, IsDateOf, Date, CallsStore}
 use Rattle.kt_base.specs.declared.emission.OutputFault.{OutputFault}
 use Rattle.kt_base.specs.declared.variable.Variable.{Variable}
 use Rattle.kt_report.proofs.LineSteps.{if_of, if_of_all}
@@ -49,31 +49,31 @@ module _ {R : Type 0} (keep : keeping.Ghosts R) (number : ℕ) where
 
   -- writing ends early if the properties of an entry can't be read
   pub pairs_refused : {store after : R} {was now : Option (List ℕ)} {before : Option Kind} {e : Entry} (fault : StoreFault) → Shows was now false (opening before e.verdict.kind)
-      → Stored keep (Pairs number e.position (Err fault) ∷ []) store after → WritesEntries keep store after was now number before (e ∷ []) (Err (NoPairs fault))
+      → CallsStore keep (Pairs number e.position (Err fault) ∷ []) store after → WritesEntries keep store after was now number before (e ∷ []) (Err (NoPairs fault))
   pairs_refused {e = e} fault s p = record { ends = ([], [], e, refl, p, s) }
 
   module _ {store after : R} {was held now : Option (List ℕ)} {before : Option Kind} {e : Entry} (pairs : List Variable) (s : Shows was held false (opening before e.verdict.kind))
-      (p : Stored keep (Pairs number e.position (Ok pairs) ∷ []) store after) where
+      (p : CallsStore keep (Pairs number e.position (Ok pairs) ∷ []) store after) where
     -- writing ends early if an entry can't be written
-    pub entry_cut : (fault : OutputFault) → Shows held now true (entry_bytes true (with_meta e pairs)) → WritesEntries keep store after was now number before (e ∷ []) (Err (Output fault))
-    entry_cut fault t = record { ends = (with_meta e pairs ∷ [], [], refl, p, λ end. shows_more end (shows_both s (shows_more [] t))) }
+    pub entry_cut : (fault : OutputFault) → Shows held now true (entry_bytes true (with_properties e pairs)) → WritesEntries keep store after was now number before (e ∷ []) (Err (Output fault))
+    entry_cut fault t = record { ends = (with_properties e pairs ∷ [], [], refl, p, λ end. shows_more end (shows_both s (shows_more [] t))) }
 
     -- an entry is written after its title and its line
-    pub entry_written : {kind : Kind} → kind ≡ e.verdict.kind → Shows held now false (entry_bytes true (with_meta e pairs))
+    pub entry_written : {kind : Kind} → kind ≡ e.verdict.kind → Shows held now false (entry_bytes true (with_properties e pairs))
         → WritesEntries keep store after was now number before (e ∷ []) (Ok (Some kind))
-    entry_written is t = record { ends = (with_meta e pairs ∷ [], refl, ap Some is, p, shows_both s (shows_as (sym (append-nil (entry_bytes true (with_meta e pairs)))) t)) }
+    entry_written is t = record { ends = (with_properties e pairs ∷ [], refl, ap Some is, p, shows_both s (shows_as (sym (append-nil (entry_bytes true (with_properties e pairs)))) t)) }
 
   -- ---- some entries, and then others
 
-  module _ (store mid after : R) (was held now : Option (List ℕ)) (before : Option Kind) (xs ys shown : List Entry) (d : DifferInPairs shown xs) (p : Stored keep (asked_pairs number shown) store mid)
+  module _ (store mid after : R) (was held now : Option (List ℕ)) (before : Option Kind) (xs ys shown : List Entry) (d : DifferInPairs shown xs) (p : CallsStore keep (asked_pairs number shown) store mid)
       (s : Shows was held false (titled_lines true before shown)) where
-    calls_more : (more : List Entry) (calls : List StoreCall) → Stored keep (asked_pairs number more ++ calls) mid after
-        → Stored keep (asked_pairs number (shown ++ more) ++ calls) store after
+    calls_more : (more : List Entry) (calls : List StoreCall) → CallsStore keep (asked_pairs number more ++ calls) mid after
+        → CallsStore keep (asked_pairs number (shown ++ more) ++ calls) store after
     calls_more more calls q =
         stored_as keep _ _ store after (sym (append_assoc (asked_pairs number shown) (asked_pairs number more) calls) ∙ ap (λ cs. cs ++ calls) (sym (asked_both number shown more)))
         (stored_both keep (asked_pairs number shown) (asked_pairs number more ++ calls) store mid after p q)
 
-    asked_more : (more : List Entry) → Stored keep (asked_pairs number more) mid after → Stored keep (asked_pairs number (shown ++ more)) store after
+    asked_more : (more : List Entry) → CallsStore keep (asked_pairs number more) mid after → CallsStore keep (asked_pairs number (shown ++ more)) store after
     asked_more more q = stored_as keep _ _ store after (sym (asked_both number shown more)) (stored_both keep (asked_pairs number shown) (asked_pairs number more) store mid after p q)
 
     bytes_more : (f : Bool) (more : List Entry) (next : Option Kind → List ℕ)
@@ -148,12 +148,12 @@ module _ {R : Type 0} (keep : keeping.Ghosts R) (number : ℕ) where
 module _ {R : Type 0} (keep : keeping.Ghosts R) where
   module _ {kinds : List Kind} {run : Run} (date : Date) (on : IsDateOf run.started date) where
     -- the report ends early if a section can't be written
-    pub sections_cut : {store after : R} {was now : Option (List ℕ)} (stop : TextStop) → WritesEntries keep store after was now run.number None (by_section kinds run.entries) (Err stop)
+    pub sections_cut : {store after : R} {was now : Option (List ℕ)} (stop : TextStop) → WritesEntries keep store after was now run.number None (entries_by_section kinds run.entries) (Err stop)
         → WritesText keep store after was now kinds run (Err stop)
     sections_cut (NoPairs fault) w = record { ends = w.ends }
     sections_cut (Output fault) w = let e = w.ends in record { ends = (e.0, e.1, date, on, e.2, e.3, e.4 (summary date run)) }
 
-    module _ {store after : R} {was held now : Option (List ℕ)} {last : Option Kind} (w : WritesEntries keep store after was held run.number None (by_section kinds run.entries) (Ok last)) where
+    module _ {store after : R} {was held now : Option (List ℕ)} {last : Option Kind} (w : WritesEntries keep store after was held run.number None (entries_by_section kinds run.entries) (Ok last)) where
       -- the report ends early if the summary can't be written
       pub summary_cut : (fault : OutputFault) → Shows held now true (summary date run) → WritesText keep store after was now kinds run (Err (Output fault))
       summary_cut fault s =

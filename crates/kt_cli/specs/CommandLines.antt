@@ -3,10 +3,10 @@ use Rattle.std.specs.Prelude.{◌≡◌, ℕ, List, Result, Ok, Err, IsErrAnd}
 use Rattle.std.specs.IoError.{error_kind}
 use Rattle.kt_cli.specs.Types.{Command, CommandFault, Error}
 use Rattle.std.specs.declared.io.ErrorKind.TheVariants.{OutOfMemory}
-use Rattle.kt_args.specs.Reading.{Reads, RefusesWords}
+use Rattle.kt_args.specs.Reading.{Reads, RefusesArgs}
 
--- `IsSaid own words command`: `command` is the parse of the arguments `own words`, those after the
+-- `IsCommandOfArgs own words command`: `command` is the parse of the arguments `own words`, those after the
 -- program's own name. If the system returned an error for `words`, the arguments are rejected.
-abbrev pub IsSaid : {W : Type 0} → (W → List (List ℕ)) → Result W Error → Result Command CommandFault → Type 0
-IsSaid own (Ok words) command = Reads (own words) command
-IsSaid own (Err error) command = IsErrAnd command (RefusesWords (error_kind error ≡ OutOfMemory))
+abbrev pub IsCommandOfArgs : {W : Type 0} → (W → List (List ℕ)) → Result W Error → Result Command CommandFault → Type 0
+IsCommandOfArgs own (Ok words) command = Reads (own words) command
+IsCommandOfArgs own (Err error) command = IsErrAnd command (RefusesArgs (error_kind error ≡ OutOfMemory))

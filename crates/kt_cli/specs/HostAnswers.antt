@@ -6,7 +6,7 @@ use Rattle.kt_child.specs.Driving.ChildrenState.{is_among, shown_in}
 use Rattle.kt_child.specs.Driving.DriverSteps.{DriverLists, DriverStarts, DriverWaits}
 use Rattle.kt_child.specs.declared.system.os.Os as system
 use Rattle.kt_cli.specs.declared.host.host_files.HostFiles as machine
-use Rattle.kt_cli.specs.Machines.{HostResponse, FrontOf, IsFile, IsThere, HasMoment, AtPath, IsSought, read_limit}
+use Rattle.kt_cli.specs.Machines.{HostResponse, FrontOf, IsFile, IsThere, HasMoment, CallsAtPath, IsFoundByPath, read_limit}
 use Rattle.kt_cli.specs.Scenes.{World}
 use Rattle.kt_metadata.specs.declared.host.Need.TheVariants.{File, Program}
 use Rattle.kt_plan.specs.Reply.{ReadConfig, Lists, Finds, IsRoot, HasMemory, HasDisk}
@@ -37,23 +37,23 @@ module _ {M O : Type 0} where
   Asks old Answered new = (new ≡ with_machine old new.machine) × Answered old.machine new.machine
 
 module _ {M O : Type 0} (answers : M → HostResponse → M → Type 0) where
-  -- `IsLook old asked new`: the tree's call `asked` is one of the machine, about the path below the
+  -- `IsFileCall old asked new`: the tree's call `asked` is one of the machine, about the path below the
   -- Kyuafile's directory.
-  abbrev pub IsLook : HostWorld M O → Asked → HostWorld M O → Type 0
-  IsLook old (Read path answer) new =
-      Asks old (AtPath answers (path_below old.directory path) (FrontOf (path_below old.directory path) answer) (answer ≡ Err Failed)) new × IsShort answer
-  IsLook old (Exists path answer) new =
-      Asks old (AtPath answers (path_below old.directory path) (IsFile (path_below old.directory path) answer) (answer ≡ false)) new
+  abbrev pub IsFileCall : HostWorld M O → Asked → HostWorld M O → Type 0
+  IsFileCall old (Read path answer) new =
+      Asks old (CallsAtPath answers (path_below old.directory path) (FrontOf (path_below old.directory path) answer) (answer ≡ Err Failed)) new × IsShort answer
+  IsFileCall old (Exists path answer) new =
+      Asks old (CallsAtPath answers (path_below old.directory path) (IsFile (path_below old.directory path) answer) (answer ≡ false)) new
 
   -- `IsHostAnswer leads old reply new`: the world's call `reply` with its result leads from `old`
   -- to `new`. A list of cases changes only the driver. Configuration files and required files are
-  -- looked up at their own paths, programs by `IsSought`. Memory and disk space are unknown.
+  -- looked up at their own paths, programs by `IsFoundByPath`. Memory and disk space are unknown.
   abbrev pub IsHostAnswer : (O → Call → O → Type 0) → HostWorld M O → Reply → HostWorld M O → Type 0
   IsHostAnswer leads old (ReadConfig path answer) new = Asks old (λ m n. answers m (FrontOf (utf8 path) answer) n) new × IsShort answer
   IsHostAnswer leads old (Lists program variables answer) new =
       DriverLists leads old.driver program.path variables answer new.driver × (new.machine ≡ old.machine) × (new.directory ≡ old.directory) × (new.around ≡ old.around)
   IsHostAnswer leads old (Finds File path answer) new = Asks old (λ m n. answers m (IsThere (utf8 path) answer) n) new
-  IsHostAnswer leads old (Finds Program name answer) new = Asks old (IsSought answers old.around.path name answer) new
+  IsHostAnswer leads old (Finds Program name answer) new = Asks old (IsFoundByPath answers old.around.path name answer) new
   IsHostAnswer leads old (IsRoot answer) new = (new ≡ old) × (answer ≡ is_root old.around.user)
   IsHostAnswer leads old (HasMemory answer) new = (new ≡ old) × (answer ≡ None)
   IsHostAnswer leads old (HasDisk answer) new = (new ≡ old) × (answer ≡ None)
@@ -79,7 +79,7 @@ module _ {M O : Type 0} where
     pending = λ w. is_among w.driver.running.pending;
     starts = HostStarts o.leads;
     waits = HostWaits o.leads;
-    asks = IsLook m.answers;
+    asks = IsFileCall m.answers;
     replies = IsHostAnswer m.answers o.leads;
   }
 
@@ -88,7 +88,7 @@ module _ {M O : Type 0} where
   asked_kept old new h = ap (λ (w : HostWorld M O). w.driver.running) h
 
   -- `look_kept answers old new asked`: no call of the tree changes which children run.
-  pub look_kept : (answers : M → HostResponse → M → Type 0) (old new : HostWorld M O) (asked : Asked) → IsLook answers old asked new → new.driver.running ≡ old.driver.running
+  pub look_kept : (answers : M → HostResponse → M → Type 0) (old new : HostWorld M O) (asked : Asked) → IsFileCall answers old asked new → new.driver.running ≡ old.driver.running
   look_kept answers old new (Read path answer) h = asked_kept old new h.0.0
   look_kept answers old new (Exists path answer) h = asked_kept old new h.0
 

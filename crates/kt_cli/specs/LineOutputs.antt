@@ -37,10 +37,10 @@ pub record LineState : Type 0 where
 abbrev pub line_state : {W : Type 0} → (W → Option (List ℕ)) → LineOutput W → LineState
 line_state contents l = record { given = given_bytes contents l; unwritten = unwritten l; failed = has_failed l; unflushed = unflushed l }
 
--- `HandedOn failed flush unwritten fails`: the result `fails` of a flush, by the state after it.
+-- `FlushResult failed flush unwritten fails`: the result `fails` of a flush, by the state after it.
 -- Either all bytes are written, or a write has failed and some bytes are unwritten, or the flush of
 -- the inner writer failed.
-abbrev pub HandedOn : Bool → Option FlushFault → List ℕ → Bool → Type 0
-HandedOn false None unwritten fails = (unwritten ≡ []) × (fails ≡ false)
-HandedOn true flush unwritten fails = (0 < length unwritten) × (fails ≡ true)
-HandedOn false (Some fault) unwritten fails = fails ≡ true
+abbrev pub FlushResult : Bool → Option FlushFault → List ℕ → Bool → Type 0
+FlushResult false None unwritten fails = (unwritten ≡ []) × (fails ≡ false)
+FlushResult true flush unwritten fails = (0 < length unwritten) × (fails ≡ true)
+FlushResult false (Some fault) unwritten fails = fails ≡ true

@@ -31,39 +31,39 @@ path_in [] name = name
 path_in (b ∷ bs) name = (b ∷ bs) ++ codes "/" ++ name
 
 module _ {M : Type 0} (answers : M → HostResponse → M → Type 0) where
-  -- `AtPath path asked Unasked old new`: the call `asked` about the joined `path` is made. If the
+  -- `CallsAtPath path asked Unasked old new`: the call `asked` about the joined `path` is made. If the
   -- path is too long, no call is made, and `Unasked` holds.
-  pub data AtPath (path : List ℕ) (asked : HostResponse) (Unasked : Type 0) (old new : M) : Type 0 where
-    taken : length path ≤ longest_path → answers old asked new → AtPath path asked Unasked old new
-    too_long : longest_path < length path → Unasked → new ≡ old → AtPath path asked Unasked old new
+  pub data CallsAtPath (path : List ℕ) (asked : HostResponse) (Unasked : Type 0) (old new : M) : Type 0 where
+    taken : length path ≤ longest_path → answers old asked new → CallsAtPath path asked Unasked old new
+    too_long : longest_path < length path → Unasked → new ≡ old → CallsAtPath path asked Unasked old new
 
-  -- `InDirectory name directory answer old new`: `answer` is whether `directory` has the program
+  -- `HasProgram name directory answer old new`: `answer` is whether `directory` has the program
   -- `name`.
-  abbrev pub InDirectory : List ℕ → List ℕ → Bool → M → M → Type 0
-  InDirectory name directory answer old new = AtPath (path_in directory name) (IsProgram (path_in directory name) answer) (answer ≡ false) old new
+  abbrev pub HasProgram : List ℕ → List ℕ → Bool → M → M → Type 0
+  HasProgram name directory answer old new = CallsAtPath (path_in directory name) (IsProgram (path_in directory name) answer) (answer ≡ false) old new
 
-  -- `Searched name directories answer old new`: `name` is looked up in each directory, in order, up
+  -- `SearchesDirectories name directories answer old new`: `name` is looked up in each directory, in order, up
   -- to the first that has it.
-  pub data Searched (name : List ℕ) : List (List ℕ) → Bool → M → M → Type 0 where
-    nowhere : (old : M) → Searched name [] false old old
-    here : (directory : List ℕ) (others : List (List ℕ)) (old new : M) → InDirectory name directory true old new → Searched name (directory ∷ others) true old new
-    further : (directory : List ℕ) (others : List (List ℕ)) (answer : Bool) (old mid new : M) → InDirectory name directory false old mid → Searched name others answer mid new
-        → Searched name (directory ∷ others) answer old new
+  pub data SearchesDirectories (name : List ℕ) : List (List ℕ) → Bool → M → M → Type 0 where
+    nowhere : (old : M) → SearchesDirectories name [] false old old
+    here : (directory : List ℕ) (others : List (List ℕ)) (old new : M) → HasProgram name directory true old new → SearchesDirectories name (directory ∷ others) true old new
+    further : (directory : List ℕ) (others : List (List ℕ)) (answer : Bool) (old mid new : M) → HasProgram name directory false old mid → SearchesDirectories name others answer mid new
+        → SearchesDirectories name (directory ∷ others) answer old new
 
   -- `IsNamed slash path name answer old new`: a `name` without a slash is looked up in the
   -- directories of `path`, if `PATH` is set. Otherwise it is not found.
   abbrev pub IsNamed : Bool → Option (List ℕ) → List ℕ → Bool → M → M → Type 0
-  IsNamed false (Some path) name answer old new = Searched (utf8 name) (directories (utf8 path)) answer old new
+  IsNamed false (Some path) name answer old new = SearchesDirectories (utf8 name) (directories (utf8 path)) answer old new
   IsNamed false None name answer old new = (answer ≡ false) × (new ≡ old)
   IsNamed true path name answer old new = (answer ≡ false) × (new ≡ old)
 
-  -- `IsSoughtAs absolute path name answer old new`: an `absolute` program is looked up at its path,
+  -- `IsFoundByName absolute path name answer old new`: an `absolute` program is looked up at its path,
   -- another one by its name.
-  abbrev pub IsSoughtAs : Bool → Option (List ℕ) → List ℕ → Bool → M → M → Type 0
-  IsSoughtAs true path name answer old new = answers old (IsProgram (utf8 name) answer) new
-  IsSoughtAs false path name answer old new = IsNamed (list_any is_slash name) path name answer old new
+  abbrev pub IsFoundByName : Bool → Option (List ℕ) → List ℕ → Bool → M → M → Type 0
+  IsFoundByName true path name answer old new = answers old (IsProgram (utf8 name) answer) new
+  IsFoundByName false path name answer old new = IsNamed (list_any is_slash name) path name answer old new
 
-  -- `IsSought path name answer old new`: `answer` is whether the required program `name` exists,
+  -- `IsFoundByPath path name answer old new`: `answer` is whether the required program `name` exists,
   -- for the value `path` of `PATH`. A path that begins with a slash is absolute.
-  abbrev pub IsSought : Option (List ℕ) → List ℕ → Bool → M → M → Type 0
-  IsSought path name answer old new = IsSoughtAs (is_absolute name) path name answer old new
+  abbrev pub IsFoundByPath : Option (List ℕ) → List ℕ → Bool → M → M → Type 0
+  IsFoundByPath path name answer old new = IsFoundByName (is_absolute name) path name answer old new

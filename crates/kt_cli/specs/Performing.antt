@@ -22,7 +22,7 @@ use Rattle.kt_cli.specs.declared.host.results_host.ResultsHost as platform
 use Rattle.kt_cli.specs.Closings.{ClosesResults}
 use Rattle.kt_cli.specs.FaultLines.{memory_line, refusal_line}
 use Rattle.kt_cli.specs.HostAnswers.{host_world}
-use Rattle.kt_cli.specs.LineOutputs.{HandedOn, LineState}
+use Rattle.kt_cli.specs.LineOutputs.{FlushResult, LineState}
 use Rattle.kt_cli.specs.Meaning.{CommandResult}
 use Rattle.kt_cli.specs.MemoryRuns.{memory_runs}
 use Rattle.kt_cli.specs.Pages.{Printed}
@@ -76,12 +76,12 @@ module _ {M O : Type 0} (o : system.Ghosts O) (before : HostHandles M O) where
   NoDriver base fault after = NoRoot o before.os base fault after.os × (after.machine ≡ before.machine)
 
 module _ {M O R : Type 0} (m : machine.Ghosts M) (o : system.Ghosts O) (r : keeping.Ghosts R) (before after : Scene (HostHandles M O) R) where
-  -- `OnDriver around options c exit`: `c` was executed over the files below its Kyuafile's
+  -- `ExecutesOverDriver around options c exit`: `c` was executed over the files below its Kyuafile's
   -- directory and over a new driver, whose root directory was removed afterwards. Nothing else was
   -- called. The calls of the driver are those for the events of the trace, from a state without
   -- running children. Each poll and kill belongs to one child, and each outcome is that of the
   -- table for the child's results.
-  pub record OnDriver (around : ProcessEnv) (options : CaseOptions) (c : Command) (exit : ℕ) : Type 0 where
+  pub record ExecutesOverDriver (around : ProcessEnv) (options : CaseOptions) (c : Command) (exit : ℕ) : Type 0 where
     pub old : HostWorld M O
     pub new : HostWorld M O
     pub machine : old.machine ≡ before.world.machine
@@ -105,19 +105,19 @@ module _ {M O P S R : Type 0} (p : Program M O P S) (r : keeping.Ghosts R) where
   pub data OverProcesses (c : Command) (old new : Scene (State M O P) R) (exit : ℕ) : Type 0 where
     needs_nothing : cases_of c ≡ None → new.world ≡ old.world → CommandResult no_world r c (with_world tt old) (with_world tt new) exit → OverProcesses c old new exit
     done : (options : CaseOptions) (around : ProcessEnv) → cases_of c ≡ Some options → p.platform.provides old.world.platform (Found (Ok around)) new.world.platform
-        → OnDriver p.machine p.system r (with_world old.world.outside old) (with_world new.world.outside new) around options c exit → OverProcesses c old new exit
+        → ExecutesOverDriver p.machine p.system r (with_world old.world.outside old) (with_world new.world.outside new) around options c exit → OverProcesses c old new exit
     no_surroundings : (options : CaseOptions) (fault : DriverFault) → cases_of c ≡ Some options → p.platform.provides old.world.platform (Found (Err fault)) new.world.platform
         → new.world.outside ≡ old.world.outside → new.store ≡ old.store → Printed old.held new.held exit (utf8 (driver_line fault)) failure_exit → OverProcesses c old new exit
     no_driver : (options : CaseOptions) (around : ProcessEnv) (fault : DriverFault) → cases_of c ≡ Some options → p.platform.provides old.world.platform (Found (Ok around)) new.world.platform
         → NoDriver p.system old.world.outside options.work fault new.world.outside → new.store ≡ old.store → Printed old.held new.held exit (utf8 (driver_line fault)) failure_exit
         → OverProcesses c old new exit
 
--- `Flushed held now due exit`: all bytes for standard output were written, and `exit` is `due`. If
+-- `FlushesOutput held now due exit`: all bytes for standard output were written, and `exit` is `due`. If
 -- some bytes are unwritten, or the flush failed, `exit` is 2.
-pub record Flushed (held : Option (List ℕ)) (now : LineState) (due exit : ℕ) : Type 0 where
+pub record FlushesOutput (held : Option (List ℕ)) (now : LineState) (due exit : ℕ) : Type 0 where
   pub kept : Keeps held now.given
   pub failed : Bool
-  pub ends : HandedOn now.failed now.unflushed now.unwritten failed
+  pub ends : FlushResult now.failed now.unflushed now.unwritten failed
   pub exits : exit ≡ (if failed then failure_exit else due)
 
 -- `PrintsShortage was now exit`: an allocation failed while the arguments were parsed, and an error
@@ -126,7 +126,7 @@ pub record PrintsShortage (was : Option (List ℕ)) (now : LineState) (exit : �
   pub held : Option (List ℕ)
   pub due : ℕ
   pub refused : Refused was held due (utf8 memory_line) failure_exit
-  pub flushed : Flushed held now due exit
+  pub flushed : FlushesOutput held now due exit
 
 -- The state of standard output, and the content of standard error.
 pub record Streams : Type 0 where
@@ -162,15 +162,15 @@ module _ {M O P S : Type 0} (p : Program M O P S) where
   RunsCommand c (Some file) old new exit = WithResults c file old new exit
   RunsCommand c None old new exit = (after : List Run) × OverProcesses p memory_runs c (with_store [] old) (with_store after new) exit
 
-  -- `Performed c old new was now exit`: `c` was executed, and then all its output was written.
-  pub record Performed (c : Command) (old new : State M O P) (was : Option (List ℕ)) (now : LineState) (exit : ℕ) : Type 0 where
+  -- `ExecutesAndWrites c old new was now exit`: `c` was executed, and then all its output was written.
+  pub record ExecutesAndWrites (c : Command) (old new : State M O P) (was : Option (List ℕ)) (now : LineState) (exit : ℕ) : Type 0 where
     pub held : Option (List ℕ)
     pub due : ℕ
     pub done : RunsCommand c (results_of c) (scene old tt was) (scene new tt held) due
-    pub flushed : Flushed held now due exit
+    pub flushed : FlushesOutput held now due exit
 
-  -- `CarriedOut command old new was now exit`: the `command` in the arguments was executed, or its
+  -- `RunsArguments command old new was now exit`: the `command` in the arguments was executed, or its
   -- fault was printed and nothing was called.
-  abbrev pub CarriedOut : Result Command CommandFault → State M O P → State M O P → Streams → Streams → ℕ → Type 0
-  CarriedOut (Ok c) old new was now exit = Performed c old new was.out.given now.out exit × (now.errors ≡ was.errors)
-  CarriedOut (Err fault) old new was now exit = Rejected fault was now exit × (new ≡ old)
+  abbrev pub RunsArguments : Result Command CommandFault → State M O P → State M O P → Streams → Streams → ℕ → Type 0
+  RunsArguments (Ok c) old new was now exit = ExecutesAndWrites c old new was.out.given now.out exit × (now.errors ≡ was.errors)
+  RunsArguments (Err fault) old new was now exit = Rejected fault was now exit × (new ≡ old)

@@ -3,7 +3,7 @@ use Rattle.std.specs.Prelude.{ℕ, Bool, List, ◌≡◌, Option}
 use Rattle.kt_cli.specs.Types.{CommandFault, DriverFault, Shows}
 use Rattle.kt_child.specs.Driving.Roots.{driver_words}
 use Rattle.kt_args.specs.declared.command_fault.CommandFault.TheVariants as command
-use Rattle.kt_args.specs.FaultWords.{command_words}
+use Rattle.kt_args.specs.FaultWords.{new_command}
 use Rattle.kt_cli.specs.FaultLines.{fault_line}
 
 -- `driver_line fault`: the error line of a driver that could not be created.
@@ -13,7 +13,7 @@ driver_line fault = fault_line (driver_words fault)
 -- `command_text fault`: the text of rejected arguments: the message of `clap`, or an error line.
 abbrev pub command_text : CommandFault → List ℕ
 command_text (command.Usage text) = text
-command_text other = fault_line (command_words other)
+command_text other = fault_line (new_command other)
 
 -- The exit status of a failure.
 abbrev pub failure_exit : ℕ

@@ -1,6 +1,6 @@
 -- Output of the reports.
 use Rattle.std.specs.Prelude.{ℕ, Bool, true, false, List, [], ◌∷◌, ◌++◌, ◌≡◌, Option, Some, None, Ok, Err, codes, map, flat_map}
-use Rattle.kt_cli.specs.Types.{Date, Entry, Head, IsDateOf, Kind, Outline, Outputs, Pairs, Run, RunHead, StoreCall, StoreFault, by_section, case_bytes, decimal, ending, heading, last_kind, opening, summary, titled_lines, utf8}
+use Rattle.kt_cli.specs.Types.{Date, Entry, Head, IsDateOf, Kind, Outline, Outputs, Pairs, Run, RunHead, StoreCall, StoreFault, entries_by_section, case_bytes, decimal, ending, heading, last_kind, opening, summary, titled_lines, utf8}
 use Rattle.kt_report.specs.Junits.{junit_bytes}
 use Rattle.kt_report.specs.Texts.{text_bytes}
 use Rattle.kt_store.specs.Heads.{IsNumbered, outputs_of, without_outputs, without_pairs}
@@ -14,12 +14,12 @@ no_runs_line = codes "kyua: E: no runs\n"
 abbrev pub no_run_line : ℕ → List ℕ
 no_run_line number = codes "kyua: E: no run " ++ decimal number ++ codes "\n"
 
--- `Misses number calls line`: `calls` return no run `number`, or no last run if `number` is `None`.
+-- `LacksRun number calls line`: `calls` return no run `number`, or no last run if `number` is `None`.
 -- `line` is the error line. After a number is missing, the last run's head is read.
-pub data Misses : Option ℕ → List StoreCall → List ℕ → Type 0 where
-  no_last_run : Misses None (Head None (Ok None) ∷ []) no_runs_line
-  none_at_all : (number : ℕ) → Misses (Some number) (Head (Some number) (Ok None) ∷ Head None (Ok None) ∷ []) no_runs_line
-  not_this_one : (number : ℕ) (last : RunHead) → Misses (Some number) (Head (Some number) (Ok None) ∷ Head None (Ok (Some last)) ∷ []) (no_run_line number)
+pub data LacksRun : Option ℕ → List StoreCall → List ℕ → Type 0 where
+  no_last_run : LacksRun None (Head None (Ok None) ∷ []) no_runs_line
+  none_at_all : (number : ℕ) → LacksRun (Some number) (Head (Some number) (Ok None) ∷ Head None (Ok None) ∷ []) no_runs_line
+  not_this_one : (number : ℕ) (last : RunHead) → LacksRun (Some number) (Head (Some number) (Ok None) ∷ Head None (Ok (Some last)) ∷ []) (no_run_line number)
 
 -- `run_of head entries`: the run with this head and these entries.
 abbrev pub run_of : RunHead → List Entry → Run
@@ -62,54 +62,54 @@ pub data Reported (number : Option ℕ) (kinds : List Kind) : Bool → List Stor
       → Reported number kinds false (Head number (Ok (Some head)) ∷ Outline head.number (Ok outline) ∷ []) (text_bytes date kinds false (run_of head outline)) 0
   pairs_shown : (head : RunHead) (outline shown : List Entry) (date : Date) → IsNumbered number head
       → IsDateOf head.started date
-      → DifferInPairs shown (by_section kinds outline)
+      → DifferInPairs shown (entries_by_section kinds outline)
       → Reported number kinds true (Head number (Ok (Some head)) ∷ Outline head.number (Ok outline) ∷ asked_pairs head.number shown) (titled_lines true None shown ++ summary date (run_of head outline)) 0
-  no_run : (verbose : Bool) (calls : List StoreCall) (line : List ℕ) → Misses number calls line → Reported number kinds verbose calls (utf8 line) 2
+  no_run : (verbose : Bool) (calls : List StoreCall) (line : List ℕ) → LacksRun number calls line → Reported number kinds verbose calls (utf8 line) 2
 
 -- `ReportedJunit number calls bytes exit`: the output of `report-junit`, with the calls of the
 -- store. The outputs of each entry are read, but no properties.
 pub data ReportedJunit (number : Option ℕ) : List StoreCall → List ℕ → ℕ → Type 0 where
   run_shown : (head : RunHead) (outline shown : List Entry) → IsNumbered number head → DifferInOutputs shown outline
       → ReportedJunit number (Head number (Ok (Some head)) ∷ Outline head.number (Ok outline) ∷ asked_outputs head.number shown) (junit_bytes (run_of head shown)) 0
-  no_run : (calls : List StoreCall) (line : List ℕ) → Misses number calls line → ReportedJunit number calls (utf8 line) 2
+  no_run : (calls : List StoreCall) (line : List ℕ) → LacksRun number calls line → ReportedJunit number calls (utf8 line) 2
 
--- `Unread number calls bytes exit`: a call of the store for the run failed, and its fault is
+-- `RunIsUnreadable number calls bytes exit`: a call of the store for the run failed, and its fault is
 -- printed.
-pub data Unread (number : Option ℕ) : List StoreCall → List ℕ → ℕ → Type 0 where
-  no_head : (fault : StoreFault) → Unread number (Head number (Err fault) ∷ []) (utf8 (refusal_line fault)) 2
-  no_last : (wanted : ℕ) (fault : StoreFault) → number ≡ Some wanted → Unread number (Head number (Ok None) ∷ Head None (Err fault) ∷ []) (utf8 (refusal_line fault)) 2
+pub data RunIsUnreadable (number : Option ℕ) : List StoreCall → List ℕ → ℕ → Type 0 where
+  no_head : (fault : StoreFault) → RunIsUnreadable number (Head number (Err fault) ∷ []) (utf8 (refusal_line fault)) 2
+  no_last : (wanted : ℕ) (fault : StoreFault) → number ≡ Some wanted → RunIsUnreadable number (Head number (Ok None) ∷ Head None (Err fault) ∷ []) (utf8 (refusal_line fault)) 2
   no_outline : (head : RunHead) (fault : StoreFault) → IsNumbered number head
-      → Unread number (Head number (Ok (Some head)) ∷ Outline head.number (Err fault) ∷ []) (utf8 (refusal_line fault)) 2
+      → RunIsUnreadable number (Head number (Ok (Some head)) ∷ Outline head.number (Err fault) ∷ []) (utf8 (refusal_line fault)) 2
 
--- `TextCut number kinds failed calls bytes exit`: a text report with properties ends early, in one
+-- `TextEndsEarly number kinds failed calls bytes exit`: a text report with properties ends early, in one
 -- of two ways. A call for properties failed, and its fault is printed after the entries before and
 -- the title. Or a write `failed`, and no further properties are read.
-pub data TextCut (number : Option ℕ) (kinds : List Kind) (failed : Bool) : List StoreCall → List ℕ → ℕ → Type 0 where
+pub data TextEndsEarly (number : Option ℕ) (kinds : List Kind) (failed : Bool) : List StoreCall → List ℕ → ℕ → Type 0 where
   no_pairs : (head : RunHead) (outline shown rest : List Entry) (e : Entry) (fault : StoreFault)
       → IsNumbered number head
-      → DifferInPairs (shown ++ e ∷ rest) (by_section kinds outline)
-      → TextCut number kinds failed (Head number (Ok (Some head)) ∷ Outline head.number (Ok outline) ∷ (asked_pairs head.number shown ++ Pairs head.number e.position (Err fault) ∷ []))
+      → DifferInPairs (shown ++ e ∷ rest) (entries_by_section kinds outline)
+      → TextEndsEarly number kinds failed (Head number (Ok (Some head)) ∷ Outline head.number (Ok outline) ∷ (asked_pairs head.number shown ++ Pairs head.number e.position (Err fault) ∷ []))
       (titled_lines true None shown ++ opening (last_kind None shown) e.verdict.kind ++ utf8 (refusal_line fault)) 2
   no_output : (head : RunHead) (outline shown rest : List Entry) (date : Date) → failed ≡ true
       → IsNumbered number head → IsDateOf head.started date
-      → DifferInPairs (shown ++ rest) (by_section kinds outline)
-      → TextCut number kinds failed (Head number (Ok (Some head)) ∷ Outline head.number (Ok outline) ∷ asked_pairs head.number shown)
+      → DifferInPairs (shown ++ rest) (entries_by_section kinds outline)
+      → TextEndsEarly number kinds failed (Head number (Ok (Some head)) ∷ Outline head.number (Ok outline) ∷ asked_pairs head.number shown)
       (titled_lines true None shown ++ next_bytes (last_kind None shown) rest (summary date (run_of head outline))) 2
 
--- `JunitCut number failed calls bytes exit`: a JUnit report ends early, in one of three ways. A
+-- `JunitEndsEarly number failed calls bytes exit`: a JUnit report ends early, in one of three ways. A
 -- call for outputs failed, and its fault is printed after the cases before. Or an allocation
 -- failed, and a proper prefix of the report was written. Or a write `failed`.
-pub data JunitCut (number : Option ℕ) (failed : Bool) : List StoreCall → List ℕ → ℕ → Type 0 where
+pub data JunitEndsEarly (number : Option ℕ) (failed : Bool) : List StoreCall → List ℕ → ℕ → Type 0 where
   no_outputs : (head : RunHead) (outline shown rest : List Entry) (e : Entry) (fault : StoreFault)
       → IsNumbered number head
       → DifferInOutputs (shown ++ e ∷ rest) outline
-      → JunitCut number failed (Head number (Ok (Some head)) ∷ Outline head.number (Ok outline) ∷ (asked_outputs head.number shown ++ Outputs head.number e.position (Err fault) ∷ []))
+      → JunitEndsEarly number failed (Head number (Ok (Some head)) ∷ Outline head.number (Ok outline) ∷ (asked_outputs head.number shown ++ Outputs head.number e.position (Err fault) ∷ []))
       (heading (run_of head outline) ++ flat_map case_bytes shown ++ utf8 (refusal_line fault)) 2
   no_memory : (head : RunHead) (outline shown rest : List Entry) (front back : List ℕ) (next : ℕ)
       → IsNumbered number head
       → DifferInOutputs (shown ++ rest) outline → heading (run_of head outline) ++ flat_map case_bytes shown ++ ending_of rest ≡ front ++ next ∷ back
-      → JunitCut number failed (Head number (Ok (Some head)) ∷ Outline head.number (Ok outline) ∷ asked_outputs head.number shown) (front ++ utf8 memory_line) 2
+      → JunitEndsEarly number failed (Head number (Ok (Some head)) ∷ Outline head.number (Ok outline) ∷ asked_outputs head.number shown) (front ++ utf8 memory_line) 2
   no_output : (head : RunHead) (outline shown rest : List Entry) → failed ≡ true → IsNumbered number head
       → DifferInOutputs (shown ++ rest) outline
-      → JunitCut number failed (Head number (Ok (Some head)) ∷ Outline head.number (Ok outline) ∷ asked_outputs head.number shown)
+      → JunitEndsEarly number failed (Head number (Ok (Some head)) ∷ Outline head.number (Ok outline) ∷ asked_outputs head.number shown)
       (heading (run_of head outline) ++ flat_map case_bytes shown ++ ending_of rest) 2

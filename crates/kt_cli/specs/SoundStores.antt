@@ -42,8 +42,8 @@ pub data Adds (runs : List Run) (calls : List StoreCall) : Type 0 where
       → (finished ≡ true → length (entries_put calls) ≡ total) → Adds runs calls
 
 module _ {W R : Type 0} {w : World W} {r : keeping.Ghosts R} {c : Command} {old new : Scene W R} {exit : ℕ} (did : CommandResult w r c old new exit) (runs : List Run) where
-  -- `Left did runs`: a command was executed over a sound store of `runs`. `CommandResult.stored` states for
+  -- `StoreIsSound did runs`: a command was executed over a sound store of `runs`. `CommandResult.stored` states for
   -- any store how results agree with the runs, and which runs a crash leaves.
-  pub record Left : Type 0 where
+  pub record StoreIsSound : Type 0 where
     pub only_fails : AllByRecursion OnlyFails did.seen.calls
     pub adds : Adds runs did.seen.calls

@@ -1,6 +1,6 @@
 -- Calls of a store, and their effect on its runs.
 use Rattle.std.specs.Prelude.{ℕ, List, [], ◌∷◌, ◌++◌, ⊤, Ok, Err}
-use Rattle.kt_cli.specs.Types.{Agrees, Began, Chain, Entry, Finished, Head, Outline, Outputs, Pairs, Put, Run, StoreCall, changed_by, with_entry}
+use Rattle.kt_cli.specs.Types.{Agrees, Began, Chain, Entry, Finished, Head, Outline, Outputs, Pairs, Put, Run, StoreCall, runs_after, with_entry}
 use Rattle.kt_store.specs.Runs.{new_run, insert_at, finish}
 use Rattle.kt_store.specs.declared.result_store.StoreSpec as keeping
 
@@ -18,51 +18,51 @@ abbrev pub puts : ℕ → List Entry → List StoreCall
 puts number [] = []
 puts number (e ∷ es) = Put number e (Ok tt) ∷ puts number es
 
--- `beside_by call runs may`: the lists of runs, other than the current one, that a crash may leave
+-- `crash_runs_after call runs may`: the lists of runs, other than the current one, that a crash may leave
 -- after `call`, if it might leave `may` before.
-abbrev pub beside_by : StoreCall → List Run → List (List Run) → List (List Run)
-beside_by (Began total moment (Ok number)) runs may = []
-beside_by (Began total moment (Err fault)) runs may = (runs ++ new_run runs total moment ∷ []) ∷ may
-beside_by (Put number e (Ok done)) runs may = []
-beside_by (Put number e (Err fault)) runs may = with_entry number e runs ∷ may
-beside_by (Finished number (Ok done)) runs may = []
-beside_by (Finished number (Err fault)) runs may = finish number runs ∷ may
-beside_by (Head number answer) runs may = may
-beside_by (Outline number answer) runs may = may
-beside_by (Pairs number position answer) runs may = may
-beside_by (Outputs number position answer) runs may = may
+abbrev pub crash_runs_after : StoreCall → List Run → List (List Run) → List (List Run)
+crash_runs_after (Began total moment (Ok number)) runs may = []
+crash_runs_after (Began total moment (Err fault)) runs may = (runs ++ new_run runs total moment ∷ []) ∷ may
+crash_runs_after (Put number e (Ok done)) runs may = []
+crash_runs_after (Put number e (Err fault)) runs may = with_entry number e runs ∷ may
+crash_runs_after (Finished number (Ok done)) runs may = []
+crash_runs_after (Finished number (Err fault)) runs may = finish number runs ∷ may
+crash_runs_after (Head number answer) runs may = may
+crash_runs_after (Outline number answer) runs may = may
+crash_runs_after (Pairs number position answer) runs may = may
+crash_runs_after (Outputs number position answer) runs may = may
 
 -- ---- calls in sequence
 
 -- `changed calls runs`: `runs` after `calls`.
 abbrev pub changed : List StoreCall → List Run → List Run
 changed [] runs = runs
-changed (call ∷ calls) runs = changed calls (changed_by call runs)
+changed (call ∷ calls) runs = changed calls (runs_after call runs)
 
 -- `beside calls runs may`: the lists of runs, other than the current one, that a crash may leave
 -- after `calls`.
 abbrev pub beside : List StoreCall → List Run → List (List Run) → List (List Run)
 beside [] runs may = may
-beside (call ∷ calls) runs may = beside calls (changed_by call runs) (beside_by call runs may)
+beside (call ∷ calls) runs may = beside calls (runs_after call runs) (crash_runs_after call runs may)
 
 -- `Agree runs calls`: the result of each of `calls` agrees with the runs at that time.
 abbrev pub Agree : List Run → List StoreCall → Type 0
 Agree runs [] = ⊤
-Agree runs (call ∷ calls) = Agrees runs call × Agree (changed_by call runs) calls
+Agree runs (call ∷ calls) = Agrees runs call × Agree (runs_after call runs) calls
 
 module _ {R : Type 0} (r : keeping.Ghosts R) where
-  -- `Kept calls old new`: the effect of `calls` on a store. If it contained any `runs`, it then
+  -- `ChangesRuns calls old new`: the effect of `calls` on a store. If it contained any `runs`, it then
   -- contains these with their changes. If it is sound afterwards, it was sound before, and each
   -- result agrees with the runs. If a crash left `runs` or others, it then leaves the changed runs,
   -- or one of `beside`.
-  pub record Kept (calls : List StoreCall) (old new : R) : Type 0 where
+  pub record ChangesRuns (calls : List StoreCall) (old new : R) : Type 0 where
     pub stands : (runs : List Run) → r.stands old runs → r.stands new (changed calls runs)
     pub earlier : (runs : List Run) → r.stands old runs → r.sound new → r.sound old
     pub agree : (runs : List Run) → r.stands old runs → r.sound new → Agree runs calls
     pub crash : (runs : List Run) (may : List (List Run)) → r.stands old runs → r.leaves old (runs ∷ may) → r.leaves new (changed calls runs ∷ beside calls runs may)
 
-  -- `Stored calls old new`: `calls` with their results lead the store from `old` to `new`, with the
-  -- effect `Kept`.
-  pub record Stored (calls : List StoreCall) (old new : R) : Type 0 where
+  -- `CallsStore calls old new`: `calls` with their results lead the store from `old` to `new`, with the
+  -- effect `ChangesRuns`.
+  pub record CallsStore (calls : List StoreCall) (old new : R) : Type 0 where
     pub answered : Chain r.answers old calls new
-    pub kept : Kept calls old new
+    pub kept : ChangesRuns calls old new

@@ -1,6 +1,6 @@
 -- A plan that is run over a store: its calls of the store, its output and its exit status.
 use Rattle.std.specs.Prelude.{ℕ, Bool, true, false, List, [], ◌∷◌, ◌++◌, ◌≡◌, ◌==◌, ◌&&◌, Result, Ok, Err, length, if◌then◌else◌}
-use Rattle.kt_cli.specs.Types.{Began, CaseOptions, Entry, Finished, Job, NoEvent, Picked, Put, StoreCall, StoreFault, Trace, utf8}
+use Rattle.kt_cli.specs.Types.{Began, CaseOptions, Entry, Finished, Job, NoEvent, CommandSelection, Put, StoreCall, StoreFault, Trace, utf8}
 use Rattle.kt_cli.specs.FaultLines.{memory_line, refusal_line}
 use Rattle.kt_cli.specs.Recordings.{AllRecorded, IsStopped}
 use Rattle.kt_cli.specs.Stores.{puts}
@@ -40,7 +40,7 @@ pub record PlannedRun : Type 0 where
   pub moment : ℕ
 
 -- `run_for plan options picked moment`: the run of `plan`, for the selection `picked` by `options`.
-abbrev pub run_for : List Job → CaseOptions → Picked → ℕ → PlannedRun
+abbrev pub run_for : List Job → CaseOptions → CommandSelection → ℕ → PlannedRun
 run_for plan options picked moment =
     record { plan = plan; width = picked.settings.config.parallelism; words = options.filters; unmatched = picked.chosen.unmatched; moment = moment }
 
@@ -54,12 +54,12 @@ pub data Tested (planned : PlannedRun) (T : Trace) : List StoreCall → List ℕ
   recorded : (number : ℕ) (entries : List Entry) → AllRecorded planned.plan planned.width T entries
       → Tested planned T (begins planned (Ok number) ∷ (puts number entries ++ Finished number (Ok tt) ∷ [])) (results entries planned.words planned.unmatched) (results_exit entries planned.unmatched)
 
--- `TestCut planned T calls bytes exit`: a failed allocation or a failed call of the store ended the
+-- `TestEndsEarly planned T calls bytes exit`: a failed allocation or a failed call of the store ended the
 -- run early. The error line is that of this fault.
-pub data TestCut (planned : PlannedRun) (T : Trace) : List StoreCall → List ℕ → ℕ → Type 0 where
-  not_begun : (fault : StoreFault) → T ≡ NoEvent → TestCut planned T (begins planned (Err fault) ∷ []) (utf8 (refusal_line fault)) 2
-  not_run : (number : ℕ) → T ≡ NoEvent → TestCut planned T (begins planned (Ok number) ∷ []) (utf8 memory_line) 2
+pub data TestEndsEarly (planned : PlannedRun) (T : Trace) : List StoreCall → List ℕ → ℕ → Type 0 where
+  not_begun : (fault : StoreFault) → T ≡ NoEvent → TestEndsEarly planned T (begins planned (Err fault) ∷ []) (utf8 (refusal_line fault)) 2
+  not_run : (number : ℕ) → T ≡ NoEvent → TestEndsEarly planned T (begins planned (Ok number) ∷ []) (utf8 memory_line) 2
   not_put : (number : ℕ) (entries : List Entry) (refused : Entry) (fault : StoreFault) → IsStopped planned.plan planned.width T entries refused
-      → TestCut planned T (begins planned (Ok number) ∷ (puts number entries ++ Put number refused (Err fault) ∷ [])) (lines entries ++ utf8 (refusal_line fault)) 2
+      → TestEndsEarly planned T (begins planned (Ok number) ∷ (puts number entries ++ Put number refused (Err fault) ∷ [])) (lines entries ++ utf8 (refusal_line fault)) 2
   not_finished : (number : ℕ) (entries : List Entry) (fault : StoreFault) → AllRecorded planned.plan planned.width T entries
-      → TestCut planned T (begins planned (Ok number) ∷ (puts number entries ++ Finished number (Err fault) ∷ [])) (lines entries ++ utf8 (refusal_line fault)) 2
+      → TestEndsEarly planned T (begins planned (Ok number) ∷ (puts number entries ++ Finished number (Err fault) ∷ [])) (lines entries ++ utf8 (refusal_line fault)) 2

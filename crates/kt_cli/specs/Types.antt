@@ -11,14 +11,14 @@ pub use Rattle.kt_base.specs.declared.verdict.Kind.{Kind}
 pub use Rattle.kt_child.specs.System.Calls.{Call}
 pub use Rattle.kt_child.specs.declared.driving.driver.DriverFault.{DriverFault}
 pub use Rattle.kt_child.specs.declared.driving.driver.DriverFault.TheVariants.{NoWorkDirectory}
-pub use Rattle.kt_plan.specs.Questions.{Question, leads_by}
+pub use Rattle.kt_plan.specs.Questions.{WorldCall, leads_by}
 pub use Rattle.kt_plan.specs.Reply.{Now, Reply}
 pub use Rattle.kt_plan.specs.declared.cases.Candidate.{Candidate}
-pub use Rattle.kt_plan.specs.declared.cases.Picked.{Picked}
+pub use Rattle.kt_plan.specs.declared.cases.CommandSelection.{CommandSelection}
 pub use Rattle.kt_plan.specs.declared.stop.Stop.{Stop}
 pub use Rattle.kt_report.specs.Junits.{case_bytes, ending, heading}
 pub use Rattle.kt_report.specs.Lines.{line_bytes}
-pub use Rattle.kt_report.specs.Texts.{IsDateOf, by_section, last_kind, opening, summary, titled_lines}
+pub use Rattle.kt_report.specs.Texts.{IsDateOf, entries_by_section, last_kind, opening, summary, titled_lines}
 pub use Rattle.kt_sched.specs.Run.{Counts}
 pub use Rattle.kt_sched.specs.Trace.{Leads, NoEvent, Trace}
 pub use Rattle.kt_sched.specs.declared.job.Ended.{Ended}
@@ -30,7 +30,7 @@ pub use Rattle.kt_sched.specs.declared.sink.SinkFault.{SinkFault}
 pub use Rattle.kt_sched.specs.declared.totals.Totals.{Totals}
 pub use Rattle.kt_store.specs.Ask.{IsStoreFault}
 pub use Rattle.kt_store.specs.Runs.{AreNumbered, with_entry}
-pub use Rattle.kt_store.specs.Serving.{Agrees, changed_by}
+pub use Rattle.kt_store.specs.Serving.{Agrees, runs_after}
 pub use Rattle.kt_store.specs.StoreCalls.{Began, Finished, Head, Outline, Outputs, Pairs, Put, StoreCall}
 pub use Rattle.kt_store.specs.declared.access.Access.{Access}
 pub use Rattle.kt_store.specs.declared.result_store.RunHead.{RunHead}

@@ -14,7 +14,7 @@ use kt_store::StoreFault;
 use std::io::Write;
 
 /// The exit status of wrong arguments.
-const WRONG_WORDS: u8 = 3;
+const WRONG_ARGUMENTS: u8 = 3;
 
 /// Writes an error line with this message (this profile).
 fn write_fault<O: Write>(words: &str, out: &mut O) -> Result<(), OutputFault>
@@ -129,7 +129,7 @@ fn status_of(fault: &CommandFault) -> u8
 {
     match fault {
         CommandFault::NoMemory(_) => FAILED,
-        _ => WRONG_WORDS,
+        _ => WRONG_ARGUMENTS,
     }
 }
 

@@ -1,10 +1,10 @@
 -- The values of a file, or its only fault.
 use Rattle.std.proofs.Common.{Result, Ok, Err, IfOk, ◌≡◌, ℕ, List, [], ◌∷◌, ◌++◌, refl, sym, ap, ◌∙◌, subst, inl, inr, append-nil, append_assoc}
-use Rattle.kt_config.proofs.Common.{ScriptFault, Stmt, Spells, Definition, Values, Holds, Adds, Becomes, Outcome, with_first, with_meaning, meaning_of, definitions_in, outcome_of, IsDue, IsRead, IfFault, Answers, Refuses, Gives, fault_of_script}
+use Rattle.kt_config.proofs.Common.{ScriptFault, Stmt, Spells, Definition, Values, Holds, Adds, AddsMeaning, Outcome, with_first, prepend_meaning, definition_in, definitions_in, outcome_of, IsDue, IsRead, IfFault, SucceedsWith, FailsWith, IsOutcome, fault_of_script}
 use Rattle.kt_script.specs.Spelling.{IsDue as IsScriptDue, Answers as ScriptAnswers, Refuses as ScriptRefuses}
 use Rattle.kt_config.specs.declared.fault.ConfigFault.{ConfigFault}
 use Rattle.kt_config.specs.declared.fault.ConfigFault.TheVariants.{NoMemory, UnknownVariable, BadValue, Script, NoSyntax, NotAssignment}
-use Rattle.kt_config.specs.Names.{Meaning}
+use Rattle.kt_config.specs.Names.{DefinitionResult}
 use Rattle.kt_script.specs.declared.fault.ScriptFault.TheVariants as script
 use Rattle.kt_script.proofs.OneAnswer.{two_spelled, not_both}
 
@@ -33,40 +33,40 @@ first_behind before d (Ok ds) = ap (λ (xs : List Definition). Ok xs) (sym (appe
 first_behind before d (Err fault) = refl
 
 one_read : (config next : Values) (stmts rest after : List Stmt) (stmt : Stmt) (d : Definition) → HasRead config stmts rest → rest ≡ stmt ∷ after
-    → Ok d ≡ meaning_of stmt.action → Adds d config next → HasRead next stmts after
+    → Ok d ≡ definition_in stmt.action → Adds d config next → HasRead next stmts after
 one_read config next stmts rest after stmt d r parts m adds = record {
   before = r.before ++ d ∷ [];
   holds = adds r.before r.holds;
   all = r.all ∙ ap (λ (ss : List Stmt). behind r.before (definitions_in ss)) parts
-      ∙ ap (λ (meaning : Meaning). behind r.before (with_meaning meaning (definitions_in after))) (sym m)
+      ∙ ap (λ (meaning : DefinitionResult). behind r.before (prepend_meaning meaning (definitions_in after))) (sym m)
       ∙ first_behind r.before d (definitions_in after);
 }
 
-next_by : (config next : Values) (stmts rest after : List Stmt) (stmt : Stmt) (m : Meaning) → HasRead config stmts rest → rest ≡ stmt ∷ after
-    → m ≡ meaning_of stmt.action → Becomes config next m → HasRead next stmts after
+next_by : (config next : Values) (stmts rest after : List Stmt) (stmt : Stmt) (m : DefinitionResult) → HasRead config stmts rest → rest ≡ stmt ∷ after
+    → m ≡ definition_in stmt.action → AddsMeaning config next m → HasRead next stmts after
 next_by config next stmts rest after stmt (Ok d) r parts m adds = one_read config next stmts rest after stmt d r parts m adds
 next_by config next stmts rest after stmt (Err fault) r parts m adds = absurd adds
 
 -- `HasRead` is preserved by adding the definition of the next statement
 pub next_read : (config next : Values) (stmts rest after : List Stmt) (stmt : Stmt) → HasRead config stmts rest → rest ≡ stmt ∷ after
-    → Becomes config next (meaning_of stmt.action) → HasRead next stmts after
-next_read config next stmts rest after stmt r parts adds = next_by config next stmts rest after stmt (meaning_of stmt.action) r parts refl adds
+    → AddsMeaning config next (definition_in stmt.action) → HasRead next stmts after
+next_read config next stmts rest after stmt r parts adds = next_by config next stmts rest after stmt (definition_in stmt.action) r parts refl adds
 
 -- the fault of the next statement is the fault of all statements
 pub fault_read : (config : Values) (stmts rest after : List Stmt) (stmt : Stmt) (fault : ConfigFault) → HasRead config stmts rest → rest ≡ stmt ∷ after
-    → meaning_of stmt.action ≡ Err fault → Gives (Err fault) (definitions_in stmts)
+    → definition_in stmt.action ≡ Err fault → IsOutcome (Err fault) (definitions_in stmts)
 fault_read config stmts rest after stmt fault r parts m =
     let e : definitions_in stmts ≡ Err fault
     = r.all ∙ ap (λ (ss : List Stmt). behind r.before (definitions_in ss)) parts
-    ∙ ap (λ (meaning : Meaning). behind r.before (with_meaning meaning (definitions_in after))) m in
-    subst (λ (o : Outcome). Gives (Err fault) o) (sym e) refl
+    ∙ ap (λ (meaning : DefinitionResult). behind r.before (prepend_meaning meaning (definitions_in after))) m in
+    subst (λ (o : Outcome). IsOutcome (Err fault) o) (sym e) refl
 
 -- at the end, the configuration has the values of all statements
-pub all_read : (config : Values) (stmts rest : List Stmt) → HasRead config stmts rest → rest ≡ [] → Gives (Ok config) (definitions_in stmts)
+pub all_read : (config : Values) (stmts rest : List Stmt) → HasRead config stmts rest → rest ≡ [] → IsOutcome (Ok config) (definitions_in stmts)
 all_read config stmts rest r end =
     let e : definitions_in stmts ≡ Ok r.before
     = r.all ∙ ap (λ (ss : List Stmt). behind r.before (definitions_in ss)) end ∙ ap (λ (xs : List Definition). Ok xs) (append-nil r.before) in
-    subst (λ (o : Outcome). Gives (Ok config) o) (sym e) r.holds
+    subst (λ (o : Outcome). IsOutcome (Ok config) o) (sym e) r.holds
 
 -- ---- faults by their kinds
 
@@ -78,7 +78,7 @@ fault_in (Script cause) P p = p
 fault_in NoSyntax P p = p
 fault_in NotAssignment P p = p
 
-refuses_same : (found fault : ConfigFault) → found ≡ fault → Refuses {T = Values} (Err found) fault
+refuses_same : (found fault : ConfigFault) → found ≡ fault → FailsWith {T = Values} (Err found) fault
 refuses_same (NoMemory refusal) fault e = tt
 refuses_same UnknownVariable fault e = e
 refuses_same BadValue fault e = e
@@ -101,40 +101,40 @@ abbrev fault_or : Outcome → ConfigFault → ConfigFault
 fault_or (Ok ds) d = d
 fault_or (Err fault) d = fault
 
-ok_cases : (text : List ℕ) (stmts : List Stmt) (r : Result Values ConfigFault) (o : Outcome) → Spells text stmts → outcome_of stmts ≡ o → Gives r o → IfOk r (λ config. IsRead text config)
+ok_cases : (text : List ℕ) (stmts : List Stmt) (r : Result Values ConfigFault) (o : Outcome) → Spells text stmts → outcome_of stmts ≡ o → IsOutcome r o → IfOk r (λ config. IsRead text config)
 ok_cases text stmts (Ok config) (Ok ds) s e g = (stmts, ds, s, e, g)
 ok_cases text stmts (Ok config) (Err fault) s e g = absurd g
 ok_cases text stmts (Err found) o s e g = tt
 
-only_cases : (r : Result Values ConfigFault) (o : Outcome) (ds : List Definition) → Gives r o → o ≡ Ok ds → Answers r ds
+only_cases : (r : Result Values ConfigFault) (o : Outcome) (ds : List Definition) → IsOutcome r o → o ≡ Ok ds → SucceedsWith r ds
 only_cases (Ok config) (Ok found) ds g e = subst (λ (xs : List Definition). Holds config xs) (ap (λ (x : Outcome). definitions_or x found) e) g
 only_cases (Ok config) (Err fault) ds g e = absurd g
 only_cases (Err found) (Ok other) ds g e = absurd g
 only_cases (Err found) (Err fault) ds g e = absurd (cc)
 
-fault_cases : (text : List ℕ) (stmts : List Stmt) (r : Result Values ConfigFault) (o : Outcome) → Spells text stmts → outcome_of stmts ≡ o → Gives r o → IfFault r (λ fault. IsDue text fault)
+fault_cases : (text : List ℕ) (stmts : List Stmt) (r : Result Values ConfigFault) (o : Outcome) → Spells text stmts → outcome_of stmts ≡ o → IsOutcome r o → IfFault r (λ fault. IsDue text fault)
 fault_cases text stmts (Ok config) o s e g = tt
 fault_cases text stmts (Err found) (Ok ds) s e g = absurd g
 fault_cases text stmts (Err found) (Err fault) s e g =
     fault_in found (λ x. IsDue text x) (inr (stmts, s, e ∙ same_err (sym g)))
 
-due_cases : (r : Result Values ConfigFault) (o : Outcome) (fault : ConfigFault) → Gives r o → o ≡ Err fault → Refuses r fault
+due_cases : (r : Result Values ConfigFault) (o : Outcome) (fault : ConfigFault) → IsOutcome r o → o ≡ Err fault → FailsWith r fault
 due_cases (Ok config) (Ok ds) fault g e = absurd (cc)
 due_cases (Ok config) (Err other) fault g e = absurd g
 due_cases (Err found) (Ok ds) fault g e = absurd g
 due_cases (Err found) (Err other) fault g e = refuses_same found fault (g ∙ ap (λ (x : Outcome). fault_or x other) e)
 
-pub right_ok : (text : List ℕ) (stmts : List Stmt) → Spells text stmts → (r : Result Values ConfigFault) → Gives r (outcome_of stmts) → IfOk r (λ config. IsRead text config)
+pub right_ok : (text : List ℕ) (stmts : List Stmt) → Spells text stmts → (r : Result Values ConfigFault) → IsOutcome r (outcome_of stmts) → IfOk r (λ config. IsRead text config)
 right_ok text stmts s r g = ok_cases text stmts r (outcome_of stmts) s refl g
 
-pub right_only : (text : List ℕ) (stmts : List Stmt) → Spells text stmts → (r : Result Values ConfigFault) → Gives r (outcome_of stmts)
-    → (others : List Stmt) → (ds : List Definition) → Spells text others → outcome_of others ≡ Ok ds → Answers r ds
+pub right_only : (text : List ℕ) (stmts : List Stmt) → Spells text stmts → (r : Result Values ConfigFault) → IsOutcome r (outcome_of stmts)
+    → (others : List Stmt) → (ds : List Definition) → Spells text others → outcome_of others ≡ Ok ds → SucceedsWith r ds
 right_only text stmts s r g = λ others ds t o. only_cases r (outcome_of stmts) ds g (ap outcome_of (two_spelled text stmts others s t) ∙ o)
 
-pub right_fault : (text : List ℕ) (stmts : List Stmt) → Spells text stmts → (r : Result Values ConfigFault) → Gives r (outcome_of stmts) → IfFault r (λ fault. IsDue text fault)
+pub right_fault : (text : List ℕ) (stmts : List Stmt) → Spells text stmts → (r : Result Values ConfigFault) → IsOutcome r (outcome_of stmts) → IfFault r (λ fault. IsDue text fault)
 right_fault text stmts s r g = fault_cases text stmts r (outcome_of stmts) s refl g
 
-pub right_due : (text : List ℕ) (stmts : List Stmt) → Spells text stmts → (r : Result Values ConfigFault) → Gives r (outcome_of stmts) → (fault : ConfigFault) → IsDue text fault → Refuses r fault
+pub right_due : (text : List ℕ) (stmts : List Stmt) → Spells text stmts → (r : Result Values ConfigFault) → IsOutcome r (outcome_of stmts) → (fault : ConfigFault) → IsDue text fault → FailsWith r fault
 right_due text stmts s r g fault (inl d) = absurd (not_both text stmts d.0 s d.1)
 right_due text stmts s r g fault (inr d) = due_cases r (outcome_of stmts) fault g (ap outcome_of (two_spelled text stmts d.0 s d.1) ∙ d.2)
 
@@ -145,7 +145,7 @@ by_cause text cause fault due none (inl d) = ap Script (due d.0 d.1) ∙ sym d.2
 by_cause text cause fault due none (inr d) = absurd (none d.0 d.1)
 
 due_in : (text : List ℕ) (cause : ScriptFault) (fault : ConfigFault) → ((f : ScriptFault) → IsScriptDue text f → ScriptRefuses (Err cause) f)
-    → ((stmts : List Stmt) → Spells text stmts → ScriptAnswers (Err cause) stmts) → IsDue text fault → Refuses {T = Values} (Err (fault_of_script cause)) fault
+    → ((stmts : List Stmt) → Spells text stmts → ScriptAnswers (Err cause) stmts) → IsDue text fault → FailsWith {T = Values} (Err (fault_of_script cause)) fault
 due_in text (script.NoMemory refusal) fault due none d = tt
 due_in text script.NotUtf8 fault due none d = by_cause text script.NotUtf8 fault due none d
 due_in text (script.BadToken line) fault due none d = by_cause text (script.BadToken line) fault due none d
@@ -154,10 +154,10 @@ due_in text (script.Unclosed line) fault due none d = by_cause text (script.Uncl
 due_in text script.TooLong fault due none d = by_cause text script.TooLong fault due none d
 
 pub script_due : (text : List ℕ) (cause : ScriptFault) (found : ConfigFault) → found ≡ fault_of_script cause → ((f : ScriptFault) → IsScriptDue text f → ScriptRefuses (Err cause) f)
-    → ((stmts : List Stmt) → Spells text stmts → ScriptAnswers (Err cause) stmts) → (fault : ConfigFault) → IsDue text fault → Refuses {T = Values} (Err found) fault
-script_due text cause found e due none fault d = subst (λ (x : ConfigFault). Refuses {T = Values} (Err x) fault) (sym e) (due_in text cause fault due none d)
+    → ((stmts : List Stmt) → Spells text stmts → ScriptAnswers (Err cause) stmts) → (fault : ConfigFault) → IsDue text fault → FailsWith {T = Values} (Err found) fault
+script_due text cause found e due none fault d = subst (λ (x : ConfigFault). FailsWith {T = Values} (Err x) fault) (sym e) (due_in text cause fault due none d)
 
-only_in : (cause : ScriptFault) (stmts : List Stmt) (ds : List Definition) → ScriptAnswers (Err cause) stmts → Answers (Err (fault_of_script cause)) ds
+only_in : (cause : ScriptFault) (stmts : List Stmt) (ds : List Definition) → ScriptAnswers (Err cause) stmts → SucceedsWith (Err (fault_of_script cause)) ds
 only_in (script.NoMemory refusal) stmts ds a = tt
 only_in script.NotUtf8 stmts ds a = absurd a
 only_in (script.BadToken line) stmts ds a = absurd a
@@ -167,5 +167,5 @@ only_in script.TooLong stmts ds a = absurd a
 
 pub script_only : (text : List ℕ) (cause : ScriptFault) (found : ConfigFault) → found ≡ fault_of_script cause
     → ((stmts : List Stmt) → Spells text stmts → ScriptAnswers (Err cause) stmts)
-    → (stmts : List Stmt) (ds : List Definition) → Spells text stmts → outcome_of stmts ≡ Ok ds → Answers (Err found) ds
-script_only text cause found e none = λ stmts ds s o. subst (λ (f : ConfigFault). Answers (Err f) ds) (sym e) (only_in cause stmts ds (none stmts s))
+    → (stmts : List Stmt) (ds : List Definition) → Spells text stmts → outcome_of stmts ≡ Ok ds → SucceedsWith (Err found) ds
+script_only text cause found e none = λ stmts ds s o. subst (λ (f : ConfigFault). SucceedsWith (Err f) ds) (sym e) (only_in cause stmts ds (none stmts s))

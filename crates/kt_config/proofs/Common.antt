@@ -9,8 +9,8 @@ pub use Rattle.kt_base.specs.declared.variable.Variable.{Variable}
 pub use Rattle.kt_script.specs.Spelling.{Spells}
 pub use Rattle.kt_script.specs.declared.fault.ScriptFault.{ScriptFault}
 pub use Rattle.kt_script.specs.declared.syntax.Stmt.{Stmt}
-pub use Rattle.kt_config.specs.Holding.{Adds, Holds, architecture_in, given_to, if_any, last_given, parallelism_in, platform_in, variable_for}
-pub use Rattle.kt_config.specs.Inner.{AddsToSuite, Gives, fault_of_script, group_in}
-pub use Rattle.kt_config.specs.Reading.{Answers, Becomes, IfFault, IsDue, IsRead, Outcome, Refuses, definitions_in, meaning_of, outcome_of, with_first, with_meaning}
-pub use Rattle.kt_config.specs.Values.{Group, Values, variable_in, variables_of}
+pub use Rattle.kt_config.specs.Holding.{Adds, Holds, architecture_in, variables_set_for, non_empty_list, last_value_by, parallelism_in, platform_in, variable_for}
+pub use Rattle.kt_config.specs.Inner.{SetsSuiteVariable, IsOutcome, fault_of_script, suite_in}
+pub use Rattle.kt_config.specs.Reading.{SucceedsWith, AddsMeaning, IfFault, IsDue, IsRead, Outcome, FailsWith, definitions_in, definition_in, outcome_of, with_first, prepend_meaning}
+pub use Rattle.kt_config.specs.Values.{SuiteValues, Values, variable_in, variables_of}
 pub use Rattle.kt_config.specs.declared.meaning.Definition.{Definition}

@@ -14,27 +14,27 @@ is_no_digit c = not (is_digit c)
 abbrev pub is_zero : ℕ → Bool
 is_zero c = c == 0
 
--- `is_strange c`: the byte `c` cannot be in a variable's name: it is not an ASCII letter, a digit,
+-- `is_invalid_name_byte c`: the byte `c` cannot be in a variable's name: it is not an ASCII letter, a digit,
 -- `_` or `-`.
-abbrev pub is_strange : ℕ → Bool
-is_strange c = not ((nat_le 97 c && nat_le c 122) || (nat_le 65 c && nat_le c 90) || is_digit c || c == 95 || c == 45)
+abbrev pub is_invalid_name_byte : ℕ → Bool
+is_invalid_name_byte c = not ((nat_le 97 c && nat_le c 122) || (nat_le 65 c && nat_le c 90) || is_digit c || c == 95 || c == 45)
 
 -- `has_zero value`: the text `value` contains a zero byte.
 abbrev pub has_zero : List ℕ → Bool
 has_zero value = list_any is_zero (utf8 value)
 
--- `is_variable name`: `name` can name a suite's variable: one or more letters, digits, `_` and `-`.
-abbrev pub is_variable : List ℕ → Bool
-is_variable name = not (is_empty name) && not (list_any is_strange (utf8 name))
+-- `is_variable_name name`: `name` can name a suite's variable: one or more letters, digits, `_` and `-`.
+abbrev pub is_variable_name : List ℕ → Bool
+is_variable_name name = not (is_empty name) && not (list_any is_invalid_name_byte (utf8 name))
 
--- `in_range n`: the number `n`, or nothing if it is not 1 to 256.
-abbrev pub in_range : ℕ → Option ℕ
-in_range n = if nat_le 1 n && nat_le n largest_width then Some n else None
+-- `width_in_range n`: the number `n`, or nothing if it is not 1 to 256.
+abbrev pub width_in_range : ℕ → Option ℕ
+width_in_range n = if nat_le 1 n && nat_le n largest_width then Some n else None
 
 -- `width_in bytes`: the width that `bytes` represent in decimal, or nothing. Leading zeros are
 -- allowed.
 abbrev pub width_in : List ℕ → Option ℕ
-width_in bytes = if list_any is_no_digit bytes then None else in_range (decimal_from 0 bytes)
+width_in bytes = if list_any is_no_digit bytes then None else width_in_range (decimal_from 0 bytes)
 
 -- `width_of value`: the width, 1 to 256, that the text `value` represents in decimal, or nothing.
 abbrev pub width_of : List ℕ → Option ℕ

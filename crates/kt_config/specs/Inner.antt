@@ -8,23 +8,23 @@ use Rattle.kt_script.specs.declared.fault.ScriptFault.{ScriptFault}
 use Rattle.kt_script.specs.declared.fault.ScriptFault.TheVariants as script
 use Rattle.kt_config.specs.declared.fault.ConfigFault.{ConfigFault}
 use Rattle.kt_config.specs.declared.fault.ConfigFault.TheVariants.{NoMemory, Script}
-use Rattle.kt_config.specs.Values.{Group, Values, variables_of}
+use Rattle.kt_config.specs.Values.{SuiteValues, Values, variables_of}
 use Rattle.kt_config.specs.Holding.{Holds}
 use Rattle.kt_config.specs.Reading.{Outcome}
 
--- `AddsToSuite suite variable old new`: the list of suites `new` is `old` with `variable` set in
+-- `SetsSuiteVariable suite variable old new`: the list of suites `new` is `old` with `variable` set in
 -- `suite`. The variables of other suites are unchanged.
-pub record AddsToSuite (suite : List ℕ) (variable : Variable) (old new : List Group) : Type 0 where
+pub record SetsSuiteVariable (suite : List ℕ) (variable : Variable) (old new : List SuiteValues) : Type 0 where
   pub own : variables_of suite new ≡ Some (last_values (unwrap_or (variables_of suite old) [] ++ variable ∷ []))
   pub others : (other : List ℕ) → bytes_eq other suite ≡ false → variables_of other new ≡ variables_of other old
 
--- `Gives result outcome`: `result` is what the outcome of a file requires: a configuration with the
+-- `IsOutcome result outcome`: `result` is what the outcome of a file requires: a configuration with the
 -- values of the definitions in `outcome`, or the fault in `outcome`.
-abbrev pub Gives : Result Values ConfigFault → Outcome → Type 0
-Gives (Ok config) (Ok definitions) = Holds config definitions
-Gives (Ok config) (Err fault) = ⊥
-Gives (Err found) (Ok definitions) = ⊥
-Gives (Err found) (Err fault) = found ≡ fault
+abbrev pub IsOutcome : Result Values ConfigFault → Outcome → Type 0
+IsOutcome (Ok config) (Ok definitions) = Holds config definitions
+IsOutcome (Ok config) (Err fault) = ⊥
+IsOutcome (Err found) (Ok definitions) = ⊥
+IsOutcome (Err found) (Err fault) = found ≡ fault
 
 -- `fault_of_script fault`: the fault of a configuration file that, as a script, has the fault
 -- `fault`. A failed allocation stays `NoMemory`.
@@ -36,6 +36,6 @@ fault_of_script (script.NotLiteral line) = Script (script.NotLiteral line)
 fault_of_script (script.Unclosed line) = Script (script.Unclosed line)
 fault_of_script script.TooLong = Script script.TooLong
 
--- `group_in entry`: the suite with its variables that `entry` of a map represents.
-abbrev pub group_in : {Z : Type 0} → String Z × List Variable → Group
-group_in entry = record { suite = chars (string_bytes entry.0); variables = entry.1 }
+-- `suite_in entry`: the suite with its variables that `entry` of a map represents.
+abbrev pub suite_in : {Z : Type 0} → String Z × List Variable → SuiteValues
+suite_in entry = record { suite = chars (string_bytes entry.0); variables = entry.1 }

@@ -2,54 +2,54 @@
 use Rattle.std.specs.Prelude.{ℕ, Bool, true, false, not, ◌==◌, ◌&&◌, List, [], ◌∷◌, Option, Some, None, Result, Ok, Err, bytes_eq, codes, if◌then◌else◌}
 use Rattle.std.specs.List.{slice_split}
 use Rattle.kt_config.specs.declared.meaning.Definition.{Definition}
-use Rattle.kt_config.specs.declared.meaning.Definition.TheVariants.{Architecture, Platform, Parallelism, UnprivilegedUser, OfSuite}
+use Rattle.kt_config.specs.declared.meaning.Definition.TheVariants.{Architecture, Platform, Parallelism, UnprivilegedUser, SuiteVariable}
 use Rattle.kt_config.specs.declared.fault.ConfigFault.{ConfigFault}
 use Rattle.kt_config.specs.declared.fault.ConfigFault.TheVariants.{UnknownVariable, BadValue}
-use Rattle.kt_config.specs.Forms.{has_zero, is_variable, width_of}
+use Rattle.kt_config.specs.Forms.{has_zero, is_variable_name, width_of}
 use Rattle.kt_base.specs.Texts.{is_empty}
 
--- `Meaning`: a definition, or the fault of its name or value.
-abbrev pub Meaning : Type 0
-Meaning = Result Definition ConfigFault
+-- `DefinitionResult`: a definition, or the fault of its name or value.
+abbrev pub DefinitionResult : Type 0
+DefinitionResult = Result Definition ConfigFault
 
--- `unless_empty empty definition`: `definition`, or the fault `BadValue` if `empty` is true.
+-- `checked_definition empty definition`: `definition`, or the fault `BadValue` if `empty` is true.
 -- `empty`: the value of the definition is empty.
-abbrev pub unless_empty : Bool → Definition → Meaning
-unless_empty true definition = Err BadValue
-unless_empty false definition = Ok definition
+abbrev pub checked_definition : Bool → Definition → DefinitionResult
+checked_definition true definition = Err BadValue
+checked_definition false definition = Ok definition
 
--- `of_width width`: the definition of `parallelism` as `width`, or the fault `BadValue` without a
+-- `width_definition width`: the definition of `parallelism` as `width`, or the fault `BadValue` without a
 -- `width`.
-abbrev pub of_width : Option ℕ → Meaning
-of_width None = Err BadValue
-of_width (Some width) = Ok (Parallelism width)
+abbrev pub width_definition : Option ℕ → DefinitionResult
+width_definition None = Err BadValue
+width_definition (Some width) = Ok (Parallelism width)
 
 -- `runner_definition name value`: the definition that sets the runner's variable `name` to `value`,
 -- or the fault of the name or the value.
-abbrev pub runner_definition : List ℕ → List ℕ → Meaning
+abbrev pub runner_definition : List ℕ → List ℕ → DefinitionResult
 runner_definition name value =
-    if bytes_eq name (codes "architecture") then unless_empty (is_empty value) (Architecture value)
-    else if bytes_eq name (codes "platform") then unless_empty (is_empty value) (Platform value)
-    else if bytes_eq name (codes "unprivileged_user") then unless_empty (is_empty value) UnprivilegedUser
-    else if bytes_eq name (codes "parallelism") then of_width (width_of value)
+    if bytes_eq name (codes "architecture") then checked_definition (is_empty value) (Architecture value)
+    else if bytes_eq name (codes "platform") then checked_definition (is_empty value) (Platform value)
+    else if bytes_eq name (codes "unprivileged_user") then checked_definition (is_empty value) UnprivilegedUser
+    else if bytes_eq name (codes "parallelism") then width_definition (width_of value)
     else Err UnknownVariable
 
 -- `is_suite_variable root suite name`: `root`, `suite` and `name` are the parts of the name of a
 -- suite's variable: `test_suites.SUITE.NAME`.
 abbrev pub is_suite_variable : List ℕ → List ℕ → List ℕ → Bool
-is_suite_variable root suite name = bytes_eq root (codes "test_suites") && not (is_empty suite) && is_variable name
+is_suite_variable root suite name = bytes_eq root (codes "test_suites") && not (is_empty suite) && is_variable_name name
 
 -- `suite_definition root suite name value`: the definition that sets the variable `name` of `suite`
 -- to `value`, or the fault of the name or the value. A value has no zero byte.
-abbrev pub suite_definition : List ℕ → List ℕ → List ℕ → List ℕ → Meaning
+abbrev pub suite_definition : List ℕ → List ℕ → List ℕ → List ℕ → DefinitionResult
 suite_definition root suite name value =
     if is_suite_variable root suite name
-    then if has_zero value then Err BadValue else Ok (OfSuite suite (record { name = name; value = value }))
+    then if has_zero value then Err BadValue else Ok (SuiteVariable suite (record { name = name; value = value }))
     else Err UnknownVariable
 
 -- `definition_of parts value`: the definition that sets the variable with the name `parts` to
 -- `value`, or the fault of the name or the value.
-abbrev pub definition_of : List (List ℕ) → List ℕ → Meaning
+abbrev pub definition_of : List (List ℕ) → List ℕ → DefinitionResult
 definition_of [] value = Err UnknownVariable
 definition_of (name ∷ []) value = runner_definition name value
 definition_of (root ∷ suite ∷ []) value = Err UnknownVariable
@@ -62,5 +62,5 @@ dotted name = slice_split (λ c. c == 46) name
 
 -- `definition_named name value`: the definition that sets the variable with the dotted `name` to
 -- `value`, or the fault of the name or the value.
-abbrev pub definition_named : List ℕ → List ℕ → Meaning
+abbrev pub definition_named : List ℕ → List ℕ → DefinitionResult
 definition_named name value = definition_of (dotted name) value

@@ -12,27 +12,27 @@ use Rattle.kt_script.specs.Spelling.{Spells, IsDue as IsScriptDue}
 use Rattle.kt_config.specs.declared.meaning.Definition.{Definition}
 use Rattle.kt_config.specs.declared.fault.ConfigFault.{ConfigFault}
 use Rattle.kt_config.specs.declared.fault.ConfigFault.TheVariants.{NoMemory, NotAssignment, NoSyntax, Script}
-use Rattle.kt_config.specs.Names.{Meaning, definition_of}
+use Rattle.kt_config.specs.Names.{DefinitionResult, definition_of}
 use Rattle.kt_config.specs.Values.{Values}
 use Rattle.kt_config.specs.Holding.{Holds, Adds}
 
--- `is_version arg`: the argument `arg` of a call is the number 2.
-abbrev pub is_version : Arg → Bool
-is_version (Value (Number n)) = n == 2
-is_version (Value (Text t)) = false
-is_version (Value (Truth b)) = false
-is_version (Table pairs) = false
+-- `is_syntax_version arg`: the argument `arg` of a call is the number 2.
+abbrev pub is_syntax_version : Arg → Bool
+is_syntax_version (Value (Number n)) = n == 2
+is_syntax_version (Value (Text t)) = false
+is_syntax_version (Value (Truth b)) = false
+is_syntax_version (Table pairs) = false
 
--- `is_opening action`: `action` is the call `syntax(2)`.
-abbrev pub is_opening : Action → Bool
-is_opening (Call name arg) = bytes_eq name (codes "syntax") && is_version arg
-is_opening (Assign parts value) = false
+-- `is_syntax_call action`: `action` is the call `syntax(2)`.
+abbrev pub is_syntax_call : Action → Bool
+is_syntax_call (Call name arg) = bytes_eq name (codes "syntax") && is_syntax_version arg
+is_syntax_call (Assign parts value) = false
 
--- `meaning_of action`: the definition in a statement with this `action`, or the statement's fault.
+-- `definition_in action`: the definition in a statement with this `action`, or the statement's fault.
 -- The statement is not the first of a file.
-abbrev pub meaning_of : Action → Meaning
-meaning_of (Call name arg) = Err NotAssignment
-meaning_of (Assign parts value) = definition_of parts (text_of value)
+abbrev pub definition_in : Action → DefinitionResult
+definition_in (Call name arg) = Err NotAssignment
+definition_in (Assign parts value) = definition_of parts (text_of value)
 
 -- `Outcome`: the definitions of a file in order, or its first fault.
 abbrev pub Outcome : Type 0
@@ -44,23 +44,23 @@ abbrev pub with_first : Definition → Outcome → Outcome
 with_first definition (Ok definitions) = Ok (definition ∷ definitions)
 with_first definition (Err fault) = Err fault
 
--- `with_meaning meaning rest`: the outcome of a statement, with this `meaning`, and the statements
+-- `prepend_meaning meaning rest`: the outcome of a statement, with this `meaning`, and the statements
 -- after it, with the outcome `rest`. A fault of the statement comes first.
-abbrev pub with_meaning : Meaning → Outcome → Outcome
-with_meaning (Ok definition) rest = with_first definition rest
-with_meaning (Err fault) rest = Err fault
+abbrev pub prepend_meaning : DefinitionResult → Outcome → Outcome
+prepend_meaning (Ok definition) rest = with_first definition rest
+prepend_meaning (Err fault) rest = Err fault
 
 -- `definitions_in stmts`: the definitions in the statements `stmts`, which follow the first
 -- statement of a file, or their first fault.
 abbrev pub definitions_in : List Stmt → Outcome
 definitions_in [] = Ok []
-definitions_in (stmt ∷ stmts) = with_meaning (meaning_of stmt.action) (definitions_in stmts)
+definitions_in (stmt ∷ stmts) = prepend_meaning (definition_in stmt.action) (definitions_in stmts)
 
 -- `outcome_of stmts`: the definitions in a file of the statements `stmts`, or its first fault. The
 -- first statement must be `syntax(2)`.
 abbrev pub outcome_of : List Stmt → Outcome
 outcome_of [] = Err NoSyntax
-outcome_of (stmt ∷ stmts) = if is_opening stmt.action then definitions_in stmts else Err NoSyntax
+outcome_of (stmt ∷ stmts) = if is_syntax_call stmt.action then definitions_in stmts else Err NoSyntax
 
 -- `IsDue text fault`: `text` is not a configuration file, and `fault` is the reason: its fault as a
 -- script, or else the first fault of its statements.
@@ -82,21 +82,21 @@ IfFault (Ok x) P = Unit {0}
 IfFault (Err (NoMemory refusal)) P = Unit {0}
 IfFault (Err fault) P = P fault
 
--- `Answers result definitions`: `result` has the values of `definitions`, unless an allocation
+-- `SucceedsWith result definitions`: `result` has the values of `definitions`, unless an allocation
 -- failed.
-abbrev pub Answers : Result Values ConfigFault → List Definition → Type 0
-Answers (Ok config) definitions = Holds config definitions
-Answers (Err (NoMemory refusal)) definitions = Unit {0}
-Answers (Err fault) definitions = ⊥
+abbrev pub SucceedsWith : Result Values ConfigFault → List Definition → Type 0
+SucceedsWith (Ok config) definitions = Holds config definitions
+SucceedsWith (Err (NoMemory refusal)) definitions = Unit {0}
+SucceedsWith (Err fault) definitions = ⊥
 
--- `Refuses result fault`: `result` is the fault `fault`, unless an allocation failed.
-abbrev pub Refuses : {T : Type 0} → Result T ConfigFault → ConfigFault → Type 0
-Refuses (Ok x) fault = ⊥
-Refuses (Err (NoMemory refusal)) fault = Unit {0}
-Refuses (Err found) fault = found ≡ fault
+-- `FailsWith result fault`: `result` is the fault `fault`, unless an allocation failed.
+abbrev pub FailsWith : {T : Type 0} → Result T ConfigFault → ConfigFault → Type 0
+FailsWith (Ok x) fault = ⊥
+FailsWith (Err (NoMemory refusal)) fault = Unit {0}
+FailsWith (Err found) fault = found ≡ fault
 
--- `Becomes old new meaning`: `meaning` is a definition, not a fault, and the values `new` are `old`
+-- `AddsMeaning old new meaning`: `meaning` is a definition, not a fault, and the values `new` are `old`
 -- with the definition added.
-abbrev pub Becomes : Values → Values → Meaning → Type 0
-Becomes old new (Ok definition) = Adds definition old new
-Becomes old new (Err fault) = ⊥
+abbrev pub AddsMeaning : Values → Values → DefinitionResult → Type 0
+AddsMeaning old new (Ok definition) = Adds definition old new
+AddsMeaning old new (Err fault) = ⊥

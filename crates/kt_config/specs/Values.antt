@@ -5,8 +5,8 @@ use Rattle.std.specs.declared.string.String.{String}
 use Rattle.kt_base.specs.declared.variable.Variable.{Variable}
 use Rattle.kt_base.specs.LastValues.{last_values}
 
--- `Group`: a test suite: its name and its variables.
-pub record Group : Type 0 where
+-- `SuiteValues`: a test suite: its name and its variables.
+pub record SuiteValues : Type 0 where
   pub suite : List ℕ
   pub variables : List Variable
 
@@ -16,11 +16,11 @@ pub record Values : Type 0 where
   pub architecture : Option (List ℕ)
   pub platform : Option (List ℕ)
   pub parallelism : ℕ
-  pub suites : List Group
+  pub suites : List SuiteValues
 
 -- `variables_of suite groups`: the variables of `suite` in the list of suites `groups`, or nothing
 -- if the suite is not in the list.
-abbrev pub variables_of : List ℕ → List Group → Option (List Variable)
+abbrev pub variables_of : List ℕ → List SuiteValues → Option (List Variable)
 variables_of suite [] = None
 variables_of suite (group ∷ groups) = if bytes_eq suite group.suite then Some group.variables else variables_of suite groups
 
@@ -32,6 +32,6 @@ variable_in entry = record { name = chars (string_bytes entry.0); value = entry.
 abbrev pub variables_in : {Z : Type 0} → List (String Z × List ℕ) → List Variable
 variables_in entries = map variable_in entries
 
--- `IsSettled variables`: each name occurs once in `variables`, so they are their own last values.
-abbrev pub IsSettled : List Variable → Type 0
-IsSettled variables = variables ≡ last_values variables
+-- `HasUniqueNames variables`: each name occurs once in `variables`, so they are their own last values.
+abbrev pub HasUniqueNames : List Variable → Type 0
+HasUniqueNames variables = variables ≡ last_values variables

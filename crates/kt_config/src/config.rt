@@ -1,5 +1,5 @@
 ghost use Rattle.std.specs.Prelude.{◌≡◌, ◌≤◌, [], OnOk, OnErr, Ok, Err, unwrap_or, codes, chars};
-ghost use Rattle.kt_config.specs.Common.{option_copied, Definition, ConfigFault, largest_width, definition_named, Values, variables_of, Holds, Adds, IfFault, Becomes};
+ghost use Rattle.kt_config.specs.Common.{option_copied, Definition, ConfigFault, largest_width, definition_named, Values, variables_of, Holds, Adds, IfFault, AddsMeaning};
 
 use crate::meaning::{Definition, definition_of};
 use crate::suites::Suites;
@@ -86,7 +86,7 @@ impl Config {
                 Ok(())
             }
             Definition::UnprivilegedUser => Ok(()),
-            Definition::OfSuite(suite, variable) => self.suites.put(suite, variable),
+            Definition::SuiteVariable(suite, variable) => self.suites.put(suite, variable),
         }
     }
 
@@ -145,7 +145,7 @@ impl Config {
     /// - `BadValue`: the variable does not accept `value`.
     /// - `NoMemory`: an allocation fails.
     pub fn set(&mut self, name: &Text, value: &Text) -> Result<(), ConfigFault>
-        ensures ok { OnOk result (Becomes self.old self.new (definition_named name.now value.now)) }
+        ensures ok { OnOk result (AddsMeaning self.old self.new (definition_named name.now value.now)) }
         ensures refused { IfFault result (λ fault.
             definition_named name.now value.now ≡ Err fault) }
         ensures err { OnErr result (self.new ≡ self.old) }

@@ -24,13 +24,13 @@ pub enum ConfigFault {
 }
 
 impl ConfigFault {
-    ghost use Rattle.kt_config.specs.FaultWords.{config_words};
+    ghost use Rattle.kt_config.specs.FaultWords.{config_message};
 
     /// Returns the message of the fault, without a line number (this profile).
     ///
     /// `Display` prints this message.
     pub fn words(&self) -> &'static str
-        ensures { result.now ≡ config_words self.now }
+        ensures { result.now ≡ config_message self.now }
     {
         match self {
             ConfigFault::NoMemory(_) => OUT_OF_MEMORY,

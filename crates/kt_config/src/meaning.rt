@@ -1,9 +1,9 @@
 ghost use Rattle.std.specs.Prelude.{◌≡◌, IfOk};
-ghost use Rattle.kt_config.specs.Names.{unless_empty, of_width, runner_definition, is_suite_variable, suite_definition, definition_of};
+ghost use Rattle.kt_config.specs.Names.{checked_definition, width_definition, runner_definition, is_suite_variable, suite_definition, definition_of};
 
 use crate::ConfigFault;
 use crate::width::Width;
-use crate::words::{has_zero, is_variable};
+use crate::words::{has_zero, is_variable_name};
 use kt_base::{NoMemory, Text, Variable};
 
 /// A definition in a configuration: a variable with its new value.
@@ -20,12 +20,12 @@ pub enum Definition {
     /// The value has no effect, because this profile runs each test as the user of the runner.
     UnprivilegedUser,
     /// A variable of the test suite with this name, and its value.
-    OfSuite(Text, Variable),
+    SuiteVariable(Text, Variable),
 }
 
 /// Returns `definition`, or the fault `BadValue` if its value is empty.
-fn unless_empty(empty: bool, definition: Definition) -> Result<Definition, ConfigFault>
-    ensures { result ≡ unless_empty empty definition }
+fn checked_definition(empty: bool, definition: Definition) -> Result<Definition, ConfigFault>
+    ensures { result ≡ checked_definition empty definition }
 {
     if empty {
         return Err(ConfigFault::BadValue);
@@ -34,8 +34,8 @@ fn unless_empty(empty: bool, definition: Definition) -> Result<Definition, Confi
 }
 
 /// Returns the definition of `parallelism` as `width`, or the fault `BadValue` without a width.
-fn of_width(width: Option<Width>) -> Result<Definition, ConfigFault>
-    ensures { result ≡ of_width width }
+fn width_definition(width: Option<Width>) -> Result<Definition, ConfigFault>
+    ensures { result ≡ width_definition width }
 {
     match width {
         None => Err(ConfigFault::BadValue),
@@ -52,13 +52,13 @@ fn runner_definition(name: &Text, value: Text) -> Result<Definition, ConfigFault
 {
     let empty = value.is_empty();
     if name.is_word("architecture") {
-        unless_empty(empty, Definition::Architecture(value))
+        checked_definition(empty, Definition::Architecture(value))
     } else if name.is_word("platform") {
-        unless_empty(empty, Definition::Platform(value))
+        checked_definition(empty, Definition::Platform(value))
     } else if name.is_word("unprivileged_user") {
-        unless_empty(empty, Definition::UnprivilegedUser)
+        checked_definition(empty, Definition::UnprivilegedUser)
     } else if name.is_word("parallelism") {
-        of_width(Width::from_text(&value))
+        width_definition(Width::from_text(&value))
     } else {
         Err(ConfigFault::UnknownVariable)
     }
@@ -77,7 +77,7 @@ fn is_suite_variable(root: &Text, suite: &Text, name: &Text) -> bool
     if suite.is_empty() {
         return false;
     }
-    is_variable(name)
+    is_variable_name(name)
 }
 
 /// Returns the definition that sets the variable `name` of the test suite `suite` to `value`.
@@ -101,7 +101,7 @@ fn suite_definition(
     }
     let suite = suite.copy()?;
     let name = name.copy()?;
-    Ok(Ok(Definition::OfSuite(suite, Variable { name, value })))
+    Ok(Ok(Definition::SuiteVariable(suite, Variable { name, value })))
 }
 
 /// Returns the definition that sets the variable with the dotted name `parts` to `value`.

@@ -1,5 +1,5 @@
 ghost use Rattle.std.specs.Prelude.{◌≡◌, IfOk, Err, MatchOption, List, Ok};
-ghost use Rattle.kt_config.specs.Common.{is_version, is_opening, meaning_of, definitions_in, outcome_of, fault_of_script, Becomes, Gives, Spells, Stmt, Definition, ConfigFault, IsDue, IsRead, IfFault, Answers, Refuses};
+ghost use Rattle.kt_config.specs.Common.{is_syntax_version, is_syntax_call, definition_in, definitions_in, outcome_of, fault_of_script, AddsMeaning, IsOutcome, Spells, Stmt, Definition, ConfigFault, IsDue, IsRead, IfFault, SucceedsWith, FailsWith};
 
 use crate::meaning::{Definition, definition_of};
 use crate::{Config, ConfigFault};
@@ -18,8 +18,8 @@ pub fn script_fault(fault: ScriptFault) -> ConfigFault
 }
 
 /// Returns `true` if `arg` is the number 2.
-fn is_version(arg: &Arg) -> bool
-    ensures { result ≡ is_version arg.now }
+fn is_syntax_version(arg: &Arg) -> bool
+    ensures { result ≡ is_syntax_version arg.now }
 {
     match arg {
         Arg::Value(Literal::Number(n)) => *n == 2,
@@ -28,11 +28,11 @@ fn is_version(arg: &Arg) -> bool
 }
 
 /// Returns `true` if `action` is the call `syntax(2)`.
-fn is_opening(action: &Action) -> bool
-    ensures { result ≡ is_opening action.now }
+fn is_syntax_call(action: &Action) -> bool
+    ensures { result ≡ is_syntax_call action.now }
 {
     match action {
-        Action::Call(name, arg) => name.is_word("syntax") && is_version(arg),
+        Action::Call(name, arg) => name.is_word("syntax") && is_syntax_version(arg),
         Action::Assign(_, _) => false,
     }
 }
@@ -40,8 +40,11 @@ fn is_opening(action: &Action) -> bool
 /// Returns the definition in a statement with this `action`, which is not the first statement.
 ///
 /// Returns a fault if the statement is a call, or if the name or the value is not accepted.
-fn meaning_of(alloc: Global, action: &Action) -> Result<Result<Definition, ConfigFault>, NoMemory>
-    ensures { IfOk result (λ meaning. meaning ≡ meaning_of action.now) }
+fn definition_in(
+    alloc: Global,
+    action: &Action,
+) -> Result<Result<Definition, ConfigFault>, NoMemory>
+    ensures { IfOk result (λ meaning. meaning ≡ definition_in action.now) }
 {
     match action {
         Action::Call(_, _) => Ok(Err(ConfigFault::NotAssignment)),
@@ -58,10 +61,10 @@ fn read_statement(
     action: &Action,
 ) -> Result<Option<ConfigFault>, NoMemory>
     ensures { IfOk result (λ fault.
-        MatchOption fault (Becomes config.old config.new (meaning_of action.now))
-        (λ cause. meaning_of action.now ≡ Err cause)) }
+        MatchOption fault (AddsMeaning config.old config.new (definition_in action.now))
+        (λ cause. definition_in action.now ≡ Err cause)) }
 {
-    match meaning_of(alloc, action)? {
+    match definition_in(alloc, action)? {
         Err(fault) => Ok(Some(fault)),
         Ok(definition) => {
             config.define(definition)?;
@@ -74,7 +77,7 @@ fn read_statement(
 ///
 /// `stmts` are the statements after `syntax(2)`.
 fn read_statements(alloc: Global, stmts: &[Stmt]) -> Result<Result<Config, ConfigFault>, NoMemory>
-    ensures { IfOk result (λ outcome. Gives outcome (definitions_in stmts.now)) }
+    ensures { IfOk result (λ outcome. IsOutcome outcome (definitions_in stmts.now)) }
 {
     let mut config = Config::new(alloc);
     for stmt in stmts {
@@ -94,12 +97,12 @@ fn read_statements(alloc: Global, stmts: &[Stmt]) -> Result<Result<Config, Confi
 ///
 /// - `NoMemory`: an allocation fails.
 pub fn read_script(alloc: Global, stmts: &[Stmt]) -> Result<Result<Config, ConfigFault>, NoMemory>
-    ensures { IfOk result (λ outcome. Gives outcome (outcome_of stmts.now)) }
+    ensures { IfOk result (λ outcome. IsOutcome outcome (outcome_of stmts.now)) }
 {
     match stmts.split_first() {
         None => Ok(Err(ConfigFault::NoSyntax)),
         Some((first, rest)) => {
-            if is_opening(&first.action) {
+            if is_syntax_call(&first.action) {
                 return read_statements(alloc, rest);
             }
             Ok(Err(ConfigFault::NoSyntax))
@@ -125,11 +128,11 @@ impl Config {
         ensures accepted { IfOk result (λ config. IsRead text.now config) }
         // Each configuration file is accepted, unless an allocation fails.
         ensures only { (stmts : List Stmt) → (definitions : List Definition) → Spells text.now stmts
-            → outcome_of stmts ≡ Ok definitions → Answers result definitions }
+            → outcome_of stmts ≡ Ok definitions → SucceedsWith result definitions }
         // On another error than a failed allocation, the text has the returned fault.
         ensures refused { IfFault result (λ fault. IsDue text.now fault) }
         // A text with a fault is rejected with that fault, unless an allocation fails.
-        ensures due { (fault : ConfigFault) → IsDue text.now fault → Refuses result fault }
+        ensures due { (fault : ConfigFault) → IsDue text.now fault → FailsWith result fault }
     {
         match parse(alloc, text) {
             Err(fault) => Err(script_fault(fault)),

@@ -1,5 +1,5 @@
 ghost use Rattle.std.specs.Prelude.{◌≡◌, [], ◌∷◌, ◌++◌, List, is_some, IfOk, OnOk, OnErr};
-ghost use Rattle.kt_config.specs.Common.{option_copied, Variable, value_of, last_values, variable_in, variables_in, IsSettled};
+ghost use Rattle.kt_config.specs.Common.{option_copied, Variable, value_of, last_values, variable_in, variables_in, HasUniqueNames};
 
 use crate::words::key_of;
 use indexmap::IndexMap;
@@ -22,7 +22,7 @@ impl Model for SuiteVariables {
 
     ghost view = { λ v. variables_in v.values.entries };
 
-    ghost invariant = { λ v. IsSettled (variables_in v.values.entries) };
+    ghost invariant = { λ v. HasUniqueNames (variables_in v.values.entries) };
 }
 
 impl SuiteVariables {
@@ -76,7 +76,7 @@ impl SuiteVariables {
         let mut variables = Variables::new(*self.values.allocator());
         let mut rest = self.values.as_slice();
         while let Some(((name, value), after)) = rest.split_first() {
-            variables.push(copy_of(name, value)?)?;
+            variables.push(copy_entry(name, value)?)?;
             rest = after;
         }
         Ok(variables)
@@ -84,7 +84,7 @@ impl SuiteVariables {
 }
 
 /// Copies the entry of `name` and `value` into a new variable.
-fn copy_of(name: &String, value: &Text) -> Result<Variable, NoMemory>
+fn copy_entry(name: &String, value: &Text) -> Result<Variable, NoMemory>
     ensures { IfOk result (λ variable. variable ≡ variable_in (name.now, value.now)) }
 {
     let name = Text::from_string(name.clone()?);

@@ -1,5 +1,5 @@
 ghost use Rattle.std.specs.Prelude.{◌≡◌, [], List, map, OnOk, OnErr};
-ghost use Rattle.kt_config.specs.Common.{option_copied, AddsToSuite, group_in, Group, variables_of};
+ghost use Rattle.kt_config.specs.Common.{option_copied, SetsSuiteVariable, suite_in, SuiteValues, variables_of};
 
 use crate::SuiteVariables;
 use crate::words::key_of;
@@ -18,9 +18,9 @@ pub struct Suites {
 }
 
 impl Model for Suites {
-    ghost Value = { List Group };
+    ghost Value = { List SuiteValues };
 
-    ghost view = { λ s. map group_in s.groups.entries };
+    ghost view = { λ s. map suite_in s.groups.entries };
 }
 
 impl Suites {
@@ -48,7 +48,7 @@ impl Suites {
     ///
     /// - `NoMemory`: an allocation fails. The suites are unchanged.
     pub fn put(&mut self, suite: Text, variable: Variable) -> Result<(), NoMemory>
-        ensures ok { OnOk result (AddsToSuite suite variable self.old self.new) }
+        ensures ok { OnOk result (SetsSuiteVariable suite variable self.old self.new) }
         ensures err { OnErr result (self.new ≡ self.old) }
     {
         if let Some(variables) = self.groups.get_mut(suite.as_str()) {

@@ -1,13 +1,13 @@
 ghost use Rattle.std.specs.Prelude.{◌≡◌, ℕ, ◌≤◌};
 ghost use Rattle.std.specs.List.{list_any};
-ghost use Rattle.kt_config.specs.Forms.{is_no_digit, in_range, width_in, width_of};
+ghost use Rattle.kt_config.specs.Forms.{is_no_digit, width_in_range, width_in, width_of};
 ghost use Rattle.kt_base.specs.Limits.{largest_width};
 
 use kt_base::{Text, decimal_up_to, is_digit};
 use std::marker::Model;
 
 /// The greatest width that the configuration accepts, in test cases.
-const GREATEST: u64 = 256;
+const GREATEST_WIDTH: u64 = 256;
 
 /// A maximum number of cases that run at the same time, 1 to 256.
 ///
@@ -34,10 +34,10 @@ fn has_non_digit(bytes: &[u8]) -> bool
 }
 
 /// Returns `number` as a width, or `None` if `number` is not 1 to 256.
-fn in_range(number: u64) -> Option<u32>
-    ensures { result ≡ in_range number }
+fn width_in_range(number: u64) -> Option<u32>
+    ensures { result ≡ width_in_range number }
 {
-    if number >= 1 && number <= GREATEST {
+    if number >= 1 && number <= GREATEST_WIDTH {
         return Some(number as u32);
     }
     None
@@ -52,7 +52,7 @@ fn width_in(bytes: &[u8]) -> Option<u32>
     if has_non_digit(bytes) {
         return None;
     }
-    in_range(decimal_up_to(GREATEST, bytes)?)
+    width_in_range(decimal_up_to(GREATEST_WIDTH, bytes)?)
 }
 
 impl Width {

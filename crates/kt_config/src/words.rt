@@ -1,5 +1,5 @@
 ghost use Rattle.std.specs.Prelude.{◌≡◌, chars};
-ghost use Rattle.kt_config.specs.Common.{list_any, string_bytes, is_zero, is_strange, has_zero, is_variable};
+ghost use Rattle.kt_config.specs.Common.{list_any, string_bytes, is_zero, is_invalid_name_byte, has_zero, is_variable_name};
 
 use kt_base::Text;
 
@@ -13,26 +13,26 @@ pub fn has_zero(text: &Text) -> bool
 /// Returns `true` if the byte `c` cannot be in a variable's name.
 ///
 /// The names of variables consist of ASCII letters, digits, `_` and `-`.
-fn is_strange(c: u8) -> bool
-    ensures { result ≡ is_strange c }
+fn is_invalid_name_byte(c: u8) -> bool
+    ensures { result ≡ is_invalid_name_byte c }
 {
     !matches!(c, b'a'..=b'z' | b'A'..=b'Z' | b'0'..=b'9' | b'_' | b'-')
 }
 
 /// Returns `true` if `bytes` contains a byte other than ASCII letters, digits, `_` and `-`.
-fn has_strange(bytes: &[u8]) -> bool
-    ensures { result ≡ list_any is_strange bytes.now }
+fn has_invalid_name_byte(bytes: &[u8]) -> bool
+    ensures { result ≡ list_any is_invalid_name_byte bytes.now }
 {
-    bytes.iter().any(|c| is_strange(*c))
+    bytes.iter().any(|c| is_invalid_name_byte(*c))
 }
 
 /// Returns `true` if `name` can be the name of a test suite's variable (this profile).
 ///
 /// Such a name consists of one or more ASCII letters, digits, `_` and `-`.
-pub fn is_variable(name: &Text) -> bool
-    ensures { result ≡ is_variable name.now }
+pub fn is_variable_name(name: &Text) -> bool
+    ensures { result ≡ is_variable_name name.now }
 {
-    !name.is_empty() && !has_strange(name.as_str().as_bytes())
+    !name.is_empty() && !has_invalid_name_byte(name.as_str().as_bytes())
 }
 
 /// Converts `text` to a string, the key of a map, without copying it.

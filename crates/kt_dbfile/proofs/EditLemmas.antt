@@ -1,6 +1,6 @@
 -- The conditions of a write on a store that obeys its schema, and the tables of runs after its
 -- rows.
-use Rattle.kt_dbfile.proofs.Common.{AreNumbered, CanAdd, Chosen, Database, Enforced, Entry, Fills, Fits, ForeignKey, Given, IsCatalogOf, IsComplete, IsListed, IsOrdered, IsSound, Keeps, List, Lists, None, Obeys, PutsRows, Refers, Row, Run, Schema, Some, Tables, Tally, Trees, Variable, View, [], all_from, ap, ap₂, arith, begun_row, cast_row, catalog_tree, done_row, drop, edit_of, entries_1, entry_row, entry_rows, false, finish, get_or, ids_of, last_id, length, lists_once, map, nat_tests, new_run, nothing_logged, one_step, pair_row, pair_rows, pair_rows_from, places_2, pos, prop_rows, props_1, refl, run_at, runs_1, schema_2, subst, suc, sym, take, true, unnumbered, with_entry, works, zero, ℕ, ℤ, ◌++◌, ◌+◌, ◌<◌, ◌==◌, ◌∙◌, ◌∷◌, ◌≡◌, ◌≤◌}
+use Rattle.kt_dbfile.proofs.Common.{AreNumbered, CanAdd, Chosen, Database, Enforced, Entry, WritesEntryRows, Fits, ForeignKey, Given, IsCatalogOf, IsComplete, IsListed, IsOrdered, IsSound, Keeps, List, Lists, None, ObeysSchema, PutsRows, Refers, Row, Run, Schema, Some, Tables, Tally, Trees, Variable, View, [], all_from, ap, ap₂, arith, new_run_row, cast_row, catalog_tree, finished_run_row, drop, edit_of, entries_table, entry_row, entry_rows, false, finish, get_or, ids_of, last_id, length, lists_once, map, nat_tests, new_run, nothing_logged, one_step, pair_row, pair_rows, pair_rows_from, places_2, pos, prop_rows, props_1, refl, run_at, runs_1, schema_2, subst, suc, sym, take, true, unnumbered, with_entry, works, zero, ℕ, ℤ, ◌++◌, ◌+◌, ◌<◌, ◌==◌, ◌∙◌, ◌∷◌, ◌≡◌, ◌≤◌}
 use Rattle.sqlite_sql.specs.declared.query.Index.{Index}
 use Rattle.sqlite_exec.specs.Calls.{OnlyReads}
 use Rattle.sqlite_schema.specs.declared.schema.Among.TheVariants.{All}
@@ -23,7 +23,7 @@ use Rattle.kt_store.proofs.Values.{cast_int, cast_null}
 abbrev numbered : View → View
 numbered v = record v { is_numbered = true }
 
-module _ (v : View) (schema : Schema) (stands : Obeys v schema) (listed : IsListed (v.trees catalog_tree) v.shape v.reals) (ordered : IsOrdered v.shape v.trees) where
+module _ (v : View) (schema : Schema) (stands : ObeysSchema v schema) (listed : IsListed (v.trees catalog_tree) v.shape v.reals) (ordered : IsOrdered v.shape v.trees) where
   serves : Serves (numbered v) schema
   serves = record { unbroken = stands.unbroken; numbered = refl; sound = record { lists = stands.sound.lists; obeys = fits_obeyed schema v.trees stands.sound.obeys } }
 
@@ -47,13 +47,13 @@ module _ (v : View) (schema : Schema) (stands : Obeys v schema) (listed : IsList
     pub accounted : Accounts All schema log new.trees
     accounted = advances.accounts All (nothing_logged All schema v.trees (stands.sound.obeys.rules ForeignKey))
 
-    pub still_stands : Refers All schema new.trees → Obeys new schema
+    pub still_stands : Refers All schema new.trees → ObeysSchema new schema
     still_stands refers = record {
       unbroken = ap (λ (w : View). w.is_broken) advances.frame ∙ stands.unbroken;
       sound = record { lists = subst (λ rows. Lists rows schema) (sym (beyond catalog_tree (omega arith))) stands.sound.lists; obeys = obeyed schema new.trees advances.fits refers };
     }
 
-pub stands_again : (a b : View) (schema : Schema) → OnlyReads a b → Obeys a schema → Obeys b schema
+pub stands_again : (a b : View) (schema : Schema) → OnlyReads a b → ObeysSchema a schema → ObeysSchema b schema
 stands_again a b schema same stands =
     let trees = ap (λ (v : View). v.trees) same in
     record { unbroken = ap (λ (v : View). v.is_broken) same ∙ stands.unbroken; sound = rw trees stands.sound }
@@ -85,43 +85,43 @@ module _ (schema : Schema) (runs : List Run) (old new : Trees) (was : IsSound sc
   ours : schema ≡ schema_2
   ours = schema_is schema runs old was kept
 
-  pub run_made : (total started : ℕ) → length runs < 1000000 → total < 4294967296 → PutsRows schema 1 [] Chosen 0 (begun_row total started ∷ []) old new → Keeps (runs ++ new_run runs total started ∷ []) new
+  pub run_made : (total started : ℕ) → length runs < 1000000 → total < 4294967296 → PutsRows schema 1 [] Chosen 0 (new_run_row total started ∷ []) old new → Keeps (runs ++ new_run runs total started ∷ []) new
   run_made total started room small puts =
-      let writes = subst (λ (s : Schema). PutsRows s 1 [] Chosen 0 (begun_row total started ∷ []) old new) ours puts runs_1 refl in
-      let edit = edit_of old runs_1 [] Chosen 0 (begun_row total started ∷ []) in
+      let writes = subst (λ (s : Schema). PutsRows s 1 [] Chosen 0 (new_run_row total started ∷ []) old new) ours puts runs_1 refl in
+      let edit = edit_of old runs_1 [] Chosen 0 (new_run_row total started ∷ []) in
       let tally : Tally = record { rows = None; last = last_id edit.news; shown = []; in_doubt = false } in
       keeps_in (runs ++ new_run runs total started ∷ []) schema new ours sound
       (begun runs total started (in_trees old) (in_trees new) tally (tables_in runs old kept) room small
       (record { schema_is = refl; applies = one_step schema_2 Enforced old new edit (begin_works (begin_params total started) old) writes; last_is = refl }))
 
-  run_finished : (run : ℕ) (r : Run) → run_at runs run ≡ Some r → IsComplete run runs → PutsRows schema 1 (ids_of (done_row r ∷ [])) Given 1 (done_row r ∷ []) old new → Keeps (finish run runs) new
+  run_finished : (run : ℕ) (r : Run) → run_at runs run ≡ Some r → IsComplete run runs → PutsRows schema 1 (ids_of (finished_run_row r ∷ [])) Given 1 (finished_run_row r ∷ []) old new → Keeps (finish run runs) new
   run_finished zero r there whole puts = absurd cc
   run_finished (suc k) r there whole puts =
-      let writes = subst (λ (s : Schema). PutsRows s 1 (ids_of (done_row r ∷ [])) Given 1 (done_row r ∷ []) old new) ours puts runs_1 refl in
+      let writes = subst (λ (s : Schema). PutsRows s 1 (ids_of (finished_run_row r ∷ [])) Given 1 (finished_run_row r ∷ []) old new) ours puts runs_1 refl in
       let same : whole.1 ≡ r = let e : Some whole.1 ≡ Some r = sym whole.3 ∙ there in cc in
-      let edit = edit_of old runs_1 (ids_of (done_row r ∷ [])) Given 1 (done_row r ∷ []) in
+      let edit = edit_of old runs_1 (ids_of (finished_run_row r ∷ [])) Given 1 (finished_run_row r ∷ []) in
       keeps_in (finish (suc k) runs) schema new ours sound
       (finish_in runs k r there (subst (λ (x : Run). length x.entries ≡ x.total) same whole.4) (in_trees old) (in_trees new) (tables_in runs old kept) refl
       (one_step schema_2 Enforced old new edit (finish_works r old) writes))
 
-  pub finished_by : (run : ℕ) (r : Run) → run_at runs run ≡ Some r → IsComplete run runs → (mid : Trees) (gone : List ℤ) (done : Row) → mid ≡ old → done ≡ done_row r → gone ≡ pos r.number ∷ []
+  pub finished_by : (run : ℕ) (r : Run) → run_at runs run ≡ Some r → IsComplete run runs → (mid : Trees) (gone : List ℤ) (done : Row) → mid ≡ old → done ≡ finished_run_row r → gone ≡ pos r.number ∷ []
       → PutsRows schema 1 gone Given 1 (done ∷ []) mid new → Keeps (finish run runs) new
   finished_by run r there whole mid gone done same is ids puts =
-      run_finished run r there whole (subst (λ (l : List ℤ). PutsRows schema 1 l Given 1 (done_row r ∷ []) old new) ids (subst (λ (x : Row). PutsRows schema 1 gone Given 1 (x ∷ []) old new) is (subst (λ (t : Trees). PutsRows schema 1 gone Given 1 (done ∷ []) t new) same puts)))
+      run_finished run r there whole (subst (λ (l : List ℤ). PutsRows schema 1 l Given 1 (finished_run_row r ∷ []) old new) ids (subst (λ (x : Row). PutsRows schema 1 gone Given 1 (x ∷ []) old new) is (subst (λ (t : Trees). PutsRows schema 1 gone Given 1 (done ∷ []) t new) same puts)))
 
   -- the rows of pairs are stored as they are
   cast_pairs : (n p j : ℕ) (vs : List Variable) → map (λ s. cast_row props_1 (drop 0 s)) (map unnumbered (pair_rows_from n p j vs)) ≡ map back (pair_rows_from n p j vs)
   cast_pairs n p j [] = refl
   cast_pairs n p j (v ∷ vs) = ap₂ (λ x xs. x ∷ xs) (rw (cast_null, cast_int (pos n), cast_int (pos p), cast_int (pos j)) refl) (cast_pairs n p (suc j) vs)
 
-  pub entry_filled : (run : ℕ) (e : Entry) → CanAdd run e runs → Fills schema places_2 run e old new → Keeps (with_entry run e runs) new
+  pub entry_filled : (run : ℕ) (e : Entry) → CanAdd run e runs → WritesEntryRows schema places_2 run e old new → Keeps (with_entry run e runs) new
   entry_filled run e fits fills =
       let mid = fills.1.0 in
-      let first = subst (λ (s : Schema). PutsRows s 2 [] Chosen 0 (unnumbered (entry_row run e) ∷ []) old mid) ours fills.1.1 entries_1 refl in
+      let first = subst (λ (s : Schema). PutsRows s 2 [] Chosen 0 (unnumbered (entry_row run e) ∷ []) old mid) ours fills.1.1 entries_table refl in
       let second = subst (λ (s : Schema). PutsRows s 3 [] Chosen 0 (map unnumbered (pair_rows run e)) mid new) ours fills.1.2 props_1 refl in
       let has = tables_in runs old kept in
       let one = entry_in runs (entry_rows runs) (prop_rows runs) (in_trees old) (in_trees mid) (rows_of runs (in_trees old) has) refl run e
-      (one_step schema_2 Enforced old mid (edit_of old entries_1 [] Chosen 0 (put_rows run e)) (put_works (entry_row run e) old) first) in
+      (one_step schema_2 Enforced old mid (edit_of old entries_table [] Chosen 0 (put_rows run e)) (put_works (entry_row run e) old) first) in
       let all = pairs_in runs (entry_row run e ∷ entry_rows runs) (prop_rows runs) (in_trees mid) (in_trees new) one refl (map unnumbered (pair_rows run e)) (pair_rows run e) (cast_pairs run e.position 0 e.meta)
       (one_step schema_2 Enforced mid new (edit_of mid props_1 [] Chosen 0 (map unnumbered (pair_rows run e))) (props_works [] (edit_of mid props_1 [] Chosen 0 (map unnumbered (pair_rows run e))).news) second) in
       keeps_in (with_entry run e runs) schema new ours sound (tables_of runs run e fits fills.0 has.valid (in_trees new) all)

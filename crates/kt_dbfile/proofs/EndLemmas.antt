@@ -1,5 +1,5 @@
 -- The ends of calls that write the trees of a store: a commit or a rollback.
-use Rattle.kt_dbfile.proofs.Common.{Agrees, Database, Ended, Err, Ghosts, HasCleanDisk, HasCommitted, HasRuns, Held, HoldsCommit, IsLive, IsSettledStore, IsSound, IsTrue, Keeps, KeepsOne, List, Lists, Looks, Ok, Outlasts, Result, Run, Schema, Serves, StandAt, StandsFor, StoreCall, StoreFault, Trees, Wrote, ap, catalog_tree, changed_by, clean_if_open, false, inl, inr, is_err, lists_once, places_2, readings, refl, runs_file, schema_2, state, subst, sym, true, true≢false, ◌∙◌, ◌∷◌, ◌≡◌}
+use Rattle.kt_dbfile.proofs.Common.{Agrees, Database, EndsTransaction, Err, Ghosts, HasCleanDisk, HasCommitted, HasRuns, Held, HoldsCommit, IsLive, IsSettledStore, IsSound, IsTrue, Keeps, IsSchema2OfOne, List, Lists, OnlyReadsStore, Ok, SurvivesCrash, Result, Run, Schema, Serves, ArePlacesOf, StandsFor, StoreCall, StoreFault, Trees, WritesRows, ap, catalog_tree, runs_after, clean_if_open, false, inl, inr, is_err, lists_once, places_2, readings, refl, runs_file, schema_2, state, subst, sym, true, true≢false, ◌∙◌, ◌∷◌, ◌≡◌}
 use Rattle.sqlite_trees.specs.View.{View, IsClean, IsRolledBack}
 use Rattle.kt_dbfile.specs.declared.places.Places.{Places}
 use Rattle.kt_dbfile.proofs.SeenLemmas.{read_serves}
@@ -20,7 +20,7 @@ pub sound_of : (v : View) (schema : Schema) → (v.is_open ≡ false → IsTrue 
 sound_of v schema law is clean sound = subst (IsSound schema) (sym (is.settled clean sound)) (is.sound (open_if_sound v law sound))
 
 -- the tables of a settled store are at the indexes where they are found by name
-pub stand_at : (v : View) (schema : Schema) (places : Places) → (v.is_open ≡ false → IsTrue v.is_broken) → IsSettledStore v schema × (schema ≡ schema_2 → places ≡ places_2) → StandAt places v
+pub stand_at : (v : View) (schema : Schema) (places : Places) → (v.is_open ≡ false → IsTrue v.is_broken) → IsSettledStore v schema × (schema ≡ schema_2 → places ≡ places_2) → ArePlacesOf places v
 stand_at v schema places law is clean sound runs keeps = is.1 (schema_is schema runs v.trees (sound_of v schema law is.0 clean sound) keeps)
 
 -- the trees of a settled store are those of the runs that it represents
@@ -28,7 +28,7 @@ pub has_runs : (v : View) (schema : Schema) → (v.is_open ≡ false → IsTrue 
 has_runs v schema law is runs has clean sound = subst (Keeps runs) (sym (is.settled clean sound)) (has (open_if_sound v law sound))
 
 -- a store that was only read is settled
-pub looked_settled : {S : Type 0} (g : Ghosts S) (old new : S) (schema : Schema) → ((g.view new).is_clean ≡ false → (g.view new).is_open ≡ false) → Looks g old new → IsSettledStore (g.view old) schema → IsSettledStore (g.view new) schema
+pub looked_settled : {S : Type 0} (g : Ghosts S) (old new : S) (schema : Schema) → ((g.view new).is_clean ≡ false → (g.view new).is_open ≡ false) → OnlyReadsStore g old new → IsSettledStore (g.view old) schema → IsSettledStore (g.view new) schema
 looked_settled g old new schema dirty looks is = record {
   settled = λ clean sound.
       let same = looks.same clean sound in
@@ -41,12 +41,12 @@ looked_settled g old new schema dirty looks is = record {
 module _ {S : Type 0} (g : Ghosts S) (dirty : (s : S) → (g.view s).is_clean ≡ false → (g.view s).is_open ≡ false) (shut : (s : S) → (g.view s).is_open ≡ false → IsTrue (g.view s).is_broken) (settles : (s : S) (db : Trees) → IsTrue (g.view s).is_open → g.recovers s db → db ≡ (g.view s).committed) (schema : Schema) where
   -- ---- a call that reads
 
-  module _ (old new : S) (looks : Looks g old new) (is : IsSettledStore (g.view old) schema) where
+  module _ (old new : S) (looks : OnlyReadsStore g old new) (is : IsSettledStore (g.view old) schema) where
     still : (runs : List Run) → HasCommitted (g.view old) runs → HasCommitted (g.view new) runs
     still runs h opened = let held = looks.held (clean_if_open (g.view new) (dirty new) opened) opened in subst (Keeps runs) (sym held.1) (h held.0)
 
-    pub read_served : (call : StoreCall) → ((runs : List Run) → changed_by call runs ≡ runs)
-        → ((runs : List Run) (may : List (List Run)) → ((runs_file g).leaves old may → (runs_file g).leaves new may) → Outlasts (runs_file g).leaves call runs may old new)
+    pub read_served : (call : StoreCall) → ((runs : List Run) → runs_after call runs ≡ runs)
+        → ((runs : List Run) (may : List (List Run)) → ((runs_file g).leaves old may → (runs_file g).leaves new may) → SurvivesCrash (runs_file g).leaves call runs may old new)
         → Serves (readings g) call old new → Serves (runs_file g) call old new
     read_served call same lasts s = read_serves g old new looks HasCommitted still call same lasts (λ runs h. s.agrees runs (has_runs (g.view old) schema (shut old) is runs h.0, h.1, h.2))
 
@@ -54,31 +54,31 @@ module _ {S : Type 0} (g : Ghosts S) (dirty : (s : S) → (g.view s).is_clean �
 
   module _ {T : Type 0} (call : Result T StoreFault → StoreCall) (change : List Run → List Run) (writes : IsWrite (runs_file g).leaves call change)
       (old mid new : S) (is : IsSettledStore (g.view old) schema) where
-    wider : (runs : List Run) (may : List (List Run)) (trees : Trees) → KeepsOne (runs ∷ may) trees → KeepsOne (runs ∷ change runs ∷ may) trees
+    wider : (runs : List Run) (may : List (List Run)) (trees : Trees) → IsSchema2OfOne (runs ∷ may) trees → IsSchema2OfOne (runs ∷ change runs ∷ may) trees
     wider runs may trees (inl one) = inl one
     wider runs may trees (inr more) = inr (inr more)
 
     has : (runs : List Run) → (runs_file g).stands old runs → HasRuns (g.view old) runs
     has runs h = has_runs (g.view old) schema (shut old) is runs h.0
 
-    made : (call' : StoreCall) (runs : List Run) → (runs_file g).stands old runs → (IsClean (g.view new) → Agrees runs call') → (IsClean (g.view new) → IsClean (g.view old)) → HasCommitted (g.view new) (changed_by call' runs)
-        → (runs_file g).stands new (changed_by call' runs)
+    made : (call' : StoreCall) (runs : List Run) → (runs_file g).stands old runs → (IsClean (g.view new) → Agrees runs call') → (IsClean (g.view new) → IsClean (g.view old)) → HasCommitted (g.view new) (runs_after call' runs)
+        → (runs_file g).stands new (runs_after call' runs)
     made call' runs h agrees earlier kept = (kept, numbers_changed call' runs h.1, λ late. ordered_changed call' runs h.1 (h.2 (earlier late)) (agrees late))
 
     -- the written trees are those of the changed runs
-    rows : (written : Result T StoreFault) → Wrote g schema call old mid written → is_err written ≡ false → (runs : List Run) → (runs_file g).stands old runs → IsClean (g.view mid) → Keeps (change runs) (g.view mid).trees
+    rows : (written : Result T StoreFault) → WritesRows g schema call old mid written → is_err written ≡ false → (runs : List Run) → (runs_file g).stands old runs → IsClean (g.view mid) → Keeps (change runs) (g.view mid).trees
     rows (Ok x) wrote none runs h clean = subst (λ l. Keeps l (g.view mid).trees) (writes.done x runs) (wrote.rows runs (has runs h) clean)
     rows (Err f) wrote none runs h clean = absurd (true≢false none)
 
     -- the call serves, by its end
-    pub ended_served : (written result : Result T StoreFault) → Wrote g schema call old mid written → Ended g mid new written result → Serves (runs_file g) (call result) old new
+    pub ended_served : (written result : Result T StoreFault) → WritesRows g schema call old mid written → EndsTransaction g mid new written result → Serves (runs_file g) (call result) old new
     ended_served written (Ok x) wrote ended =
-        let done = subst (λ r. Wrote g schema call old mid r) ended.value wrote in
+        let done = subst (λ r. WritesRows g schema call old mid r) ended.value wrote in
         record {
           asked = tt;
           stands = λ runs h. made (call (Ok x)) runs h (λ late. done.agrees runs (has runs h) (ended.clean late)) (λ late. wrote.clean (ended.clean late)) (λ opened.
               let late = clean_if_open (g.view new) (dirty new) opened in
-              subst (Keeps (changed_by (call (Ok x)) runs)) (sym (ended.done late).1) (done.rows runs (has runs h) (ended.clean late)));
+              subst (Keeps (runs_after (call (Ok x)) runs)) (sym (ended.done late).1) (done.rows runs (has runs h) (ended.clean late)));
           earlier = λ runs h late. wrote.clean (ended.clean late);
           agrees = λ runs h late. done.agrees runs (has runs h) (ended.clean late);
           crash = λ runs may h. writes.lasts x runs may old new (λ late trees found.
@@ -106,12 +106,12 @@ module _ {S : Type 0} (g : Ghosts S) (dirty : (s : S) → (g.view s).is_clean �
           | inr failed ↦ writes.fails e runs failed
         ]
 
-    pub ended_settled : (written result : Result T StoreFault) → Wrote g schema call old mid written → Ended g mid new written result → IsSettledStore (g.view new) schema
+    pub ended_settled : (written result : Result T StoreFault) → WritesRows g schema call old mid written → EndsTransaction g mid new written result → IsSettledStore (g.view new) schema
     ended_settled written (Ok x) wrote ended = record {
       settled = ended.settled;
       sound = λ opened.
           let late = clean_if_open (g.view new) (dirty new) opened in
-          subst (IsSound schema) (sym (ended.done late).1) ((subst (λ r. Wrote g schema call old mid r) ended.value wrote).obeys (ended.clean late)).sound;
+          subst (IsSound schema) (sym (ended.done late).1) ((subst (λ r. WritesRows g schema call old mid r) ended.value wrote).obeys (ended.clean late)).sound;
     }
     ended_settled written (Err e) wrote ended = record {
       settled = ended.settled;

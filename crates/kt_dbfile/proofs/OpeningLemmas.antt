@@ -1,6 +1,6 @@
 -- A file that holds runs lists the schema of their tables, and the results attached to it have
 -- these runs.
-use Rattle.kt_dbfile.proofs.Common.{AllByRecursion, AreOrdered, Bool, Current, Database, Err, FileStore, HasCleanDisk, HasCommitted, Held, HoldsAt, HoldsDatabase, HoldsIn, HoldsRuns, IfOk, IfSome, Image, Int, IsClean, IsRun, IsTaken, IsTakenOf, IsTrue, Keeps, List, Lists, Looks, Ok, OpensOver, OpensRuns, Option, PageMap, Recovers, Result, Row, Run, Schema, Shape, Some, StandsFor, StoreFault, Table, Tables, Trees, Trees-set, Value, View, [], ap, ap₂, arith, catalog_tree, clean_if_open, cond, entries_1, false, file_state, get_or, in_use, index_reals, inr, joined, layout_at, layout_of, length, lists_once, map, map-map, meets, meta_1, none-some, number_in, over_files, plain, plain_adopts, pos, props_1, recovers_once, refl, rowid, rows_at, same_Some, schema_2, shut_if_dirty_at, state, subst, sym, table_reals, true, unrooted, version_in, view, with_version, ℕ, ∥∥₁_elim, ◌%◌, ◌-◌, ◌<◌, ◌∙◌, ◌∷◌, ◌≡◌, ◌≢◌, ◌≤◌}
+use Rattle.kt_dbfile.proofs.Common.{AllByRecursion, AreOrdered, Bool, Current, Database, Err, FileStore, HasCleanDisk, HasCommitted, Held, HoldsAt, HoldsDatabase, HoldsIn, HoldsRuns, IfOk, IfSome, Image, Int, IsClean, IsRun, IsAttached, IsAttachedFiles, IsTrue, Keeps, List, Lists, OnlyReadsStore, Ok, OpensOver, OpensRuns, Option, PageMap, Recovers, Result, Row, Run, Schema, Shape, Some, StandsFor, StoreFault, Table, Tables, Trees, Trees-set, Value, View, [], ap, ap₂, arith, catalog_tree, clean_if_open, cond, entries_table, false, file_state, get_or, in_use, index_reals, inr, joined, layout_at, layout_of, length, lists_once, map, map-map, meets, meta_1, none-some, number_in, over_files, plain, plain_adopts, pos, props_1, recovers_once, refl, rowid, rows_at, same_Some, schema_2, shut_if_dirty_at, state, subst, sym, table_reals, true, unrooted, version_in, view, with_version, ℕ, ∥∥₁_elim, ◌%◌, ◌-◌, ◌<◌, ◌∙◌, ◌∷◌, ◌≡◌, ◌≢◌, ◌≤◌}
 use Rattle.std.specs.Result.{result_ok}
 use Rattle.sqlite_trees.specs.declared.store.Shape.TheVariants as kind
 use Rattle.sqlite_store.specs.declared.catalog.Wanted.{Wanted}
@@ -10,7 +10,7 @@ use Rattle.sqlite_catalog.specs.Reading.{AreShaped}
 use Rattle.sqlite.specs.Store.{Ghosts as StoreGhosts}
 use Rattle.sqlite_disk.specs.declared.Disk.{Ghosts}
 use Rattle.sqlite_disk.specs.Events.{Event, replay}
-use Rattle.kt_store.specs.Attaching.{IsOf, TakesTables, DatabaseBefore}
+use Rattle.kt_store.specs.Attaching.{IsOf, AttachSucceeds, DatabaseBefore}
 use Rattle.sqlite_pool.specs.Stored.{stored_size}
 use Rattle.sqlite_wal.specs.PageSize.{IsPageSize}
 use Rattle.sqlite_wal.specs.Reads.{OnlyReads}
@@ -18,7 +18,7 @@ use Rattle.sqlite_wal.proofs.CleanLemmas.{both_clean}
 use Rattle.sqlite_disk.specs.declared.Files.{Files}
 use Rattle.sqlite.specs.Files.{IsOpened, Finds as FindsFiles, image_of}
 use Rattle.kt_store.specs.Files.{AreOfFile, Finds, Follows, IsOfFile, IsReadAs, recovered, unchanged}
-use Rattle.kt_dbfile.specs.Inner.Opening.{IsLeft}
+use Rattle.kt_dbfile.specs.Inner.Opening.{IsOnlyRead}
 use Rattle.kt_dbfile.proofs.Common.{adopts_of, same_image}
 
 -- a result that was converted to an option
@@ -80,7 +80,7 @@ layouts_are v rows knows are =
     let e1 : layout_at v 1 ≡ lay (kind.Index plain) 0 = laid i.0.0 (i.0.1.2 ∙ no_reals meta_1 i.0.1.0 (1 ∷ []) i.0.1.1 refl) in
     let e2 : layout_at v 2 ≡ lay kind.Table 0 = laid t.1.0.0 t.1.0.1 in
     let e3 : layout_at v 3 ≡ lay kind.Table 0 = laid t.1.1.0.0 t.1.1.0.1 in
-    let e4 : layout_at v 4 ≡ lay (kind.Index plain) 0 = laid i.1.0.0 (i.1.0.1.2 ∙ no_reals entries_1 i.1.0.1.0 (1 ∷ 2 ∷ []) i.1.0.1.1 refl) in
+    let e4 : layout_at v 4 ≡ lay (kind.Index plain) 0 = laid i.1.0.0 (i.1.0.1.2 ∙ no_reals entries_table i.1.0.1.0 (1 ∷ 2 ∷ []) i.1.0.1.1 refl) in
     let e5 : layout_at v 5 ≡ lay kind.Table 0 = laid t.1.1.1.0.0 t.1.1.1.0.1 in
     let e6 : layout_at v 6 ≡ lay (kind.Index plain) 0 = laid i.1.1.0.0 (i.1.1.0.1.2 ∙ no_reals props_1 i.1.1.0.1.0 (1 ∷ 2 ∷ 3 ∷ []) i.1.1.0.1.1 refl) in
     sym (map-map at rowid rows) ∙ ap (map at) are ∙ rw (e0, e1, e2, e3, e4, e5, e6) refl
@@ -109,7 +109,7 @@ ordered_of [] each = tt
 ordered_of (r ∷ runs) each = (each.0.ordered, ordered_of runs each.1)
 
 -- a store that was opened over a file and then read represents the runs of the file
-pub opens_runs : {D : Type 0} {g : Ghosts D} (image : Image) (old new : FileStore D g) → Looks over_files old new → (view old).trees ≡ (view old).committed → (IsClean (view old) → (view old).is_broken ≡ false) → (IsClean (view old) → OpensOver image old) → OpensRuns image new
+pub opens_runs : {D : Type 0} {g : Ghosts D} (image : Image) (old new : FileStore D g) → OnlyReadsStore over_files old new → (view old).trees ≡ (view old).committed → (IsClean (view old) → (view old).is_broken ≡ false) → (IsClean (view old) → OpensOver image old) → OpensRuns image new
 opens_runs image old new looks settled unbroken opens = record {
   stands = λ runs h. (
     λ opened.
@@ -127,13 +127,13 @@ opens_runs image old new looks settled unbroken opens = record {
 same_tables : (s t : Schema) (a b : Trees) (runs : List Run) → s ≡ t → a ≡ b → Tables (record { schema = s; trees = a }) runs → Tables (record { schema = t; trees = b }) runs
 same_tables s t a b runs same equal has = subst (λ x. Tables (record { schema = t; trees = x }) runs) equal (subst (λ x. Tables (record { schema = x; trees = a }) runs) same has)
 
-pub taken_by : {S : Type 0} (g : StoreGhosts S) (conn results : Held S) (made : Result S StoreFault) → ((was : DatabaseBefore) → IsOf was (state g conn) → TakesTables was (state g conn) (state g results))
+pub taken_by : {S : Type 0} (g : StoreGhosts S) (conn results : Held S) (made : Result S StoreFault) → ((was : DatabaseBefore) → IsOf was (state g conn) → AttachSucceeds was (state g conn) (state g results))
     → IfOk made (λ s. (runs : List Run) → StandsFor (state g results) runs → HasCommitted (g.view s) runs) → IfOk made (λ s. IsClean (g.view s) → HasCleanDisk (state g results))
-    → IfOk made (λ s. (trees : Trees) → g.recovers s trees → (state g results).may_leave trees) → IfOk made (λ s. IsClean (g.view s) → IsTrue (g.view s).is_numbered) → IfOk made (IsTaken g conn)
+    → IfOk made (λ s. (trees : Trees) → g.recovers s trees → (state g results).may_leave trees) → IfOk made (λ s. IsClean (g.view s) → IsTrue (g.view s).is_numbered) → IfOk made (IsAttached g conn)
 taken_by g conn results (Ok store) takes stands earlier crash numbered = (results, takes, stands, earlier, crash, numbered)
 taken_by g conn results (Err fault) takes stands earlier crash numbered = tt
 
-pub taken_files : {D : Type 0} {g : Ghosts D} (conn : Held (FileStore D g)) (made : Result (FileStore D g) StoreFault) → IfOk made (IsTaken over_files conn) → IfOk made (IsTakenOf conn)
+pub taken_files : {D : Type 0} {g : Ghosts D} (conn : Held (FileStore D g)) (made : Result (FileStore D g) StoreFault) → IfOk made (IsAttached over_files conn) → IfOk made (IsAttachedFiles conn)
 taken_files conn (Ok store) (results, takes, stands, earlier, crash, numbered) = (results, takes, record { stands = stands; earlier = earlier; crash = crash; numbered = numbered })
 taken_files conn (Err fault) taken = tt
 
@@ -147,7 +147,7 @@ held_still (recovered new size pages unsummed found again sized) db held =
     (size, subst (λ n. IsPageSize (stored_size n)) (sized db held) held.1, record { pages = at.pages; wanted = at.wanted; schema = at.schema; found = adopted; ours = at.ours; reads = at.reads; sound = at.sound })
 
 -- files that were only read are left
-pub left_read : {D : Type 0} (g : Ghosts D) (old new : Files D) → OnlyReads g old.log new.log → OnlyReads g old.db new.db → IsLeft g old new
+pub left_read : {D : Type 0} (g : Ghosts D) (old new : Files D) → OnlyReads g old.log new.log → OnlyReads g old.db new.db → IsOnlyRead g old new
 left_read g old new log db = record {
   log = log.usable;
   db = db.usable;
@@ -155,7 +155,7 @@ left_read g old new log db = record {
 }
 
 -- files that were only read once more are left
-pub left_more : {D : Type 0} (g : Ghosts D) (old mid new : Files D) → OnlyReads g old.log mid.log → OnlyReads g old.db mid.db → OnlyReads g mid.log new.log → OnlyReads g mid.db new.db → IsLeft g old new
+pub left_more : {D : Type 0} (g : Ghosts D) (old mid new : Files D) → OnlyReads g old.log mid.log → OnlyReads g old.db mid.db → OnlyReads g mid.log new.log → OnlyReads g mid.db new.db → IsOnlyRead g old new
 left_more g old mid new log db log_again db_again = record {
   log = log_again.usable;
   db = db_again.usable;
@@ -165,7 +165,7 @@ left_more g old mid new log db log_again db_again = record {
 }
 
 -- a connection over files that were only read shows the database that the files held
-pub of_file : {D : Type 0} {g : Ghosts D} (old left : Files D) (conn : Held (FileStore D g)) → IsLeft g old left → (HasCleanDisk (file_state conn) → IsOpened conn × FindsFiles left conn) → IsOfFile (image_of g old) conn
+pub of_file : {D : Type 0} {g : Ghosts D} (old left : Files D) (conn : Held (FileStore D g)) → IsOnlyRead g old left → (HasCleanDisk (file_state conn) → IsOpened conn × FindsFiles left conn) → IsOfFile (image_of g old) conn
 of_file {D} {g} old left conn was over clean =
     let it = over clean in
     (it.0, (image_of g left, (was.read it.1.honest).1, record { holds = it.1.holds; reads = it.1.reads }))
@@ -195,7 +195,7 @@ module _ {D : Type 0} {g : Ghosts D} (image : Image) where
         leaves = λ runs h clean trees found. (taken runs h).1 (follows.earlier clean) trees (follows.crash trees found);
       }
 
-  pub found_of : (conn : Held (FileStore D g)) (made : Result (FileStore D g) StoreFault) → IsOfFile image conn → IfOk made (IsTakenOf conn) → IfOk made (Finds image)
+  pub found_of : (conn : Held (FileStore D g)) (made : Result (FileStore D g) StoreFault) → IsOfFile image conn → IfOk made (IsAttachedFiles conn) → IfOk made (Finds image)
   found_of conn (Ok store) over (results, takes, follows) =
       let taken : AreOfFile image results = (conn, over, takes) in
       record { held = opens_of results store taken follows; whose = inr (results, taken, follows); numbered = λ clean must. follows.numbered clean }

@@ -1,5 +1,5 @@
 -- The rows that a cursor finds under a key, and the last row.
-use Rattle.kt_dbfile.proofs.Common.{AllByRecursion, AreNumbered, Backward, Int, IsAt, List, None, Places, Row, Run, Shows, Some, [], all-append, ap, append-nil, append_assoc, arith, begins, column, drop, entry_of, false, filter, from_key, has_rowid, in_columns, length, length-append, length-map, map, map-append, plain, pos, refl, reverse, reverse-append, reverse-reverse, rowid, run_row, slice_get, sought, subst, suc, sym, take, true, true≢false, up_to_key, ℕ, ℤ, ◌++◌, ◌+◌, ◌∙◌, ◌∷◌, ◌≡◌}
+use Rattle.kt_dbfile.proofs.Common.{AllByRecursion, AreNumbered, Backward, Int, IsAt, List, None, Places, Row, Run, SelectsColumns, Some, [], all-append, ap, append-nil, append_assoc, arith, begins, column, drop, entry_of, false, filter, from_key, has_rowid, in_columns, length, length-append, length-map, map, map-append, plain, pos, refl, reverse, reverse-append, reverse-reverse, rowid, run_row, slice_get, sought, subst, suc, sym, take, true, true≢false, up_to_key, ℕ, ℤ, ◌++◌, ◌+◌, ◌∙◌, ◌∷◌, ◌≡◌}
 use Rattle.sqlite_trees.specs.View.{View, Advances, with_cursor}
 
 module _ (columns cs : List ℕ) (key : Row) (mine table index : List Row) (p : Places cs key mine table index) where
@@ -60,10 +60,10 @@ module _ (columns cs : List ℕ) (key : Row) (mine table index : List Row) (p : 
       go [] are hits at = ap (λ l. slice_get l 0) are
       go (r ∷ rows) are hits at = absurd (true≢false (sym hits.0 ∙ (subst (λ l. AllByRecursion (λ e. begins key e ≡ false) (take 1 l)) at none).0))
 
-  pub halfway_end : (now shown : List Row) → Halfway now shown → AllByRecursion (λ e. begins key e ≡ false) (take 1 now) → Shows columns mine shown
+  pub halfway_end : (now shown : List Row) → Halfway now shown → AllByRecursion (λ e. begins key e ≡ false) (take 1 now) → SelectsColumns columns mine shown
   halfway_end now shown h none = go h.left h.split h.hits h.now_is
     where
-      go : (left : List Row) → p.rows ≡ h.done ++ left → AllByRecursion (λ e. begins key e ≡ true) (map (entry_of cs) left) → now ≡ map (entry_of cs) left ++ p.rest → Shows columns mine shown
+      go : (left : List Row) → p.rows ≡ h.done ++ left → AllByRecursion (λ e. begins key e ≡ true) (map (entry_of cs) left) → now ≡ map (entry_of cs) left ++ p.rest → SelectsColumns columns mine shown
       go [] split hits at = (p.rows, p.are, h.shown_is ∙ ap (map (in_columns columns)) (sym (split ∙ append-nil h.done)))
       go (r ∷ left) split hits at = absurd (true≢false (sym hits.0 ∙ (subst (λ l. AllByRecursion (λ e. begins key e ≡ false) (take 1 l)) at none).0))
 

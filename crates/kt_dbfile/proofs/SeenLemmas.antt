@@ -1,6 +1,6 @@
 -- The columns that are read from the rows that a cursor finds, and the calls of a store that is
 -- only read.
-use Rattle.kt_dbfile.proofs.Common.{Agrees, AreNumbered, AreWide, CaseOutputs, Entry, Err, Ghosts, HasRuns, HoldsCommit, IfErr, IfOk, IsStoreFault, IsTrue, Keeps, List, Looks, NoRun, None, Ok, Outlasts, Outputs, Result, Row, Run, Serves, Shows, Some, StandAt, StoreCall, StoreFault, Trees, Variable, [], all-map, ap, arith, by_trees, changed_by, column, drop, entry_at, entry_columns, entry_row, false, filter, has_rowid, head_columns, in_columns, length, length-map, map, map-map, map_same, outputs_of, pair_columns, pair_rows_from, places_2, pos, readings, refl, run_at, run_row, subst, sym, true, ℕ, ◌∙◌, ◌∷◌, ◌≡◌, ◌≤◌, ◌⊎◌}
+use Rattle.kt_dbfile.proofs.Common.{Agrees, AreNumbered, AreWide, CaseOutputs, Entry, Err, Ghosts, HasRuns, HoldsCommit, IfErr, IfOk, IsStoreFault, IsTrue, Keeps, List, OnlyReadsStore, NoRun, None, Ok, SurvivesCrash, Outputs, Result, Row, Run, Serves, SelectsColumns, Some, ArePlacesOf, StoreCall, StoreFault, Trees, Variable, [], all-map, ap, arith, by_trees, runs_after, column, drop, entry_at, entry_columns, entry_row, false, filter, has_rowid, head_columns, in_columns, length, length-map, map, map-map, map_same, outputs_of, pair_columns, pair_rows_from, places_2, pos, readings, refl, run_at, run_row, subst, sym, true, ℕ, ◌∙◌, ◌∷◌, ◌≡◌, ◌≤◌, ◌⊎◌}
 use Rattle.sqlite_trees.specs.View.{View, Finds, IsClean, IsQuiet, KeepsSchema}
 use Rattle.kt_store.proofs.EntryLemmas.{back}
 use Rattle.kt_store.proofs.RunLemmas.{found_run, none_there, some_there}
@@ -11,7 +11,7 @@ use Rattle.kt_store.proofs.PairsLemmas.{all_columns}
 abbrev pub LeavesRowid : List ℕ → Type 0
 LeavesRowid columns = (r : Row) → in_columns columns r ≡ in_columns columns (back (drop 1 r))
 
-pub seen : (columns : List ℕ) → LeavesRowid columns → (mine shown : List Row) → Shows columns mine shown → shown ≡ map (λ r. in_columns columns (back r)) mine
+pub seen : (columns : List ℕ) → LeavesRowid columns → (mine shown : List Row) → SelectsColumns columns mine shown → shown ≡ map (λ r. in_columns columns (back r)) mine
 seen columns leaves mine shown h =
     h.2 ∙ map_same (in_columns columns) (λ r. in_columns columns (back (drop 1 r))) leaves h.0 ∙ sym (map-map (λ r. in_columns columns (back r)) (drop 1) h.0) ∙ ap (map (λ r. in_columns columns (back r))) h.1
 
@@ -29,10 +29,10 @@ pairs_leave : LeavesRowid pair_places
 pairs_leave [] = refl
 pairs_leave (x ∷ r) = refl
 
-pub seen_entries : (n : ℕ) (es : List Entry) (shown : List Row) → Shows entry_places (map (entry_row n) es) shown → shown ≡ map entry_columns es
+pub seen_entries : (n : ℕ) (es : List Entry) (shown : List Row) → SelectsColumns entry_places (map (entry_row n) es) shown → shown ≡ map entry_columns es
 seen_entries n es shown h = seen entry_places entries_leave _ shown h ∙ map-map (λ r. in_columns entry_places (back r)) (entry_row n) es
 
-pub seen_pairs : (n p : ℕ) (vs : List Variable) (shown : List Row) → Shows pair_places (pair_rows_from n p 0 vs) shown → shown ≡ map pair_columns vs
+pub seen_pairs : (n p : ℕ) (vs : List Variable) (shown : List Row) → SelectsColumns pair_places (pair_rows_from n p 0 vs) shown → shown ≡ map pair_columns vs
 seen_pairs n p vs shown h = seen pair_places pairs_leave _ shown h ∙ all_columns (λ r. in_columns pair_places (back r)) n p (λ k v. refl) 0 vs
 
 -- the rows of runs, in the tree of their table
@@ -48,13 +48,13 @@ pub there_is_none : (runs : List Run) (n : ℕ) (table : List Row) (row : Row) �
 there_is_none runs n table row numbered are found = none_there run_row (run_at runs n) [] (sym (sym (found_run n runs numbered) ∙ ap (filter (has_rowid (pos n))) (sym are) ∙ found)) refl
 
 -- a store that was only read still has its runs
-pub still_has : {S : Type 0} (g : Ghosts S) (old new : S) → Looks g old new → (runs : List Run) → HasRuns (g.view old) runs → HasRuns (g.view new) runs
+pub still_has : {S : Type 0} (g : Ghosts S) (old new : S) → OnlyReadsStore g old new → (runs : List Run) → HasRuns (g.view old) runs → HasRuns (g.view new) runs
 still_has g old new looks runs has clean sound =
     let same = looks.same clean sound in
     subst (Keeps runs) (ap (λ (v : View). v.trees) (sym same)) (has (looks.clean clean) (ap (λ (v : View). v.is_broken) (sym same) ∙ sound))
 
 -- a store that was only read has its tables at the same indexes
-pub still_at : {S : Type 0} (g : Ghosts S) (old new : S) (places : Places) → Looks g old new → StandAt places (g.view old) → StandAt places (g.view new)
+pub still_at : {S : Type 0} (g : Ghosts S) (old new : S) (places : Places) → OnlyReadsStore g old new → ArePlacesOf places (g.view old) → ArePlacesOf places (g.view new)
 still_at g old new places looks stands clean sound runs keeps =
     let same = looks.same clean sound in
     stands (looks.clean clean) (ap (λ (v : View). v.is_broken) (sym same) ∙ sound) runs (subst (Keeps runs) (ap (λ (v : View). v.trees) same) keeps)
@@ -84,7 +84,7 @@ module _ {S : Type 0} (g : Ghosts S) where
     numbered = second.numbered ∙ first.numbered;
   }
 
-  pub looks_then : (old mid new : S) → Looks g old mid → Looks g mid new → Looks g old new
+  pub looks_then : (old mid new : S) → OnlyReadsStore g old mid → OnlyReadsStore g mid new → OnlyReadsStore g old new
   looks_then old mid new first second = record {
     clean = λ clean. first.clean (second.clean clean);
     schema = schema_then (g.view old) (g.view mid) (g.view new) first.schema second.schema;
@@ -96,7 +96,7 @@ module _ {S : Type 0} (g : Ghosts S) where
   }
 
   -- cursors have moved at most
-  pub looked : (old new : S) → IsQuiet g.view g.faults g.recovers g.is_shielded old new → KeepsSchema (g.view old) (g.view new) → (IsClean (g.view new) → g.view new ≡ record (g.view old) { cursors = (g.view new).cursors }) → Looks g old new
+  pub looked : (old new : S) → IsQuiet g.view g.faults g.recovers g.is_shielded old new → KeepsSchema (g.view old) (g.view new) → (IsClean (g.view new) → g.view new ≡ record (g.view old) { cursors = (g.view new).cursors }) → OnlyReadsStore g old new
   looked old new quiet schema moves = record {
     clean = λ clean. let falls = quiet.clean in omega arith;
     schema = schema;
@@ -106,9 +106,9 @@ module _ {S : Type 0} (g : Ghosts S) where
   }
 
   -- a call that only reads serves a store that still has its runs
-  module _ (old new : S) (looks : Looks g old new) where
-    pub read_serves : (Has : View → List Run → Type 0) → ((runs : List Run) → Has (g.view old) runs → Has (g.view new) runs) → (call : StoreCall) → ((runs : List Run) → changed_by call runs ≡ runs)
-        → ((runs : List Run) (may : List (List Run)) → ((by_trees g Has).leaves old may → (by_trees g Has).leaves new may) → Outlasts (by_trees g Has).leaves call runs may old new)
+  module _ (old new : S) (looks : OnlyReadsStore g old new) where
+    pub read_serves : (Has : View → List Run → Type 0) → ((runs : List Run) → Has (g.view old) runs → Has (g.view new) runs) → (call : StoreCall) → ((runs : List Run) → runs_after call runs ≡ runs)
+        → ((runs : List Run) (may : List (List Run)) → ((by_trees g Has).leaves old may → (by_trees g Has).leaves new may) → SurvivesCrash (by_trees g Has).leaves call runs may old new)
         → ((runs : List Run) → (by_trees g Has).stands old runs → IsClean (g.view new) → Agrees runs call) → Serves (by_trees g Has) call old new
     read_serves Has still call same lasts why = record {
       asked = tt;
@@ -118,7 +118,7 @@ module _ {S : Type 0} (g : Ghosts S) where
       crash = λ runs may h. lasts runs may (λ left clean trees found. left (looks.clean clean) trees (looks.outcomes trees found));
     }
 
-    pub looked_serves : (call : StoreCall) → ((runs : List Run) → changed_by call runs ≡ runs)
-        → ((runs : List Run) (may : List (List Run)) → ((readings g).leaves old may → (readings g).leaves new may) → Outlasts (readings g).leaves call runs may old new)
+    pub looked_serves : (call : StoreCall) → ((runs : List Run) → runs_after call runs ≡ runs)
+        → ((runs : List Run) (may : List (List Run)) → ((readings g).leaves old may → (readings g).leaves new may) → SurvivesCrash (readings g).leaves call runs may old new)
         → ((runs : List Run) → HasRuns (g.view old) runs → IsClean (g.view new) → Agrees runs call) → Serves (readings g) call old new
     looked_serves call same lasts why = read_serves HasRuns (still_has g old new looks) call same lasts (λ runs h. why runs h.0)

@@ -1,7 +1,7 @@
 //! Writes runs and entries into the trees of a store, without a commit.
 
 ghost use Rattle.std.specs.Prelude.{◌≡◌, ◌⊎◌, ◌<◌, ◌≤◌, ◌^◌, map, suc, length, Some, None, false, IfOk, IfErr, OnOk};
-ghost use Rattle.kt_dbfile.specs.Common.{AllByRecursion, Began, CanAdd, Finished, IsBareIfPassed, IsComplete, IsMoment, IsPair, IsStorable, IsStoreFault, IsText, Looks, LooksThrough, OnTrees, Put, Run, StandAt, Wrote, done_row, entries_of, entry_row, finish_refusal, has_position, last_run, owned, pair_row, pair_rows_from, put_refusal, run_at, run_row, unnumbered};
+ghost use Rattle.kt_dbfile.specs.Common.{AllByRecursion, Began, CanAdd, Finished, HasNoReasonIfPassed, IsComplete, IsMoment, IsPair, IsStorable, IsStoreFault, IsText, OnlyReadsStore, OnlyMovesCursors, HoldsForTrees, Put, Run, ArePlacesOf, WritesRows, finished_run_row, entries_of, entry_row, finish_refusal, has_position, last_run, owned, pair_row, pair_rows_from, put_refusal, run_at, run_row, unnumbered};
 ghost use Rattle.sqlite_trees.specs.View.{IsClean};
 ghost use Rattle.sqlite_catalog.specs.Listing.{IsSound};
 
@@ -120,15 +120,15 @@ fn row_of_entry<'a>(
 /// Returns the number of the next run, and checks the ends of the tables. Fails with `StoreFull` if
 /// there are 1,000,000 runs.
 fn next_number<S: Alter>(store: &mut S, alloc: Global, places: Places) -> Result<u64, StoreFault>
-    requires { StandAt places (S.Store.view store.old) }
-    ensures number { OnTrees S.Store store.old store.new (λ runs.
+    requires { ArePlacesOf places (S.Store.view store.old) }
+    ensures number { HoldsForTrees S.Store store.old store.new (λ runs.
         IfOk result (λ n. (n ≡ suc (length runs)) × (length runs < last_run))) }
-    ensures refused { OnTrees S.Store store.old store.new (λ runs.
+    ensures refused { HoldsForTrees S.Store store.old store.new (λ runs.
         IfErr result (λ e. IsStoreFault e ⊎ ((e ≡ StoreFault.StoreFull)
         × (last_run ≤ length runs)))) }
     ensures through { IsClean (S.Store.view store.new)
-        → OnOk result (LooksThrough (S.Store.view store.old) (S.Store.view store.new)) }
-    ensures looks { Looks S.Store store.old store.new }
+        → OnOk result (OnlyMovesCursors (S.Store.view store.old) (S.Store.view store.new)) }
+    ensures looks { OnlyReadsStore S.Store store.old store.new }
 {
     let last = last_number(store, alloc, places)?;
     check_last(store, alloc, places, last)?;
@@ -150,8 +150,8 @@ pub(crate) fn write_run<S: Alter>(
     requires moment { IsMoment moment }
     requires sound { IsClean (S.Store.view store.old) → (S.Store.view store.old).is_broken ≡ false
         → IsSound schema.now (S.Store.view store.old).trees }
-    requires placed { StandAt places (S.Store.view store.old) }
-    ensures { Wrote S.Store schema.now (λ r. Began total moment r) store.old store.new result }
+    requires placed { ArePlacesOf places (S.Store.view store.old) }
+    ensures { WritesRows S.Store schema.now (λ r. Began total moment r) store.old store.new result }
 {
     let number = next_number(store, alloc, places)?;
     let row = row_of(
@@ -183,12 +183,12 @@ fn is_put<S: Store>(
     run: u32,
     position: u32,
 ) -> Result<bool, StoreFailure>
-    requires { StandAt places (S.Store.view store.old) }
-    ensures found { OnTrees S.Store store.old store.new (λ runs.
+    requires { ArePlacesOf places (S.Store.view store.old) }
+    ensures found { HoldsForTrees S.Store store.old store.new (λ runs.
         IfOk result (λ b. b ≡ has_position position (entries_of (run_at runs run)))) }
     ensures through { IsClean (S.Store.view store.new)
-        → OnOk result (LooksThrough (S.Store.view store.old) (S.Store.view store.new)) }
-    ensures looks { Looks S.Store store.old store.new }
+        → OnOk result (OnlyMovesCursors (S.Store.view store.old) (S.Store.view store.new)) }
+    ensures looks { OnlyReadsStore S.Store store.old store.new }
 {
     let place = entry_place(alloc, run, position)?;
     let count = count_under(store, alloc, &entries_at(places), &place)?;
@@ -204,16 +204,16 @@ fn check_entry<S: Alter>(
     run: u64,
     entry: &Entry,
 ) -> Result<(), StoreFault>
-    requires { StandAt places (S.Store.view store.old) }
+    requires { ArePlacesOf places (S.Store.view store.old) }
     ensures small { OnOk result (run ≤ last_run) }
-    ensures refused { OnTrees S.Store store.old store.new (λ runs.
+    ensures refused { HoldsForTrees S.Store store.old store.new (λ runs.
         IfErr result (λ e. IsStoreFault e ⊎ (put_refusal runs run entry.now ≡ Some e))) }
-    ensures taken { OnTrees S.Store store.old store.new (λ runs.
-        OnOk result (IsBareIfPassed entry.now → (put_refusal runs run entry.now ≡ None)
+    ensures taken { HoldsForTrees S.Store store.old store.new (λ runs.
+        OnOk result (HasNoReasonIfPassed entry.now → (put_refusal runs run entry.now ≡ None)
         × CanAdd run entry.now runs)) }
     ensures through { IsClean (S.Store.view store.new)
-        → OnOk result (LooksThrough (S.Store.view store.old) (S.Store.view store.new)) }
-    ensures looks { Looks S.Store store.old store.new }
+        → OnOk result (OnlyMovesCursors (S.Store.view store.old) (S.Store.view store.new)) }
+    ensures looks { OnlyReadsStore S.Store store.old store.new }
 {
     let head = run_head(store, alloc, places, run)?;
     if head.finished {
@@ -240,8 +240,8 @@ pub(crate) fn write_entry<S: Alter>(
     requires moments { IsStorable entry.now }
     requires sound { IsClean (S.Store.view store.old) → (S.Store.view store.old).is_broken ≡ false
         → IsSound schema.now (S.Store.view store.old).trees }
-    requires placed { StandAt places (S.Store.view store.old) }
-    ensures { Wrote S.Store schema.now (λ r. Put run entry.now r) store.old store.new result }
+    requires placed { ArePlacesOf places (S.Store.view store.old) }
+    ensures { WritesRows S.Store schema.now (λ r. Put run entry.now r) store.old store.new result }
 {
     let reason = reason_of(alloc, entry)?;
     check_entry(store, alloc, places, run, entry)?;
@@ -269,7 +269,7 @@ pub(crate) fn write_entry<S: Alter>(
 
 /// Creates the row of a finished run, after its rowid, from the row of the unfinished one.
 fn finished_row(alloc: Global, row: &Row) -> Result<Row, NoMemory>
-    ensures { (r : Run) → row.now ≡ run_row r → IfOk result (λ done. done ≡ done_row r) }
+    ensures { (r : Run) → row.now ≡ run_row r → IfOk result (λ done. done ≡ finished_run_row r) }
 {
     row_of(
         alloc,
@@ -291,12 +291,12 @@ fn count_of<S: Store>(
     places: Places,
     run: u32,
 ) -> Result<u64, StoreFailure>
-    requires { StandAt places (S.Store.view store.old) }
-    ensures count { OnTrees S.Store store.old store.new (λ runs.
+    requires { ArePlacesOf places (S.Store.view store.old) }
+    ensures count { HoldsForTrees S.Store store.old store.new (λ runs.
         IfOk result (λ n. n ≡ length (entries_of (run_at runs run)))) }
     ensures through { IsClean (S.Store.view store.new)
-        → OnOk result (LooksThrough (S.Store.view store.old) (S.Store.view store.new)) }
-    ensures looks { Looks S.Store store.old store.new }
+        → OnOk result (OnlyMovesCursors (S.Store.view store.old) (S.Store.view store.new)) }
+    ensures looks { OnlyReadsStore S.Store store.old store.new }
 {
     let place = number_row(alloc, run)?;
     let count = count_under(store, alloc, &entries_at(places), &place)?;
@@ -311,16 +311,16 @@ fn check_run<S: Alter>(
     places: Places,
     run: u64,
 ) -> Result<Row, StoreFault>
-    requires { StandAt places (S.Store.view store.old) }
+    requires { ArePlacesOf places (S.Store.view store.old) }
     ensures small { OnOk result (run ≤ last_run) }
-    ensures refused { OnTrees S.Store store.old store.new (λ runs.
+    ensures refused { HoldsForTrees S.Store store.old store.new (λ runs.
         IfErr result (λ e. IsStoreFault e ⊎ (finish_refusal runs run ≡ Some e))) }
-    ensures taken { OnTrees S.Store store.old store.new (λ runs.
+    ensures taken { HoldsForTrees S.Store store.old store.new (λ runs.
         IfOk result (λ row. (r : Run) × (run_at runs run ≡ Some r) × (row ≡ run_row r)
         × (finish_refusal runs run ≡ None) × IsComplete run runs)) }
     ensures through { IsClean (S.Store.view store.new)
-        → OnOk result (LooksThrough (S.Store.view store.old) (S.Store.view store.new)) }
-    ensures looks { Looks S.Store store.old store.new }
+        → OnOk result (OnlyMovesCursors (S.Store.view store.old) (S.Store.view store.new)) }
+    ensures looks { OnlyReadsStore S.Store store.old store.new }
 {
     let row = stored_run(store, alloc, places, run)?;
     let head = stored_head(alloc, &row)?;
@@ -343,8 +343,8 @@ pub(crate) fn write_finish<S: Alter>(
 ) -> Result<(), StoreFault>
     requires sound { IsClean (S.Store.view store.old) → (S.Store.view store.old).is_broken ≡ false
         → IsSound schema.now (S.Store.view store.old).trees }
-    requires placed { StandAt places (S.Store.view store.old) }
-    ensures { Wrote S.Store schema.now (λ r. Finished run r) store.old store.new result }
+    requires placed { ArePlacesOf places (S.Store.view store.old) }
+    ensures { WritesRows S.Store schema.now (λ r. Finished run r) store.old store.new result }
 {
     let row = check_run(store, alloc, places, run)?;
     let done = finished_row(alloc, &row)?;

@@ -5,7 +5,7 @@
 //! result. The size of the file doesn't matter.
 
 ghost use Rattle.std.specs.Prelude.{◌≡◌, ◌<◌, ◌≤◌, [], ◌∷◌, Some, length, map, option_map, true, IfOk, OnOk};
-ghost use Rattle.kt_dbfile.specs.Common.{AllByRecursion, Entry as Stored, IsAscending, Looks, LooksThrough, OnTrees, Run, StandAt, ends_with, head_of, last_run, outlined, run_at};
+ghost use Rattle.kt_dbfile.specs.Common.{AllByRecursion, Entry as Stored, IsAscending, OnlyReadsStore, OnlyMovesCursors, HoldsForTrees, Run, ArePlacesOf, ends_with, head_of, last_run, outlined, run_at};
 ghost use Rattle.kt_store.specs.Runs.{IsRun};
 ghost use Rattle.sqlite_trees.specs.View.{IsClean};
 
@@ -39,7 +39,7 @@ fn last_place<S: Store>(
     table: &TreeTable,
     key: &Row,
 ) -> Result<Row, StoreFailure>
-    ensures looks { Looks S.Store store.old store.new }
+    ensures looks { OnlyReadsStore S.Store store.old store.new }
 {
     sure(are_shaped(store, table))?;
     store.seek(0, table.index, key, Direction::Backward)?;
@@ -56,7 +56,7 @@ fn is_last_row_placed<S: Store>(
     alloc: Global,
     table: &TreeTable,
 ) -> Result<bool, StoreFailure>
-    ensures looks { Looks S.Store store.old store.new }
+    ensures looks { OnlyReadsStore S.Store store.old store.new }
 {
     let Some(row) = last_row(store, alloc, table.tree)? else {
         return Ok(true);
@@ -69,7 +69,7 @@ fn is_last_row_placed<S: Store>(
 /// Returns the run and the position of the last index key of a table. Fails if the index lacks the
 /// key of the table's last row.
 fn end_of<S: Store>(store: &mut S, alloc: Global, table: &TreeTable) -> Result<Row, StoreFailure>
-    ensures looks { Looks S.Store store.old store.new }
+    ensures looks { OnlyReadsStore S.Store store.old store.new }
 {
     sure(is_last_row_placed(store, alloc, table)?)?;
     last_place(store, alloc, table, &Row::new(alloc))
@@ -97,8 +97,8 @@ fn has_entry<S: Store>(
     pair: &Row,
 ) -> Result<bool, StoreFailure>
     ensures through { IsClean (S.Store.view store.new)
-        → OnOk result (LooksThrough (S.Store.view store.old) (S.Store.view store.new)) }
-    ensures looks { Looks S.Store store.old store.new }
+        → OnOk result (OnlyMovesCursors (S.Store.view store.old) (S.Store.view store.new)) }
+    ensures looks { OnlyReadsStore S.Store store.old store.new }
 {
     let count = count_under(store, alloc, &entries_at(places), pair)?;
     Ok(count == 1 || matches!(pair.get(0), ValueRef::Null))
@@ -112,7 +112,7 @@ fn check_last_entry<S: Store>(
     places: Places,
     last: RunHead,
 ) -> Result<(), StoreFailure>
-    ensures looks { Looks S.Store store.old store.new }
+    ensures looks { OnlyReadsStore S.Store store.old store.new }
 {
     let end = end_of(store, alloc, &entries_at(places))?;
     sure(is_end(alloc, &end, last)?)
@@ -125,8 +125,8 @@ fn check_last_pair<S: Store>(
     places: Places,
 ) -> Result<(), StoreFailure>
     ensures through { IsClean (S.Store.view store.new)
-        → OnOk result (LooksThrough (S.Store.view store.old) (S.Store.view store.new)) }
-    ensures looks { Looks S.Store store.old store.new }
+        → OnOk result (OnlyMovesCursors (S.Store.view store.old) (S.Store.view store.new)) }
+    ensures looks { OnlyReadsStore S.Store store.old store.new }
 {
     let pair = end_of(store, alloc, &pairs_at(places))?;
     sure(has_entry(store, alloc, places, &pair)?)
@@ -141,8 +141,8 @@ pub(crate) fn check_ends<S: Store>(
     last: RunHead,
 ) -> Result<(), StoreFailure>
     ensures through { IsClean (S.Store.view store.new)
-        → OnOk result (LooksThrough (S.Store.view store.old) (S.Store.view store.new)) }
-    ensures looks { Looks S.Store store.old store.new }
+        → OnOk result (OnlyMovesCursors (S.Store.view store.old) (S.Store.view store.new)) }
+    ensures looks { OnlyReadsStore S.Store store.old store.new }
 {
     check_last_entry(store, alloc, places, last)?;
     check_last_pair(store, alloc, places)
@@ -156,10 +156,10 @@ pub(crate) fn present_head<S: Store>(
     places: Places,
     number: u64,
 ) -> Result<RunHead, StoreFailure>
-    ensures head { StandAt places (S.Store.view store.old) → OnTrees S.Store store.old store.new
+    ensures head { ArePlacesOf places (S.Store.view store.old) → HoldsForTrees S.Store store.old store.new
         (λ runs. IfOk result (λ head. Some head ≡ option_map head_of (run_at runs number))) }
     ensures numbered { IfOk result (λ head. head.number ≡ number) }
-    ensures looks { Looks S.Store store.old store.new }
+    ensures looks { OnlyReadsStore S.Store store.old store.new }
 {
     sure(store.shape(places.runs.tree) == Shape::Table)?;
     let mut row = Row::new(alloc);
@@ -177,7 +177,7 @@ fn last_head<S: Store>(
     places: Places,
     last: u64,
 ) -> Result<RunHead, StoreFailure>
-    ensures looks { Looks S.Store store.old store.new }
+    ensures looks { OnlyReadsStore S.Store store.old store.new }
 {
     if last == 0 {
         return Ok(NO_RUN);
@@ -194,8 +194,8 @@ pub(crate) fn check_last<S: Store>(
     last: u64,
 ) -> Result<(), StoreFailure>
     ensures through { IsClean (S.Store.view store.new)
-        → OnOk result (LooksThrough (S.Store.view store.old) (S.Store.view store.new)) }
-    ensures looks { Looks S.Store store.old store.new }
+        → OnOk result (OnlyMovesCursors (S.Store.view store.old) (S.Store.view store.new)) }
+    ensures looks { OnlyReadsStore S.Store store.old store.new }
 {
     let head = last_head(store, alloc, places, last)?;
     check_ends(store, alloc, places, head)
@@ -217,7 +217,7 @@ fn are_numbered(entries: &[Entry]) -> bool
 
 /// Returns `true` if `entries` can be all entries of the run with this head. A finished run has an
 /// entry at each position below its total.
-fn may_be_all(head: RunHead, entries: &[Entry]) -> bool
+fn is_possible_entry_list(head: RunHead, entries: &[Entry]) -> bool
     ensures { (r : Run) → IsRun r → head ≡ head_of r → entries.now ≡ map outlined r.entries
         → result ≡ true }
 {
@@ -237,7 +237,7 @@ fn count_pairs<S: Store>(
     run: u32,
     entries: &[Entry],
 ) -> Result<u64, StoreFailure>
-    ensures looks { Looks S.Store store.old store.new }
+    ensures looks { OnlyReadsStore S.Store store.old store.new }
 {
     let mut count: u64 = 0;
     for entry in entries {
@@ -256,7 +256,7 @@ fn are_of_entries<S: Store>(
     head: RunHead,
     entries: &[Entry],
 ) -> Result<bool, StoreFailure>
-    ensures looks { Looks S.Store store.old store.new }
+    ensures looks { OnlyReadsStore S.Store store.old store.new }
 {
     let table = pairs_at(places);
     let run = key(head.number);
@@ -278,8 +278,8 @@ pub(crate) fn check_entries<S: Store>(
     head: RunHead,
     entries: &[Entry],
 ) -> Result<(), StoreFailure>
-    ensures looks { Looks S.Store store.old store.new }
+    ensures looks { OnlyReadsStore S.Store store.old store.new }
 {
-    sure(may_be_all(head, entries))?;
+    sure(is_possible_entry_list(head, entries))?;
     sure(are_of_entries(store, alloc, places, head, entries)?)
 }

@@ -23,7 +23,7 @@ fn done<T, L: Drop>(returned: Result<T, (Error, L)>) -> Result<T, StoreFailure>
 
 /// Evidence of a failed open, which consumed a value of `S`. Only [`open_both`] creates it.
 #[derive(Drop)]
-pub struct NotOpened<S> {
+pub struct OpenFailure<S> {
     marker: PhantomData<S>,
 }
 
@@ -32,7 +32,7 @@ pub(crate) fn open_both<S: Start>(
     rt: &HostRuntime,
     file: &Text,
     start: S,
-) -> Result<Files<FileFrom<S>>, (StoreFailure, NotOpened<S>)>
+) -> Result<Files<FileFrom<S>>, (StoreFailure, OpenFailure<S>)>
     ensures log { IfOk result (λ files. IsTrue (file_is_usable S.Start files.log)) }
     ensures db { IfOk result (λ files. IsTrue (file_is_usable S.Start files.db)) }
     ensures fresh { IfOk result (λ files. IsFresh true files.log × IsFresh false files.db) }
@@ -40,7 +40,7 @@ pub(crate) fn open_both<S: Start>(
     match sqlite_std_file::open(rt, file.as_str(), start) {
         Ok(files) => Ok(files),
         Err(error) => {
-            let unused = NotOpened {
+            let unused = OpenFailure {
                 marker: PhantomData,
             };
             Err((unopened(&error), unused))

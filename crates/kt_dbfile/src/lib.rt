@@ -17,7 +17,7 @@ mod tables;
 mod trees;
 mod trusted_contents;
 
-pub use files::NotOpened;
+pub use files::OpenFailure;
 pub use reopening::theorem_of_reopening;
 pub use runs_file::RunsFile;
 pub use trusted_contents::TrustedContents;

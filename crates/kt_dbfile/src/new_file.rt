@@ -70,7 +70,7 @@ fn make_file<R: Files>(rt: &R, results: &Text, path: &Text) -> io::Result<R::Fil
 }
 
 /// Returns the path of a file with a suffix appended.
-fn with_ending(file: &Text, ending: &str) -> Result<Text, NoMemory>
+fn path_with_suffix(file: &Text, ending: &str) -> Result<Text, NoMemory>
     ensures { IfOk result (λ name. name ≡ file.now ++ chars ending.now) }
 {
     let mut name = file.copy()?;
@@ -82,14 +82,14 @@ fn with_ending(file: &Text, ending: &str) -> Result<Text, NoMemory>
 fn new_name(file: &Text) -> Result<Text, NoMemory>
     ensures { IfOk result (IsNewNameOf file.now) }
 {
-    with_ending(file, "-new")
+    path_with_suffix(file, "-new")
 }
 
 /// Returns `true` if the log of a file can have a frame. SQLite would replay such a stale log into
 /// a new file.
 // Tested, not proved: results_file_creation_is_atomic.
 fn may_have_frames<R: Files>(rt: &R, file: &Text) -> Result<bool, NoMemory> {
-    let log = with_ending(file, "-wal")?;
+    let log = path_with_suffix(file, "-wal")?;
     Ok(match fs::symlink_metadata(rt, log.as_str()) {
         Ok(found) => !found.is_file() || SHORTEST_LOG as u64 <= found.len(),
         Err(error) => error.kind() != ErrorKind::NotFound,
@@ -205,7 +205,7 @@ fn first_name<R: Files>(rt: &R, file: &Text) -> Option<FirstName>
 }
 
 /// Removes a `-new` path of the results file.
-fn remove_first<R: Files>(rt: &R, results: FileId, file: &Text, first: &FirstName)
+fn remove_new_path<R: Files>(rt: &R, results: FileId, file: &Text, first: &FirstName)
     requires name { IsNewNameOf file.now first.now.name }
     requires same { first.now.id ≡ results }
 {
@@ -229,7 +229,7 @@ fn remove_if_first<R: Files + AllocGlobal>(rt: &R, path: &str, results: FileId) 
     let file = Text::from_str(rt.alloc(), front).ok()?;
     if let Some(first) = first_name(rt, &file) {
         if is_same(first.id, results) {
-            remove_first(rt, results, &file, &first);
+            remove_new_path(rt, results, &file, &first);
         }
     }
     Some(())

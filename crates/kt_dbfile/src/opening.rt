@@ -1,5 +1,5 @@
 ghost use Rattle.std.specs.Prelude.{◌≡◌, ◌⊎◌, [], ◌∷◌, pos, codes, map, drop, true, false, Ok, IfOk, IfErr, OnOk, IfSome, IsTrue};
-ghost use Rattle.kt_dbfile.specs.Common.{Ends, Int, IsLeft, IsOfOptions, IsStoreFault, Looks, ListsRuns, MustBeTested, RecoversAgain, SaysAnother};
+ghost use Rattle.kt_dbfile.specs.Common.{Ends, Int, IsOnlyRead, IsOfOptions, IsStoreFault, OnlyReadsStore, ListsRuns, MustBeChecked, RecoversAsBefore, HasOtherSchema};
 ghost use Rattle.kt_store.specs.TrustedContents.{IsOfRuns, ListsTables, key_object, objects_2, table_object};
 ghost use Rattle.sqlite_trees.specs.Tree.{Trees};
 ghost use Rattle.sqlite_value.specs.Value.{owned};
@@ -8,7 +8,7 @@ ghost use Rattle.sqlite_wal.specs.PageSize.{bytes_of};
 ghost use Rattle.sqlite_wal.specs.Reads.{AreClean, OnlyReads};
 ghost use Rattle.kt_dbfile.specs.Common.{schema_2};
 ghost use Rattle.kt_dbfile.specs.Inner.Opening.{OpensOver};
-ghost use Rattle.kt_store.specs.Runs.{SaysIn};
+ghost use Rattle.kt_store.specs.Runs.{HasSchemaNumber};
 ghost use Rattle.sqlite_catalog.specs.Listing.{IsSound};
 ghost use Rattle.sqlite_pool.specs.Stored.{Recovers};
 ghost use Rattle.sqlite_store.specs.FileStore.{IsReady, schema_of, state, view};
@@ -61,7 +61,7 @@ pub(crate) fn options(rt: &HostRuntime, pages: usize) -> Option<Options>
 }
 
 /// Returns the page size of a database whose pages don't end in checksums, or `None`.
-fn plain_size<D: Disk>(alloc: Global, files: &mut Files<D>) -> Option<PageSize>
+fn page_size_without_sums<D: Disk>(alloc: Global, files: &mut Files<D>) -> Option<PageSize>
     requires log { IsTrue (D.Disk.is_usable files.old.log) }
     requires db { IsTrue (D.Disk.is_usable files.old.db) }
     ensures size { IfSome result (λ size. AreClean D.Disk files.new.log files.new.db → (db : Trees)
@@ -86,13 +86,13 @@ fn is_tested<D: Disk>(files: &mut Files<D>) -> Result<bool, StoreFailure>
     requires log { IsTrue (D.Disk.is_usable files.old.log) }
     requires db { IsTrue (D.Disk.is_usable files.old.db) }
     ensures tested { IfOk result (λ it. AreClean D.Disk files.new.log files.new.db
-        → MustBeTested (image_of D.Disk files.old) → it ≡ true) }
+        → MustBeChecked (image_of D.Disk files.old) → it ≡ true) }
     ensures log { OnlyReads D.Disk files.old.log files.new.log }
     ensures db { OnlyReads D.Disk files.old.db files.new.db }
 {
     let size = present(files.db.len().ok())?;
     let log = present(files.log.len().ok())?;
-    Ok(size <= MOST_TESTED || SHORTEST_LOG <= log)
+    Ok(size <= MAX_CHECKED_BYTES || SHORTEST_LOG <= log)
 }
 
 /// Creates an unopened store of files. Returns the files if an allocation fails.
@@ -168,7 +168,7 @@ fn list_schema<D: Disk>(alloc: Global, files: &mut Unopened<D>) -> Result<bool, 
     requires { AreUsable files.old }
     ensures usable { OnOk result (AreUsable files.new) }
     ensures read { OnOk result (IsTrue (state_of files.new).is_clean
-        → RecoversAgain files.old files.new) }
+        → RecoversAsBefore files.old files.new) }
     ensures lists { IfOk result (λ it. IsTrue it → IsTrue (state_of files.new).is_clean
         → ListsRuns files.old files.new) }
 {
@@ -213,7 +213,7 @@ fn opened<T, L: Drop>(returned: Result<T, (OpenError, L)>) -> Result<T, StoreFai
 
 /// Opens sound files. Checks all pages and trees if `is_tested` is set. Otherwise, checks only the
 /// pages of the schema and the free pages.
-fn sound_over<D: Disk + Drop>(
+fn open_sound_files<D: Disk + Drop>(
     files: Unopened<D>,
     is_tested: bool,
 ) -> Result<FileStore<D>, StoreFailure>
@@ -238,7 +238,7 @@ fn sound_over<D: Disk + Drop>(
 
 /// Opens files that list the tables of schema 2, in pages without checksums, and recovers their
 /// log. Returns other files, which were only read.
-pub(crate) fn known_over<D: Disk + Drop>(
+pub(crate) fn open_known_files<D: Disk + Drop>(
     alloc: Global,
     mut files: Files<D>,
     options: Options,
@@ -256,10 +256,10 @@ pub(crate) fn known_over<D: Disk + Drop>(
     ensures sound { IfOk result (λ found. IfOk found (λ s. IsTrue (view s).is_open
         → IsSound schema_2 (view s).committed)) }
     ensures tested { IfOk result (λ found. IfOk found (λ s. IsClean (view s)
-        → MustBeTested (image_of D.Disk files) → IsTrue (view s).is_numbered)) }
-    ensures back { IfOk result (λ found. IfErr found (IsLeft D.Disk files)) }
+        → MustBeChecked (image_of D.Disk files) → IsTrue (view s).is_numbered)) }
+    ensures back { IfOk result (λ found. IfErr found (IsOnlyRead D.Disk files)) }
 {
-    let Some(size) = plain_size(alloc, &mut files) else {
+    let Some(size) = page_size_without_sums(alloc, &mut files) else {
         return Ok(Err(files));
     };
     let is_tested = is_tested(&mut files)?;
@@ -270,20 +270,20 @@ pub(crate) fn known_over<D: Disk + Drop>(
     if !list_schema(alloc, &mut fresh)? {
         return Ok(Err(fresh.close()));
     }
-    let store = sound_over(fresh, is_tested)?;
+    let store = open_sound_files(fresh, is_tested)?;
     Ok(Ok(store))
 }
 
 /// Checks that the schema number in the tables is 2. Fails with `UnknownSchema` otherwise.
 pub(crate) fn check_number<S: Store>(store: &mut S, alloc: Global) -> Result<(), StoreFault>
     ensures ours { OnOk result (IsClean (S.Store.view store.new)
-        → SaysIn (pos 2) (S.Store.view store.old).trees) }
+        → HasSchemaNumber (pos 2) (S.Store.view store.old).trees) }
     // `UnknownSchema` only if the schema number isn't 2.
     ensures unknown { IfErr result (λ e. IsStoreFault e ⊎ ((e ≡ StoreFault.UnknownSchema)
-        × (IsClean (S.Store.view store.new) → SaysAnother (S.Store.view store.old).trees))) }
-    ensures looks { Looks S.Store store.old store.new }
+        × (IsClean (S.Store.view store.new) → HasOtherSchema (S.Store.view store.old).trees))) }
+    ensures looks { OnlyReadsStore S.Store store.old store.new }
 {
-    let number = said_number(store, alloc)?;
+    let number = stored_schema_number(store, alloc)?;
     if number == 2 {
         Ok(())
     } else {
@@ -306,14 +306,14 @@ pub(crate) fn close_store<D: Disk + Drop>(mut store: FileStore<D>) -> Result<(),
 }
 
 /// Reads the schema number from the table `meta`.
-fn said_number<S: Store>(store: &mut S, alloc: Global) -> Result<i64, StoreFailure>
+fn stored_schema_number<S: Store>(store: &mut S, alloc: Global) -> Result<i64, StoreFailure>
     ensures says { IfOk result (λ n. IsClean (S.Store.view store.new)
-        → SaysIn n (S.Store.view store.old).trees) }
-    ensures looks { Looks S.Store store.old store.new }
+        → HasSchemaNumber n (S.Store.view store.old).trees) }
+    ensures looks { OnlyReadsStore S.Store store.old store.new }
 {
     let settings = all_rows(store, &mut Workspace::new(alloc), META)?;
     present(number_in(settings.as_slice()))
 }
 
 /// The size of the largest file whose pages and trees are all checked, in bytes.
-const MOST_TESTED: usize = 16 * 1_048_576;
+const MAX_CHECKED_BYTES: usize = 16 * 1_048_576;

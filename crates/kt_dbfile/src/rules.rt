@@ -1,10 +1,10 @@
 ghost use Rattle.std.specs.Prelude.{◌≡◌, ◌⊎◌, [], IfOk, OnOk};
-ghost use Rattle.kt_dbfile.specs.Common.{Obeys, HoldsCommit, PutsRows};
+ghost use Rattle.kt_dbfile.specs.Common.{ObeysSchema, HoldsCommit, PutsRows};
 ghost use Rattle.sqlite_schema.specs.Catalog.{IsCatalogOf};
 ghost use Rattle.sqlite_trees.specs.View.{IsClean, IsQuiet};
 
 use kt_base::NoMemory;
-use kt_store::store_fault::{FAULTY, StoreFailure, sure};
+use kt_store::store_fault::{OTHER_FAILURE, StoreFailure, sure};
 use sqlite_exec::work::Workspace;
 use sqlite_items::Items;
 use sqlite_rules::edit::Touched;
@@ -46,7 +46,7 @@ struct EditWork {
 ///
 /// Separate for the prover: this function owns nothing, since values that are dropped on failure
 /// are slow to prove.
-fn put_with<S: Alter>(
+fn put_edit<S: Alter>(
     store: &mut S,
     work: &mut EditWork,
     alloc: Global,
@@ -54,7 +54,7 @@ fn put_with<S: Alter>(
     indexes: &[Index<'_>],
     edit: TableEdit<'_>,
 ) -> Result<(), StoreFailure>
-    requires obeys { IsClean (S.Store.view store.old) → Obeys (S.Store.view store.old) schema.now }
+    requires obeys { IsClean (S.Store.view store.old) → ObeysSchema (S.Store.view store.old) schema.now }
     requires short { edit.from ≡ 0 ⊎ edit.from ≡ 1 }
     requires indexes { IsCatalogOf schema.now indexes.now }
     requires untouched { work.old.touched ≡ [] }
@@ -63,14 +63,14 @@ fn put_with<S: Alter>(
         edit.entry.from edit.entry.sources.now (S.Store.view store.old).trees
         (S.Store.view store.new).trees) }
     ensures obeys { IsClean (S.Store.view store.new)
-        → OnOk result (Obeys (S.Store.view store.new) schema.now) }
+        → OnOk result (ObeysSchema (S.Store.view store.new) schema.now) }
     ensures held { IsClean (S.Store.view store.new)
         → HoldsCommit (S.Store.view store.old) (S.Store.view store.new) }
     ensures quiet { IsQuiet S.Store.view S.Store.faults S.Store.recovers S.Store.is_shielded
         store.old store.new }
 {
     let Some(table) = schema.tables.as_slice().get(edit.place) else {
-        return Err(FAULTY);
+        return Err(OTHER_FAILURE);
     };
     write(
         store,
@@ -107,14 +107,14 @@ pub(crate) fn put_rows<S: Alter>(
     schema: &Schema,
     edit: TableEdit<'_>,
 ) -> Result<(), StoreFailure>
-    requires obeys { IsClean (S.Store.view store.old) → Obeys (S.Store.view store.old) schema.now }
+    requires obeys { IsClean (S.Store.view store.old) → ObeysSchema (S.Store.view store.old) schema.now }
     requires short { edit.from ≡ 0 ⊎ edit.from ≡ 1 }
     ensures puts { IsClean (S.Store.view store.new)
         → OnOk result (PutsRows schema.now edit.entry.place edit.entry.gone.now edit.entry.rowids
         edit.entry.from edit.entry.sources.now (S.Store.view store.old).trees
         (S.Store.view store.new).trees) }
     ensures obeys { IsClean (S.Store.view store.new)
-        → OnOk result (Obeys (S.Store.view store.new) schema.now) }
+        → OnOk result (ObeysSchema (S.Store.view store.new) schema.now) }
     ensures held { IsClean (S.Store.view store.new)
         → HoldsCommit (S.Store.view store.old) (S.Store.view store.new) }
     ensures quiet { IsQuiet S.Store.view S.Store.faults S.Store.recovers S.Store.is_shielded
@@ -125,5 +125,5 @@ pub(crate) fn put_rows<S: Alter>(
         space: Workspace::new(alloc),
         touched: Items::new(alloc),
     };
-    put_with(store, &mut work, alloc, schema, indexes.as_slice(), edit)
+    put_edit(store, &mut work, alloc, schema, indexes.as_slice(), edit)
 }

@@ -1,6 +1,6 @@
 ghost use Rattle.std.specs.Prelude.{◌≡◌, ◌⊎◌, codes, pos, true, false, IsTrue, IfErr, IfOk, IfSome};
-ghost use Rattle.kt_dbfile.specs.Common.{Ended, Finds, IsLeft, IsStoreFault, IsTaken, IsTakenOf, IsUri, Looks, schema_2};
-ghost use Rattle.kt_store.specs.Runs.{SaysIn};
+ghost use Rattle.kt_dbfile.specs.Common.{EndsTransaction, Finds, IsOnlyRead, IsStoreFault, IsAttached, IsAttachedFiles, IsUri, OnlyReadsStore, schema_2};
+ghost use Rattle.kt_store.specs.Runs.{HasSchemaNumber};
 ghost use Rattle.kt_store.specs.TrustedContents.{IsOfRuns};
 ghost use Rattle.sqlite.specs.Files.{image_of};
 ghost use Rattle.sqlite_catalog.specs.Listing.{IsSound, Lists};
@@ -11,10 +11,10 @@ ghost use Rattle.sqlite_trees.specs.View.{IsClean};
 
 use crate::by_name::places_in;
 use crate::edits::{write_entry, write_finish, write_run};
-use crate::files::{NotOpened, connect, open_both};
+use crate::files::{OpenFailure, connect, open_both};
 use crate::mounts::is_mounted_alone;
 use crate::new_file::prepare;
-use crate::opening::{check_number, close_store, known_over, options};
+use crate::opening::{check_number, close_store, open_known_files, options};
 use crate::places::Places;
 use crate::seeks::{find_outputs, find_pairs, head, outline};
 use crate::trusted_contents::TrustedContents;
@@ -165,7 +165,7 @@ fn taken<S: Alter + Drop>(
     alloc: Global,
     connection: Connection<S>,
 ) -> Result<RunsFile<S>, StoreFault>
-    ensures taken { IfOk result (IsTaken S.Store connection) }
+    ensures taken { IfOk result (IsAttached S.Store connection) }
     ensures due { IfErr result (λ e. IsStoreFault e ⊎ (e ≡ StoreFault.UnknownSchema)) }
 {
     match Results::attach(alloc, connection) {
@@ -178,11 +178,11 @@ fn taken<S: Alter + Drop>(
 ///
 /// Separate for the prover: functions that depend on how a store over files is read are slow to
 /// prove.
-fn taken_of<D: Disk + Drop>(
+fn attach_files_and_convert<D: Disk + Drop>(
     alloc: Global,
     connection: Connection<FileStore<D>>,
 ) -> Result<RunsFile<FileStore<D>>, StoreFault>
-    ensures taken { IfOk result (IsTakenOf connection) }
+    ensures taken { IfOk result (IsAttachedFiles connection) }
     ensures due { IfErr result (λ e. IsStoreFault e ⊎ (e ≡ StoreFault.UnknownSchema)) }
 {
     taken(alloc, connection)
@@ -197,8 +197,8 @@ fn ours<S: Alter + Drop>(alloc: Global, mut store: S) -> Result<RunsFile<S>, Sto
     requires settled { (S.Store.view store).trees ≡ (S.Store.view store).committed }
     requires sound { IsTrue (S.Store.view store).is_open
         → IsSound schema_2 (S.Store.view store).committed }
-    ensures found { IfOk result (λ r. Looks S.Store store r
-        × (IsClean (S.Store.view r) → SaysIn (pos 2) (S.Store.view store).trees)) }
+    ensures found { IfOk result (λ r. OnlyReadsStore S.Store store r
+        × (IsClean (S.Store.view r) → HasSchemaNumber (pos 2) (S.Store.view store).trees)) }
     ensures due { IfErr result (λ e. IsStoreFault e ⊎ (e ≡ StoreFault.UnknownSchema)) }
 {
     check_number(&mut store, alloc)?;
@@ -216,10 +216,10 @@ pub(crate) fn known<D: Disk + Drop>(
     requires db { IsTrue (D.Disk.is_usable files.db) }
     requires held { IsOfRuns (image_of D.Disk files) }
     ensures found { IfOk result (λ found. IfOk found (Finds (image_of D.Disk files))) }
-    ensures back { IfOk result (λ found. IfErr found (IsLeft D.Disk files)) }
+    ensures back { IfOk result (λ found. IfErr found (IsOnlyRead D.Disk files)) }
     ensures due { IfErr result (λ e. IsStoreFault e ⊎ (e ≡ StoreFault.UnknownSchema)) }
 {
-    match known_over(alloc, files, options)? {
+    match open_known_files(alloc, files, options)? {
         Ok(store) => Ok(Ok(ours(alloc, store)?)),
         Err(left) => Ok(Err(left)),
     }
@@ -242,7 +242,7 @@ fn over_files<D: Disk + Drop>(
         Ok(known) => Ok(known),
         Err(left) => {
             let connection = connect(alloc, left, options)?;
-            taken_of(alloc, connection)
+            attach_files_and_convert(alloc, connection)
         }
     }
 }
@@ -269,7 +269,7 @@ fn try_open<S: TrustedContents>(
     rt: &HostRuntime,
     file: &Text,
     start: S,
-) -> Result<Files<FileFrom<S>>, (StoreFault, NotOpened<S>)>
+) -> Result<Files<FileFrom<S>>, (StoreFault, OpenFailure<S>)>
     ensures log { IfOk result (λ files. IsTrue (file_is_usable S.Start files.log)) }
     ensures db { IfOk result (λ files. IsTrue (file_is_usable S.Start files.db)) }
     ensures fresh { IfOk result (λ files. IsFresh true files.log × IsFresh false files.db) }
@@ -352,7 +352,7 @@ impl<S: TrustedContents> RunsFile<FileStore<FileFrom<S>>> {
 }
 
 impl<S: Alter> StoreSpec for RunsFile<S> {
-    ghost use Rattle.kt_dbfile.specs.Common.{AreNumbered, AreOrdered, KeepsOne, HasCommitted};
+    ghost use Rattle.kt_dbfile.specs.Common.{AreNumbered, AreOrdered, IsSchema2OfOne, HasCommitted};
     ghost use Rattle.sqlite_trees.specs.Tree.{Trees};
     ghost use Rattle.sqlite_trees.specs.View.{IsClean};
 
@@ -364,7 +364,7 @@ impl<S: Alter> StoreSpec for RunsFile<S> {
     ghost sound = { λ s. IsClean (S.Store.view s) };
 
     ghost leaves = { λ s may. IsClean (S.Store.view s) → (trees : Trees)
-        → S.Store.recovers s trees → KeepsOne may trees };
+        → S.Store.recovers s trees → IsSchema2OfOne may trees };
 
     ghost numbered = { λ s runs h. h.1 };
 
@@ -377,7 +377,7 @@ fn committed<S: Alter, T: Drop>(
     store: &mut S,
     written: Result<T, StoreFault>,
 ) -> Result<T, StoreFault>
-    ensures { Ended S.Store store.old store.new written result }
+    ensures { EndsTransaction S.Store store.old store.new written result }
 {
     let value = match written {
         Ok(value) => value,

@@ -1,12 +1,12 @@
 ghost use Rattle.std.specs.Prelude.{◌≡◌, ◌⊎◌, ◌<◌, ◌≤◌, ◌^◌, ℕ, Some, None, drop, length, map, IfOk, IfErr, IfSome, OnOk};
-ghost use Rattle.kt_dbfile.specs.Common.{IsNumbered, OnTrees, IsStoreFault, StandAt, Looks, LooksThrough, Run, AreRuns, Blob, Entry, column, entry_row, key_before, last_run, outputs_of, run_row, head_of, Serves, Head, Outline, Outputs, Pairs, entries_of, outlined, run_at, seen_as};
+ghost use Rattle.kt_dbfile.specs.Common.{IsNumbered, HoldsForTrees, IsStoreFault, ArePlacesOf, OnlyReadsStore, OnlyMovesCursors, Run, AreRuns, Blob, Entry, column, entry_row, key_before, last_run, outputs_of, run_row, head_of, Serves, Head, Outline, Outputs, Pairs, entries_of, outlined, run_at, seen_as};
 ghost use Rattle.kt_dbfile.specs.Inner.Known.{readings};
 ghost use Rattle.sqlite_trees.specs.View.{IsClean};
 
 use crate::ends::{check_entries, check_last, present_head};
 use crate::places::{Place, Places};
 use crate::tables::{entries_at, entry_place, last_row, pairs_at, stored_head};
-use crate::trees::{number_of, number_row, row_behind, rows_after, stored_bytes};
+use crate::trees::{number_of, number_row, row_under_key, rows_after, stored_bytes};
 use kt_base::{Entry, NoMemory, Output, Variables};
 use kt_store::lookup::key;
 use kt_store::outlines::{outline_in, pairs_in};
@@ -31,12 +31,12 @@ pub(crate) fn last_number<S: Store>(
     alloc: Global,
     places: Places,
 ) -> Result<u64, StoreFailure>
-    requires { StandAt places (S.Store.view store.old) }
-    ensures last { OnTrees S.Store store.old store.new (λ runs.
+    requires { ArePlacesOf places (S.Store.view store.old) }
+    ensures last { HoldsForTrees S.Store store.old store.new (λ runs.
         IfOk result (λ n. n ≡ length runs)) }
     ensures through { IsClean (S.Store.view store.new)
-        → OnOk result (LooksThrough (S.Store.view store.old) (S.Store.view store.new)) }
-    ensures looks { Looks S.Store store.old store.new }
+        → OnOk result (OnlyMovesCursors (S.Store.view store.old) (S.Store.view store.new)) }
+    ensures looks { OnlyReadsStore S.Store store.old store.new }
 {
     let Some(row) = last_row(store, alloc, places.runs.tree)? else {
         return Ok(0);
@@ -53,12 +53,12 @@ pub(crate) fn head<S: Store>(
     places: Places,
     number: Option<u64>,
 ) -> Result<Option<RunHead>, StoreFault>
-    requires { StandAt places (S.Store.view store.old) }
+    requires { ArePlacesOf places (S.Store.view store.old) }
     ensures served { Serves (readings S.Store) (Head number result) store.old store.new }
     // Holds even in a damaged file: the returned head has the requested number.
     ensures numbered { IfOk result (λ found. IfSome found (IsNumbered number)) }
     ensures failed { IfErr result IsStoreFault }
-    ensures looks { Looks S.Store store.old store.new }
+    ensures looks { OnlyReadsStore S.Store store.old store.new }
 {
     let last = last_number(store, alloc, places)?;
     check_last(store, alloc, places, last)?;
@@ -77,16 +77,16 @@ pub(crate) fn stored_run<S: Store>(
     places: Places,
     run: u64,
 ) -> Result<row::Row, StoreFault>
-    requires { StandAt places (S.Store.view store.old) }
+    requires { ArePlacesOf places (S.Store.view store.old) }
     ensures small { OnOk result (run ≤ last_run) }
-    ensures found { OnTrees S.Store store.old store.new (λ runs.
+    ensures found { HoldsForTrees S.Store store.old store.new (λ runs.
         IfOk result (λ row. (r : Run) × (run_at runs run ≡ Some r) × (row ≡ run_row r)
         × AreRuns runs)) }
-    ensures refused { OnTrees S.Store store.old store.new (λ runs.
+    ensures refused { HoldsForTrees S.Store store.old store.new (λ runs.
         IfErr result (λ e. IsStoreFault e ⊎ ((e ≡ StoreFault.NoRun) × (run_at runs run ≡ None)))) }
     ensures through { IsClean (S.Store.view store.new)
-        → OnOk result (LooksThrough (S.Store.view store.old) (S.Store.view store.new)) }
-    ensures looks { Looks S.Store store.old store.new }
+        → OnOk result (OnlyMovesCursors (S.Store.view store.old) (S.Store.view store.new)) }
+    ensures looks { OnlyReadsStore S.Store store.old store.new }
 {
     let number = key(run);
     sure(store.shape(places.runs.tree) == Shape::Table)?;
@@ -104,16 +104,16 @@ pub(crate) fn run_head<S: Store>(
     places: Places,
     run: u64,
 ) -> Result<RunHead, StoreFault>
-    requires { StandAt places (S.Store.view store.old) }
+    requires { ArePlacesOf places (S.Store.view store.old) }
     ensures small { OnOk result (run ≤ last_run) }
-    ensures found { OnTrees S.Store store.old store.new (λ runs.
+    ensures found { HoldsForTrees S.Store store.old store.new (λ runs.
         IfOk result (λ head. (r : Run) × (run_at runs run ≡ Some r) × (head ≡ head_of r)
         × AreRuns runs)) }
-    ensures refused { OnTrees S.Store store.old store.new (λ runs.
+    ensures refused { HoldsForTrees S.Store store.old store.new (λ runs.
         IfErr result (λ e. IsStoreFault e ⊎ ((e ≡ StoreFault.NoRun) × (run_at runs run ≡ None)))) }
     ensures through { IsClean (S.Store.view store.new)
-        → OnOk result (LooksThrough (S.Store.view store.old) (S.Store.view store.new)) }
-    ensures looks { Looks S.Store store.old store.new }
+        → OnOk result (OnlyMovesCursors (S.Store.view store.old) (S.Store.view store.new)) }
+    ensures looks { OnlyReadsStore S.Store store.old store.new }
 {
     let row = stored_run(store, alloc, places, run)?;
     let head = stored_head(alloc, &row)?;
@@ -127,10 +127,10 @@ fn all_entries<S: Store>(
     places: Places,
     run: u32,
 ) -> Result<Vec<Entry>, StoreFailure>
-    requires { StandAt places (S.Store.view store.old) }
-    ensures all { OnTrees S.Store store.old store.new (λ runs.
+    requires { ArePlacesOf places (S.Store.view store.old) }
+    ensures all { HoldsForTrees S.Store store.old store.new (λ runs.
         IfOk result (λ found. found.items ≡ map outlined (entries_of (run_at runs run)))) }
-    ensures looks { Looks S.Store store.old store.new }
+    ensures looks { OnlyReadsStore S.Store store.old store.new }
 {
     let before = number_row(alloc, run.saturating_sub(1))?;
     let key = number_row(alloc, run)?;
@@ -147,10 +147,10 @@ pub(crate) fn outline<S: Store>(
     places: Places,
     run: u64,
 ) -> Result<Vec<Entry>, StoreFault>
-    requires { StandAt places (S.Store.view store.old) }
+    requires { ArePlacesOf places (S.Store.view store.old) }
     ensures served { Serves (readings S.Store) (Outline run
         (seen_as (λ found. found.items) result)) store.old store.new }
-    ensures looks { Looks S.Store store.old store.new }
+    ensures looks { OnlyReadsStore S.Store store.old store.new }
 {
     let head = run_head(store, alloc, places, run)?;
     let found = all_entries(store, alloc, places, key(run))?;
@@ -160,7 +160,7 @@ pub(crate) fn outline<S: Store>(
 
 /// Returns the key of the entry before a position of a run. For position 0, returns the key of the
 /// run before.
-fn place_before(alloc: Global, run: u32, position: u32) -> Result<row::Row, NoMemory>
+fn key_before_entry(alloc: Global, run: u32, position: u32) -> Result<row::Row, NoMemory>
     ensures { IfOk result (λ key. key ≡ key_before run position) }
 {
     if position == 0 {
@@ -178,12 +178,12 @@ pub(crate) fn find_pairs<S: Store>(
     run: u64,
     position: u32,
 ) -> Result<Variables, StoreFault>
-    requires { StandAt places (S.Store.view store.old) }
+    requires { ArePlacesOf places (S.Store.view store.old) }
     ensures served { Serves (readings S.Store) (Pairs run position result) store.old store.new }
-    ensures looks { Looks S.Store store.old store.new }
+    ensures looks { OnlyReadsStore S.Store store.old store.new }
 {
     let number = key(run);
-    let before = place_before(alloc, number, position)?;
+    let before = key_before_entry(alloc, number, position)?;
     let place = entry_place(alloc, number, position)?;
     let rows = rows_after(store, alloc, &pairs_at(places), &before, &place, &[4, 5])?;
     Ok(pairs_in(alloc, &rows)?)
@@ -213,13 +213,13 @@ pub(crate) fn find_outputs<S: Store>(
     run: u64,
     position: u32,
 ) -> Result<CaseOutputs, StoreFault>
-    requires { StandAt places (S.Store.view store.old) }
+    requires { ArePlacesOf places (S.Store.view store.old) }
     ensures served { Serves (readings S.Store) (Outputs run position result) store.old store.new }
-    ensures looks { Looks S.Store store.old store.new }
+    ensures looks { OnlyReadsStore S.Store store.old store.new }
 {
     let number = key(run);
     let place = entry_place(alloc, number, position)?;
-    match row_behind(store, alloc, &entries_at(places), &place)? {
+    match row_under_key(store, alloc, &entries_at(places), &place)? {
         Some(row) if u64::from(number) == run => stored_outputs(alloc, &row),
         _ => Err(StoreFault::NoRun),
     }

@@ -1,5 +1,5 @@
 ghost use Rattle.std.specs.Prelude.{◌≡◌, [], ◌∷◌, pos, IfOk, OnOk};
-ghost use Rattle.kt_dbfile.specs.Common.{Int, IsLast, Looks, LooksThrough, Run, head_of, run_row};
+ghost use Rattle.kt_dbfile.specs.Common.{Int, IsLast, OnlyReadsStore, OnlyMovesCursors, Run, head_of, run_row};
 ghost use Rattle.sqlite_trees.specs.View.{IsClean};
 
 use crate::places::Places;
@@ -57,8 +57,8 @@ pub(crate) fn last_row<S: Store>(
     ensures last { IfOk result (λ found. IsClean (S.Store.view store.new)
         → IsLast ((S.Store.view store.old).trees tree) found) }
     ensures through { IsClean (S.Store.view store.new)
-        → OnOk result (LooksThrough (S.Store.view store.old) (S.Store.view store.new)) }
-    ensures looks { Looks S.Store store.old store.new }
+        → OnOk result (OnlyMovesCursors (S.Store.view store.old) (S.Store.view store.new)) }
+    ensures looks { OnlyReadsStore S.Store store.old store.new }
 {
     sure(store.shape(tree) == Shape::Table)?;
     let mut row = Row::new(alloc);

@@ -1,5 +1,5 @@
 ghost use Rattle.std.specs.Prelude.{◌≡◌, ◌++◌, ◌<◌, ℕ, ℤ, pos, List, [], ◌∷◌, map, length, false, Some, IsSome, IsTrue, IfOk, OnOk};
-ghost use Rattle.kt_dbfile.specs.Common.{Blob, column, Int, AreWide, FindsUnder, Goes, Looks, LooksThrough, ShowsUnder, CountsUnder, in_columns};
+ghost use Rattle.kt_dbfile.specs.Common.{Blob, column, Int, AreWide, FindsFirstUnderKey, CursorReturns, OnlyReadsStore, OnlyMovesCursors, SelectsUnderKey, CountsUnderKey, in_columns};
 ghost use Rattle.sqlite_exec.specs.Calls.{OnlyReads};
 ghost use Rattle.sqlite_exec.specs.Loops.{left_of};
 ghost use Rattle.sqlite_trees.specs.Tree.{rowid};
@@ -10,7 +10,7 @@ ghost use Rattle.sqlite_value.specs.Order.{Row as Values};
 
 use kt_base::{Bytes, NoMemory};
 use kt_store::heads::add;
-use kt_store::store_fault::{FAULTY, StoreFailure, present, sure};
+use kt_store::store_fault::{OTHER_FAILURE, StoreFailure, present, sure};
 use kt_store::value::int;
 use sqlite::Row;
 use sqlite_exec::work::FromRow;
@@ -40,7 +40,7 @@ pub(crate) fn stored_bytes(alloc: Global, row: &row::Row, at: usize) -> Result<B
             let copy = Bytes::from_slice(alloc, bytes)?;
             Ok(copy)
         }
-        _ => Err(FAULTY),
+        _ => Err(OTHER_FAILURE),
     }
 }
 
@@ -50,7 +50,7 @@ pub(crate) fn number_of(row: &row::Row) -> Result<u64, StoreFailure>
 {
     match row.get(0) {
         ValueRef::Int(number) if number > 0 => Ok(number.unsigned_abs()),
-        _ => Err(FAULTY),
+        _ => Err(OTHER_FAILURE),
     }
 }
 
@@ -148,13 +148,13 @@ pub(crate) fn next_row<S: Store>(
     requires cursor { IsSome ((S.Store.view store.old).cursors 0) }
     requires table { (S.Store.view store.old).shape table.now.tree ≡ kind.Table }
     ensures goes { IfOk result (λ is_ours. IsClean (S.Store.view store.new)
-        → Goes key.now ((S.Store.view store.old).trees table.now.tree)
+        → CursorReturns key.now ((S.Store.view store.old).trees table.now.tree)
         (left_of (S.Store.view store.old) 0) place.new row.new
         (left_of (S.Store.view store.new) 0) is_ours) }
     ensures live { OnOk result (IsSome ((S.Store.view store.new).cursors 0)) }
     ensures reads { OnOk result (IsClean (S.Store.view store.new)
         → OnlyReads (S.Store.view store.old) (S.Store.view store.new)) }
-    ensures looks { Looks S.Store store.old store.new }
+    ensures looks { OnlyReadsStore S.Store store.old store.new }
 {
     if !store.next(0, place)? {
         return Ok(false);
@@ -163,24 +163,24 @@ pub(crate) fn next_row<S: Store>(
     sure(store.get(table.tree, id, row)?)?;
     let own = columns_of(alloc, row, table.key)?;
     if place.cmp_prefix(Order::PLAIN, &own) != Ordering::Equal || !has_blobs(row, table.blobs) {
-        return Err(FAULTY);
+        return Err(OTHER_FAILURE);
     }
     Ok(place.cmp_prefix(Order::PLAIN, key) == Ordering::Equal)
 }
 
 /// Returns the first row of a table under an index key, if there is one. Reads no other row.
-pub(crate) fn row_behind<S: Store>(
+pub(crate) fn row_under_key<S: Store>(
     store: &mut S,
     alloc: Global,
     table: &TreeTable,
     key: &row::Row,
 ) -> Result<Option<row::Row>, StoreFailure>
     ensures found { IfOk result (λ found. IsClean (S.Store.view store.new)
-        → FindsUnder table.now.tree table.now.index key.now
+        → FindsFirstUnderKey table.now.tree table.now.index key.now
         (S.Store.view store.old).trees found) }
     ensures sound { OnOk result (IsClean (S.Store.view store.new)
         → (S.Store.view store.old).is_broken ≡ false) }
-    ensures looks { Looks S.Store store.old store.new }
+    ensures looks { OnlyReadsStore S.Store store.old store.new }
 {
     sure(are_shaped(store, table))?;
     store.seek(0, table.index, key, Direction::Forward)?;
@@ -194,7 +194,7 @@ pub(crate) fn row_behind<S: Store>(
 
 /// Reads columns of the rows of a table under an index key, in the order of the index. Holds one
 /// row at a time.
-fn rows_behind<S: Store>(
+fn rows_under_key<S: Store>(
     store: &mut S,
     alloc: Global,
     table: &TreeTable,
@@ -202,12 +202,12 @@ fn rows_behind<S: Store>(
     columns: &[usize],
 ) -> Result<Vec<Row>, StoreFailure>
     ensures all { IfOk result (λ rows. IsClean (S.Store.view store.new)
-        → ShowsUnder table.now.tree table.now.index key.now columns.now
+        → SelectsUnderKey table.now.tree table.now.index key.now columns.now
         (S.Store.view store.old).trees rows.items) }
     ensures wide { IfOk result (λ rows. AreWide (length columns.now) rows.items) }
     ensures sound { OnOk result (IsClean (S.Store.view store.new)
         → (S.Store.view store.old).is_broken ≡ false) }
-    ensures looks { Looks S.Store store.old store.new }
+    ensures looks { OnlyReadsStore S.Store store.old store.new }
 {
     sure(are_shaped(store, table))?;
     store.seek(0, table.index, key, Direction::Forward)?;
@@ -222,7 +222,7 @@ fn rows_behind<S: Store>(
         }
         add_shown(alloc, &row, columns, &mut rows)?;
     }
-    Err(FAULTY)
+    Err(OTHER_FAILURE)
 }
 
 /// Reads columns of the rows of a table under an index key. First reads the last index entry at or
@@ -236,19 +236,19 @@ pub(crate) fn rows_after<S: Store>(
     columns: &[usize],
 ) -> Result<Vec<Row>, StoreFailure>
     ensures all { IfOk result (λ rows. IsClean (S.Store.view store.new)
-        → ShowsUnder table.now.tree table.now.index key.now columns.now
+        → SelectsUnderKey table.now.tree table.now.index key.now columns.now
         (S.Store.view store.old).trees rows.items) }
     ensures wide { IfOk result (λ rows. AreWide (length columns.now) rows.items) }
     ensures sound { OnOk result (IsClean (S.Store.view store.new)
         → (S.Store.view store.old).is_broken ≡ false) }
-    ensures looks { Looks S.Store store.old store.new }
+    ensures looks { OnlyReadsStore S.Store store.old store.new }
 {
     sure(are_shaped(store, table))?;
     store.seek(0, table.index, before, Direction::Backward)?;
     let mut place = row::Row::new(alloc);
     let mut row = row::Row::new(alloc);
     next_row(store, alloc, table, before, &mut place, &mut row)?;
-    rows_behind(store, alloc, table, key, columns)
+    rows_under_key(store, alloc, table, key, columns)
 }
 
 /// Returns the number of index entries under a key.
@@ -259,11 +259,11 @@ pub(crate) fn count_under<S: Store>(
     key: &row::Row,
 ) -> Result<u64, StoreFailure>
     ensures counted { IfOk result (λ n. IsClean (S.Store.view store.new)
-        → CountsUnder table.now.tree table.now.index key.now
+        → CountsUnderKey table.now.tree table.now.index key.now
         (S.Store.view store.old).trees n) }
     ensures through { IsClean (S.Store.view store.new)
-        → OnOk result (LooksThrough (S.Store.view store.old) (S.Store.view store.new)) }
-    ensures looks { Looks S.Store store.old store.new }
+        → OnOk result (OnlyMovesCursors (S.Store.view store.old) (S.Store.view store.new)) }
+    ensures looks { OnlyReadsStore S.Store store.old store.new }
 {
     sure(are_shaped(store, table))?;
     store.seek(0, table.index, key, Direction::Forward)?;
@@ -277,7 +277,7 @@ pub(crate) fn count_under<S: Store>(
             return Ok(count);
         }
     }
-    Err(FAULTY)
+    Err(OTHER_FAILURE)
 }
 
 /// Copies columns of each of these rows.

@@ -1,4 +1,4 @@
-use crate::files::NotOpened;
+use crate::files::OpenFailure;
 use sqlite::{Start, Unknown};
 
 /// An interface to the initial content of a results file, for contracts alone. It assumes that a
@@ -10,7 +10,7 @@ pub trait TrustedContents: Start {
     ghost use Rattle.kt_store.specs.TrustedContents.{IsOfRuns};
 
     /// Returns the value that a failed open consumed. The program doesn't read the value.
-    fn returned(failed: NotOpened<Self>) -> Self;
+    fn returned(failed: OpenFailure<Self>) -> Self;
 
     ghost holds: { IsOfRuns (image_at Self.Start) };
 }
@@ -20,7 +20,7 @@ impl TrustedContents for Unknown {
 
     ghost holds = { of_nothing };
 
-    fn returned(_failed: NotOpened<Unknown>) -> Unknown {
+    fn returned(_failed: OpenFailure<Unknown>) -> Unknown {
         Unknown
     }
 }

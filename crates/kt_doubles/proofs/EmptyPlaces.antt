@@ -4,7 +4,7 @@ use Rattle.kt_doubles.proofs.Common.{Role, shown, owed}
 use Rattle.std.proofs.lemmas.Bool.{cases_lt}
 use Rattle.std.proofs.lemmas.List.{get_or_past}
 use Rattle.kt_sched.specs.Children.{Child, IsIdle}
-use Rattle.kt_doubles.specs.Children.{child_in, is_owed}
+use Rattle.kt_doubles.specs.Children.{child_in, is_pending_slot}
 use Rattle.kt_doubles.specs.declared.children.ChildSlot.{ChildSlot}
 use Rattle.kt_doubles.specs.declared.children.ChildSlot.TheVariants.{Free}
 
@@ -17,7 +17,7 @@ nowhere places b h i r child e = elim (cases_lt i 2048) [
 
 -- A launcher without running children and pending cleanups is idle.
 pub idle : (places : List ChildSlot) → ((k : ℕ) → slice_index_or places k Free ≡ Free) → IsIdle (shown places) (owed places)
-idle places h = record { runs = λ k r. ap (λ (p : ChildSlot). child_in p r) (h k); pends = λ k. ap is_owed (h k) }
+idle places h = record { runs = λ k r. ap (λ (p : ChildSlot). child_in p r) (h k); pends = λ k. ap is_pending_slot (h k) }
 
 -- Each element of `replicate n x` is `x`.
 pub all_same : {X : Type 0} (n k : ℕ) (x : X) → slice_index_or (replicate n x) k x ≡ x

@@ -12,10 +12,10 @@ child_in (Running interface cleanup) Body = Some (record { interface = interface
 child_in (Cleaning interface cleanup) Cleanup = Some (record { interface = interface; cleanup = cleanup })
 child_in place role = None
 
--- `is_owed place`: a case with the state `place` has a pending cleanup.
-abbrev pub is_owed : ChildSlot → Bool
-is_owed Owed = true
-is_owed place = false
+-- `is_pending_slot place`: a case with the state `place` has a pending cleanup.
+abbrev pub is_pending_slot : ChildSlot → Bool
+is_pending_slot Owed = true
+is_pending_slot place = false
 
 -- `shown places k role`: the running child in `role` of the case at position `k` of `places`, or
 -- `None`.
@@ -24,4 +24,4 @@ shown places k role = child_in (slice_index_or places k Free) role
 
 -- `owed places k`: the case at position `k` of `places` has a pending cleanup.
 abbrev pub owed : List ChildSlot → ℕ → Bool
-owed places k = is_owed (slice_index_or places k Free)
+owed places k = is_pending_slot (slice_index_or places k Free)

@@ -9,7 +9,7 @@ ghost use Rattle.kt_doubles.specs.Children.{shown};
 use kt_base::{Interface, Role};
 
 /// The number of positions of a scripted launcher. Cases at later positions can't be started.
-pub const PLACES: u32 = 2_048;
+pub const MAX_POSITIONS: u32 = 2_048;
 
 /// The state of a case in a scripted launcher.
 #[derive(Clone, Copy)]
@@ -28,10 +28,10 @@ pub enum ChildSlot {
 pub type ChildSlots = [ChildSlot; 2048];
 
 /// A running child: its role, its interface, and `true` if its case declares a cleanup.
-pub type Known = (Role, Interface, bool);
+pub type SlotChild = (Role, Interface, bool);
 
 /// Creates states in which no child runs and no cleanup is pending.
-pub fn no_children() -> ChildSlots
+pub fn free_slots() -> ChildSlots
     ensures { (k : ℕ) → slice_index_or result k TheFree ≡ TheFree }
 {
     [ChildSlot::Free; 2048]
@@ -47,7 +47,7 @@ pub fn write(places: &mut ChildSlots, at: u32, place: ChildSlot)
 }
 
 /// Returns the running child of the case at position `at`, or `None`.
-fn child_at(places: &ChildSlots, at: u32) -> Option<Known>
+fn child_at(places: &ChildSlots, at: u32) -> Option<SlotChild>
     requires { at < 2048 }
     ensures none { result ≡ None → (role : Role) → shown places.now at role ≡ None }
     ensures runs { IfSome result (λ c. shown places.now at c.0
@@ -62,19 +62,19 @@ fn child_at(places: &ChildSlots, at: u32) -> Option<Known>
 
 /// Returns the running child at position `named`, or else the first running child, each with its
 /// position. The caller guarantees that a child is running.
-pub fn next_child(places: &ChildSlots, named: u32) -> (u32, Known)
+pub fn running_child(places: &ChildSlots, named: u32) -> (u32, SlotChild)
     requires { (i : ℕ) × (role : Role) × (child : Child)
         × (shown places.now i role ≡ Some child) }
     ensures within { result.0 < 2048 }
     ensures runs { shown places.now result.0 result.1.0
         ≡ Some (record { interface = result.1.1; cleanup = result.1.2 }) }
 {
-    if named < PLACES {
+    if named < MAX_POSITIONS {
         if let Some(child) = child_at(places, named) {
             return (named, child);
         }
     }
-    for k in 0..PLACES {
+    for k in 0..MAX_POSITIONS {
         if let Some(child) = child_at(places, k) {
             return (k, child);
         }

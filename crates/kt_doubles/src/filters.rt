@@ -128,7 +128,7 @@ impl FilterExample {
             "disjoint" => push_disjoint(out, &self.filters),
             "select" => self.push_selected(out, false),
             "count" => self.push_selected(out, true),
-            _ => return Err(ExampleFault::Misspelled("no such word")),
+            _ => return Err(ExampleFault::InvalidExample("no such word")),
         }
         Ok(())
     }
@@ -138,7 +138,7 @@ impl FilterExample {
 ///
 /// # Errors
 ///
-/// - `Misspelled`: a line is invalid.
+/// - `InvalidExample`: a line is invalid.
 /// - `NoMemory`: an allocation failed.
 pub fn answer(out: &mut ExampleOutput, row: &Example<'_>) -> Result<()> {
     let mut example = FilterExample {

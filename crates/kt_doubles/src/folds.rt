@@ -1,7 +1,7 @@
 use kt_examples::ExampleOutput;
 
 /// The maximum number of lines of a folded block, plus 1.
-const LONGEST: usize = 12;
+const MAX_BLOCK_LINES: usize = 12;
 
 /// Returns the number of consecutive copies of the block of `length` lines at index `at`.
 fn times_at(lines: &[&str], at: usize, length: usize) -> usize {
@@ -15,7 +15,7 @@ fn times_at(lines: &[&str], at: usize, length: usize) -> usize {
 /// Returns the length of the shortest block at index `at` that repeats, and the number of its
 /// copies. A single line must occur at least twice, a longer block three times.
 fn block_at(lines: &[&str], at: usize) -> (usize, usize) {
-    for length in 1..LONGEST {
+    for length in 1..MAX_BLOCK_LINES {
         let times = times_at(lines, at, length);
         if times > 2 || (length == 1 && times == 2) {
             return (length, times);
@@ -39,7 +39,7 @@ fn push_block(out: &mut ExampleOutput, block: &[&str], times: usize) {
 
 /// Appends lines with commas between them, and consecutive copies of a block only once:
 /// `poll 0 x100`, or `(poll 0, pause) x99`.
-pub fn push_folded(out: &mut ExampleOutput, lines: &[&str]) {
+pub fn push_repeated(out: &mut ExampleOutput, lines: &[&str]) {
     let mut at: usize = 0;
     for _ in 0..lines.len() {
         if at >= lines.len() {

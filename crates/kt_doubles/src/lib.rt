@@ -18,9 +18,9 @@ mod store_calls;
 mod systems;
 
 use kt_examples::{Example, ExampleOutput, Result};
-pub use refusals::Refusals;
-pub use run_calls::{InParts, RunCalls};
-pub use scene::{Scene, ask_too_much};
+pub use refusals::FailingCalls;
+pub use run_calls::{PartwiseStore, RunCalls};
+pub use scene::{Scene, fail_allocation};
 pub use scene_reading::{failure, scene_of, shortage};
 pub use scripted_system::ScriptedSystem;
 pub use store_calls::{push_call, push_runs, state_text};
@@ -30,7 +30,7 @@ pub use systems::push_calls;
 ///
 /// # Errors
 ///
-/// - `Misspelled`: neither this crate nor kt_examples has such a subject, or `row` doesn't have the
+/// - `InvalidExample`: neither this crate nor kt_examples has such a subject, or `row` doesn't have the
 ///   format of its subject.
 /// - `NoMemory`: an allocation failed. A failed append to `out` is returned by `ExampleOutput::end`
 ///   instead.

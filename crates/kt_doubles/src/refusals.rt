@@ -6,7 +6,7 @@ use std::alloc::Global;
 
 /// A counter of the calls on a results store, which makes a range of the calls fail.
 #[derive(Drop)]
-pub struct Refusals {
+pub struct FailingCalls {
     /// The number of calls so far.
     calls: u64,
     /// The numbers of the first and the last call that fail, counted from 1.
@@ -18,7 +18,7 @@ pub struct Refusals {
     shortage: Option<NoMemory>,
 }
 
-impl Refusals {
+impl FailingCalls {
     ghost use Rattle.std.specs.Prelude.{IfErr};
     ghost use Rattle.kt_store.specs.Ask.{IsStoreFault};
 
@@ -28,16 +28,16 @@ impl Refusals {
     ///
     /// # Errors
     ///
-    /// - `Misspelled`: CALLS isn't one or two numbers, or the real error for the calls can't be
+    /// - `InvalidExample`: CALLS isn't one or two numbers, or the real error for the calls can't be
     ///   provoked.
     /// - `NoMemory`: an allocation failed.
-    pub fn of(alloc: Global, row: &Example<'_>) -> Result<Refusals> {
+    pub fn of(alloc: Global, row: &Example<'_>) -> Result<FailingCalls> {
         let (calls, shortage) = match row.text("refused-memory") {
             Some(calls) => (calls, Some(shortage(alloc)?)),
             None => (row.text("refused").unwrap_or("0"), None),
         };
         let (first, last) = calls.split_once(' ').unwrap_or((calls, calls));
-        Ok(Refusals {
+        Ok(FailingCalls {
             calls: 0,
             refused: (number(first)?, number(last)?),
             failed: failure(alloc)?,

@@ -80,7 +80,7 @@ impl<S: Alter> RunCalls for Results<S> {
 /// A results store whose entries are read in parts, as reports read them: the properties and
 /// outputs are read for one entry at a time.
 #[derive(Drop)]
-pub struct InParts<'a, R: ResultStore> {
+pub struct PartwiseStore<'a, R: ResultStore> {
     /// The store.
     pub store: &'a mut R,
     /// The allocator of the entries.
@@ -88,7 +88,7 @@ pub struct InParts<'a, R: ResultStore> {
 }
 
 /// Reads the properties and outputs of `entry`, and appends the completed entry to `entries`.
-fn add_whole<R: ResultStore>(
+fn push_full_entry<R: ResultStore>(
     entries: &mut Vec<Entry>,
     store: &mut R,
     run: u64,
@@ -114,7 +114,7 @@ fn add_head(heads: &mut Vec<RunHead>, head: RunHead) -> Result<(), StoreFault> {
     }
 }
 
-impl<R: ResultStore> RunCalls for InParts<'_, R> {
+impl<R: ResultStore> RunCalls for PartwiseStore<'_, R> {
     fn begin(&mut self, total: u32, moment: u64) -> Result<u64, StoreFault> {
         self.store.begin(total, moment)
     }
@@ -144,7 +144,7 @@ impl<R: ResultStore> RunCalls for InParts<'_, R> {
         let outline = self.store.outline(run)?;
         let mut entries = Vec::new(self.alloc);
         for entry in outline {
-            add_whole(&mut entries, self.store, run, entry)?;
+            push_full_entry(&mut entries, self.store, run, entry)?;
         }
         Ok(entries)
     }

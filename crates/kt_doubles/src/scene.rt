@@ -4,7 +4,7 @@ use std::alloc::Global;
 
 /// A script of a child: the number of polls that find it running, and how it then ends.
 #[derive(Clone, Copy)]
-pub struct Life {
+pub struct ChildScript {
     /// The number of polls that find the child running.
     pub running: u32,
     /// The end that later polls return.
@@ -24,7 +24,7 @@ pub enum PartFault {
 
 /// A file of a scripted system (`Os`) or of scripted host files (`HostFiles`).
 #[derive(Drop)]
-pub struct Holding {
+pub struct SceneFile {
     /// The path, in which the first `*` represents any text without `/`.
     pub path: String,
     /// The contents of the file.
@@ -39,9 +39,9 @@ pub struct Scene {
     pub alloc: Global,
     /// The scripts of the children, in the order of their starts. The last is that of all later
     /// children, too.
-    pub lives: Vec<Life>,
+    pub lives: Vec<ChildScript>,
     /// The files that can be read.
-    pub files: Vec<Holding>,
+    pub files: Vec<SceneFile>,
     /// The contents of every other file, or `None` if other files are missing.
     pub others: Option<Vec<u8>>,
     /// The range of calls of the system that fail: the number of the first, counted from 0, and
@@ -115,7 +115,7 @@ fn is_path_of(pattern: &str, path: &str) -> bool {
 /// # Errors
 ///
 /// - `NoMemory`: the allocation failed.
-pub fn ask_too_much(alloc: Global) -> Result<(), NoMemory> {
+pub fn fail_allocation(alloc: Global) -> Result<(), NoMemory> {
     let _bytes: Vec<u8> = Vec::with_capacity(alloc, usize::MAX)?;
     Ok(())
 }

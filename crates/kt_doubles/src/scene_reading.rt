@@ -1,7 +1,7 @@
 //! Parses the lines of an example into a scene, the script for a system and host files.
 
-use crate::scene::{Holding, Life, PartFault};
-use crate::{Scene, ask_too_much};
+use crate::scene::{ChildScript, PartFault, SceneFile};
+use crate::{Scene, fail_allocation};
 use kt_base::{NoMemory, Outcome, Text};
 use kt_child::Polled;
 use kt_examples::{
@@ -16,30 +16,30 @@ use std::alloc::Global;
 ///
 /// # Errors
 ///
-/// - `Misspelled`: the allocation didn't fail.
+/// - `InvalidExample`: the allocation didn't fail.
 pub fn shortage(alloc: Global) -> Result<NoMemory> {
-    due(ask_too_much(alloc).err(), "this machine has all memory")
+    due(fail_allocation(alloc).err(), "this machine has all memory")
 }
 
 /// Returns the error of a real statement that failed, in a database that lacks the results tables.
 ///
 /// # Errors
 ///
-/// - `Misspelled`: no statement failed.
+/// - `InvalidExample`: no statement failed.
 /// - `NoMemory`: the allocation of the database failed.
 pub fn failure(alloc: Global) -> Result<FailedStatement> {
     let mut conn = Connection::open_in_memory(alloc)?;
     let _ = conn.execute("CREATE TABLE other (id INTEGER)", &[]);
     match Results::attach(alloc, conn) {
         Err((StoreFault::Store(failed), _conn)) => Ok(failed),
-        Err((_fault, _conn)) => Err(ExampleFault::Misspelled("no statement failed")),
-        Ok(_results) => Err(ExampleFault::Misspelled("no statement failed")),
+        Err((_fault, _conn)) => Err(ExampleFault::InvalidExample("no statement failed")),
+        Ok(_results) => Err(ExampleFault::InvalidExample("no statement failed")),
     }
 }
 
 /// Parses the script of a child: an outcome, or `running xN, ` and an outcome. The outcome is an
 /// exit or a signal.
-fn life_of(text: &str) -> Result<Life> {
+fn child_script(text: &str) -> Result<ChildScript> {
     let (running, ending) = match text.strip_prefix("running x") {
         None => ("0", text),
         Some(rest) => halves(rest, ", ", "a life is `running xN, ` and an ending")?,
@@ -47,9 +47,9 @@ fn life_of(text: &str) -> Result<Life> {
     let ending = match ending_of(ending)? {
         Outcome::Exited(code) => Polled::Exited(code),
         Outcome::Signaled(signal, core) => Polled::Signaled(signal, core),
-        _ => return Err(ExampleFault::Misspelled("a child exits or is ended by a signal")),
+        _ => return Err(ExampleFault::InvalidExample("a child exits or is ended by a signal")),
     };
-    Ok(Life {
+    Ok(ChildScript {
         running: count(running)?,
         ending,
     })
@@ -60,11 +60,11 @@ fn take_file(scene: &mut Scene, path: &str, beginning: &str, raw: &str) -> Resul
     let path = text_of(scene.alloc, path)?.into_string();
     let mut bytes = beginning.as_bytes().to_vec(scene.alloc)?;
     append(scene.alloc, &mut bytes, raw)?;
-    asked(scene.files.push(Holding { path, bytes }))
+    asked(scene.files.push(SceneFile { path, bytes }))
 }
 
 /// Appends `raw` with its escapes decoded, and a newline, to the last file of a scene.
-fn take_line(scene: &mut Scene, raw: &str) -> Result<()> {
+fn add_line(scene: &mut Scene, raw: &str) -> Result<()> {
     let alloc = scene.alloc;
     let file = due(scene.files.last_mut(), "a line without a file")?;
     append(alloc, &mut file.bytes, raw)?;
@@ -72,7 +72,7 @@ fn take_line(scene: &mut Scene, raw: &str) -> Result<()> {
 }
 
 /// Adds the path in a line to a scene, with the line's keyword.
-fn take_path(scene: &mut Scene, line: &ExampleLine<'_>) -> Result<()> {
+fn add_path(scene: &mut Scene, line: &ExampleLine<'_>) -> Result<()> {
     let word = asked(String::from_str(scene.alloc, line.word));
     let path = text_of(scene.alloc, line.text).map(Text::into_string);
     push_made(&mut scene.paths, both(word, path))
@@ -83,8 +83,8 @@ fn take_path(scene: &mut Scene, line: &ExampleLine<'_>) -> Result<()> {
 ///
 /// # Errors
 ///
-/// - `Misspelled`: `text` isn't one or two numbers from 0 to 2^32 - 1.
-pub fn failing_of(text: &str) -> Result<(u32, u32)> {
+/// - `InvalidExample`: `text` isn't one or two numbers from 0 to 2^32 - 1.
+pub fn parse_call_range(text: &str) -> Result<(u32, u32)> {
     let (first, last) = text.split_once(' ').unwrap_or((text, text));
     Ok((count(first)?, count(last)?.saturating_add(1)))
 }
@@ -95,20 +95,20 @@ fn take(scene: &mut Scene, line: &ExampleLine<'_>) -> Result<()> {
     let text = line.text;
     let (path, rest) = text.split_once(' ').unwrap_or((text, ""));
     match line.word {
-        "life" => push_made(&mut scene.lives, life_of(text)),
+        "life" => push_made(&mut scene.lives, child_script(text)),
         "holds" | "config" => take_file(scene, path, "", rest),
         "lists" => take_file(scene, path, HEADER, rest),
         "Kyuafile" => take_file(scene, "Kyuafile", "", text),
         "file" => take_file(scene, text, "", ""),
-        "|" => take_line(scene, text),
-        "program" | "locked" | "dear" | "found-file" | "found-program" => take_path(scene, line),
-        word => take_calls(scene, word, text),
+        "|" => add_line(scene, text),
+        "program" | "locked" | "dear" | "found-file" | "found-program" => add_path(scene, line),
+        word => add_calls(scene, word, text),
     }
 }
 
 /// Adds the timestamps or the failing calls that a line describes to a scene. Other lines are
 /// ignored.
-fn take_calls(scene: &mut Scene, word: &str, text: &str) -> Result<()> {
+fn add_calls(scene: &mut Scene, word: &str, text: &str) -> Result<()> {
     let alloc = scene.alloc;
     match word {
         "clock" | "moments" => {
@@ -116,14 +116,14 @@ fn take_calls(scene: &mut Scene, word: &str, text: &str) -> Result<()> {
             scene.step = u64::from(word == "clock");
         }
         "now" => scene.clock = numbers_of(alloc, text)?,
-        "fails" => scene.failing = failing_of(text)?,
+        "fails" => scene.failing = parse_call_range(text)?,
         "refuses" => {
-            scene.failing = failing_of(text)?;
-            scene.shortage = ask_too_much(alloc).err();
+            scene.failing = parse_call_range(text)?;
+            scene.shortage = fail_allocation(alloc).err();
         }
         "odd" if text == "empty part" => scene.part_fault = PartFault::EmptyPart,
         "odd" if text == "gone" => scene.part_fault = PartFault::Gone,
-        "odd" => return Err(ExampleFault::Misspelled("there is no such fault of a read")),
+        "odd" => return Err(ExampleFault::InvalidExample("there is no such fault of a read")),
         _ => {}
     }
     Ok(())
@@ -134,7 +134,7 @@ fn take_calls(scene: &mut Scene, word: &str, text: &str) -> Result<()> {
 ///
 /// # Errors
 ///
-/// - `Misspelled`: the text after one of the keywords is invalid, or a line `|` precedes all files.
+/// - `InvalidExample`: the text after one of the keywords is invalid, or a line `|` precedes all files.
 /// - `NoMemory`: an allocation failed.
 pub fn scene_of(alloc: Global, row: &Example<'_>) -> Result<Scene> {
     let mut scene = Scene::new(alloc);

@@ -6,7 +6,7 @@ use kt_examples::{Example, ExampleOutput, Result, both, number_to, numbers_of, p
 use kt_sched::{MAX_WIDTH, RunFault, Totals, run_cases};
 
 /// Appends the calls of the launcher, and a line with the positions of the entries in put order.
-fn push_long(out: &mut ExampleOutput, log: &str, entries: &[Entry]) {
+fn push_calls_and_puts(out: &mut ExampleOutput, log: &str, entries: &[Entry]) {
     for call in log.lines() {
         out.separate(", ");
         out.push(call);
@@ -35,7 +35,7 @@ fn counts(log: &str) -> (usize, usize, usize) {
 }
 
 /// Appends a summary of a run: `20 bodies, 10 cleanups, at most 4 at once; 20 entries by position`.
-fn push_brief(out: &mut ExampleOutput, log: &str, entries: &[Entry]) {
+fn push_run_summary(out: &mut ExampleOutput, log: &str, entries: &[Entry]) {
     let (bodies, cleanups, most) = counts(log);
     write!(out, "{bodies} bodies, {cleanups} cleanups, ");
     write!(out, "at most {most} at once; {} entries ", entries.len());
@@ -49,7 +49,7 @@ fn push_brief(out: &mut ExampleOutput, log: &str, entries: &[Entry]) {
 
 /// Appends the totals of a run, as `3 good, 1 bad of 4`, or its error. The line `moments` of an
 /// example adds the entries with their times.
-fn push_end(
+fn push_run_result(
     out: &mut ExampleOutput,
     row: &Example<'_>,
     end: Result<Totals, RunFault>,
@@ -70,13 +70,13 @@ fn push_end(
 ///
 /// # Errors
 ///
-/// - `Misspelled`: a line is missing or invalid.
+/// - `InvalidExample`: a line is missing or invalid.
 /// - `NoMemory`: an allocation failed.
 pub fn answer(out: &mut ExampleOutput, row: &Example<'_>) -> Result<()> {
     let alloc = out.alloc;
     let width = number_to(row.text("width"), MAX_WIDTH)?;
     let failing = row.number("failing", 0)? as usize;
-    let letters = row.due_bytes(alloc, "plan", "no plan");
+    let letters = row.required_bytes(alloc, "plan", "no plan");
     let ends = numbers_of(alloc, row.text("ends").unwrap_or(""));
     let moments = numbers_of(alloc, row.text("moments").unwrap_or(""));
     let (letters, (ends, moments)) = both(letters, both(ends, moments))?;
@@ -86,10 +86,10 @@ pub fn answer(out: &mut ExampleOutput, row: &Example<'_>) -> Result<()> {
     let end = run_cases(alloc, plan, width, &mut launcher, &mut sink);
     let (log, entries) = (launcher.log.so_far()?, sink.entries.as_slice());
     if row.text("brief").is_some() {
-        push_brief(out, log, entries);
+        push_run_summary(out, log, entries);
     } else {
-        push_long(out, log, entries);
+        push_calls_and_puts(out, log, entries);
     }
-    push_end(out, row, end, entries);
+    push_run_result(out, row, end, entries);
     Ok(())
 }

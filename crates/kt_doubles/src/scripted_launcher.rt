@@ -3,9 +3,9 @@ ghost use Rattle.kt_base.specs.declared.child.Role.{Role};
 ghost use Rattle.kt_sched.specs.Children.{IsEvidence, IsIdle};
 ghost use Rattle.kt_doubles.specs.Children.{shown, owed};
 
-use crate::children::{ChildSlot, ChildSlots, PLACES, next_child, no_children, write};
+use crate::children::{ChildSlot, ChildSlots, MAX_POSITIONS, free_slots, running_child, write};
 use crate::plans::is_refused;
-use kt_base::{Bytes, Interface, LATEST_MOMENT, Outcome, Output, Refused, Role};
+use kt_base::{Bytes, Interface, LATEST_MOMENT_MILLIS, Outcome, Output, Refused, Role};
 use kt_claim::{Claim, Evidence, Tap};
 use kt_examples::ExampleOutput;
 use kt_sched::{Ended, Job, Launcher, StartAnswer};
@@ -57,13 +57,13 @@ fn next_moment(moments: &mut &[u64]) -> u64 {
     }
 }
 
-/// Removes and returns the next position whose child ends, or returns `PLACES` if none remains.
+/// Removes and returns the next position whose child ends, or returns `MAX_POSITIONS` if none remains.
 fn next_end(ends: &mut &[u64]) -> u32 {
     match ends.split_first() {
-        None => PLACES,
+        None => MAX_POSITIONS,
         Some((first, rest)) => {
             *ends = rest;
-            u32::try_from(*first).unwrap_or(PLACES)
+            u32::try_from(*first).unwrap_or(MAX_POSITIONS)
         }
     }
 }
@@ -93,7 +93,7 @@ impl<'a> ScriptedLauncher<'a> {
             ends,
             moments,
             log: ExampleOutput::new(alloc),
-            places: no_children(),
+            places: free_slots(),
         }
     }
 }
@@ -110,7 +110,7 @@ impl Launcher for ScriptedLauncher<'_> {
     fn start(&mut self, job: &Job, role: Role) -> StartAnswer {
         let moment = next_moment(&mut self.moments);
         note(&mut self.log, "start", job.position, role);
-        if job.position >= PLACES {
+        if job.position >= MAX_POSITIONS {
             return StartAnswer::Refused(Refused::Spawn);
         }
         if is_refused(self.letters, job.position, role) {
@@ -122,12 +122,12 @@ impl Launcher for ScriptedLauncher<'_> {
             Role::Cleanup => ChildSlot::Cleaning(job.interface, job.cleanup),
         };
         write(&mut self.places, job.position, place);
-        StartAnswer::Started(moment.min(LATEST_MOMENT))
+        StartAnswer::Started(moment.min(LATEST_MOMENT_MILLIS))
     }
 
     fn wait(&mut self) -> Ended {
         let next = next_end(&mut self.ends);
-        let (position, (role, interface, cleanup)) = next_child(&self.places, next);
+        let (position, (role, interface, cleanup)) = running_child(&self.places, next);
         note(&mut self.log, "end", position, role);
         let moment = next_moment(&mut self.moments);
         let left = match role {
@@ -144,7 +144,7 @@ impl Launcher for ScriptedLauncher<'_> {
                 out: Bytes::new(self.log.alloc),
                 err: Bytes::new(self.log.alloc),
             },
-            moment: moment.min(LATEST_MOMENT),
+            moment: moment.min(LATEST_MOMENT_MILLIS),
         }
     }
 }

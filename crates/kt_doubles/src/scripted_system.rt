@@ -1,7 +1,7 @@
 ghost use Rattle.kt_child.specs.Ending.Reads.{IsReadWithin};
 
 use crate::Scene;
-use crate::scene::{Life, PartFault};
+use crate::scene::{ChildScript, PartFault};
 use kt_base::{Bytes, Items, NoMemory, Role, Text};
 use kt_child::{Child, EnvPlan, FileRead, Os, OsFault, Polled};
 use kt_examples::ExampleOutput;
@@ -30,18 +30,18 @@ pub struct ScriptedSystem<'a> {
 }
 
 /// Returns the script of the child with index `number` in the order of starts.
-fn life_of(lives: &[Life], number: usize) -> Life {
+fn child_script(lives: &[ChildScript], number: usize) -> ChildScript {
     let ending = Polled::Exited(0);
     let life = lives.get(number).or(lives.last());
-    life.copied().unwrap_or(Life { running: 0, ending })
+    life.copied().unwrap_or(ChildScript { running: 0, ending })
 }
 
 /// Returns the result of a poll of a child, and counts the poll if the child is running. A child
 /// that wasn't started has exited with 99.
-fn status_of(lives: &[Life], children: &mut [(Child, u32)], child: Child) -> Polled {
+fn status_of(lives: &[ChildScript], children: &mut [(Child, u32)], child: Child) -> Polled {
     for (number, (known, told)) in children.iter_mut().enumerate() {
         if *known == child {
-            let life = life_of(lives, number);
+            let life = child_script(lives, number);
             if *told >= life.running {
                 return life.ending;
             }
@@ -98,7 +98,7 @@ impl<'a> ScriptedSystem<'a> {
     }
 
     /// Counts a call and ends its log line. Fails if the scene makes this call fail.
-    fn end_call(&mut self) -> Result<(), OsFault> {
+    fn log_call_end(&mut self) -> Result<(), OsFault> {
         let call = self.calls;
         self.calls = call.saturating_add(1);
         let (first, below) = self.scene.failing;
@@ -116,7 +116,7 @@ impl<'a> ScriptedSystem<'a> {
     /// Logs a call with its path, and fails if the scene makes this call fail.
     fn ask(&mut self, word: &str, path: &Text) -> Result<(), OsFault> {
         write!(self.log, "{word} {}", path.as_str());
-        self.end_call()
+        self.log_call_end()
     }
 
     /// Appends `word` and a child to the log: its attempt number, after `cleanup` for a cleanup.
@@ -129,9 +129,9 @@ impl<'a> ScriptedSystem<'a> {
     }
 
     /// Logs a call with its child, and fails if the scene makes this call fail.
-    fn ask_child(&mut self, word: &str, child: Child) -> Result<(), OsFault> {
+    fn log_child_call(&mut self, word: &str, child: Child) -> Result<(), OsFault> {
         self.push_child(word, child);
-        self.end_call()
+        self.log_call_end()
     }
 
     /// Returns the scene's next timestamp, or the last one plus the scene's step if none remains.
@@ -194,17 +194,17 @@ impl Os for ScriptedSystem<'_> {
 
     fn poll(&mut self, child: Child) -> Result<Polled, OsFault> {
         let status = status_of(self.scene.lives.as_slice(), &mut self.children, child);
-        self.ask_child("poll", child)?;
+        self.log_child_call("poll", child)?;
         Ok(status)
     }
 
     fn kill(&mut self, child: Child) -> Result<(), OsFault> {
-        self.ask_child("kill", child)
+        self.log_child_call("kill", child)
     }
 
     fn pause(&mut self) -> Result<(), OsFault> {
         self.log.push("pause");
-        self.end_call()
+        self.log_call_end()
     }
 
     fn read_file(&mut self, path: &Text, limit: u64) -> Result<FileRead, OsFault> {
@@ -220,7 +220,7 @@ impl Os for ScriptedSystem<'_> {
     fn now(&mut self) -> Result<u64, OsFault> {
         let moment = self.next_moment();
         self.log.push("now");
-        self.end_call()?;
+        self.log_call_end()?;
         Ok(moment)
     }
 }

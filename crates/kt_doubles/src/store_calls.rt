@@ -1,7 +1,7 @@
 //! Calls on a results store, and the output of each call.
 
 use crate::RunCalls;
-use kt_base::LATEST_MOMENT;
+use kt_base::LATEST_MOMENT_MILLIS;
 use kt_examples::{
     ExampleFault, ExampleLine, ExampleOutput, Result, count, number, number_in, push_entries,
     retried, storable_entry,
@@ -26,7 +26,7 @@ fn begin<R: RunCalls>(
 ) -> Result<()> {
     let (total, moment) = text.split_once(' ').unwrap_or((text, "0"));
     let total = count(total)?;
-    let moment = number(moment)?.min(LATEST_MOMENT);
+    let moment = number(moment)?.min(LATEST_MOMENT_MILLIS);
     let mut last = Ok(0);
     for _ in 0..times {
         if last.is_ok() {
@@ -118,7 +118,7 @@ fn push_run_entries<R: RunCalls>(out: &mut ExampleOutput, results: &mut R, word:
 ///
 /// # Errors
 ///
-/// - `Misspelled`: the line isn't a call on a store, or an argument is invalid.
+/// - `InvalidExample`: the line isn't a call on a store, or an argument is invalid.
 /// - `NoMemory`: an allocation outside the store failed.
 pub fn push_call<R: RunCalls>(
     out: &mut ExampleOutput,
@@ -139,7 +139,7 @@ pub fn push_call<R: RunCalls>(
         "cases" | "outputs" | "pairs" | "count" => {
             push_run_entries(out, results, line.word, number(line.text)?);
         }
-        _ => return Err(ExampleFault::Misspelled("there is no such call")),
+        _ => return Err(ExampleFault::InvalidExample("there is no such call")),
     }
     Ok(())
 }

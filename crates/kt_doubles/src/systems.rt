@@ -3,10 +3,10 @@
 ghost use Rattle.kt_sched.specs.Plan.{IsPlan, IsWidth};
 
 use crate::endless_reader::EndlessReader;
-use crate::folds::push_folded;
+use crate::folds::push_repeated;
 use crate::memory_sink::MemorySink;
 use crate::plans::plan_of;
-use crate::scene_reading::{failing_of, scene_of};
+use crate::scene_reading::{parse_call_range, scene_of};
 use crate::{Scene, ScriptedSystem};
 use kt_atflist::{ListBytes, Listing};
 use kt_base::{Entry, Interface, Items, Kind, Text, Variables};
@@ -22,11 +22,11 @@ use std::alloc::Global;
 
 /// The maximum number of bytes that are read of a Kyuafile or a configuration: one more than either
 /// may have.
-const MACHINE_LIMIT: usize = 1_048_577;
+const SCRIPT_READ_BYTES: usize = 1_048_577;
 
 /// The result of a run over a driver.
 #[derive(Drop)]
-struct Driven<O: Drop> {
+struct DriverRun<O: Drop> {
     /// The system after the run.
     os: O,
     /// The recorded entries, in the order of their puts.
@@ -59,7 +59,7 @@ pub fn push_calls(out: &mut ExampleOutput, shown: &str, log: &str) -> Result<()>
             lines.push(call)?;
         }
     }
-    push_folded(out, &lines);
+    push_repeated(out, &lines);
     Ok(())
 }
 
@@ -82,7 +82,7 @@ fn push_totals(out: &mut ExampleOutput, entries: &[Entry]) {
 /// Appends the number of kills, and the number of directories that were made but not removed, as
 /// `1 killed, 0 left`. A failed kill or removal counts as done. Directories with the name `work`
 /// don't count, because they are inside other directories.
-fn push_left(out: &mut ExampleOutput, log: &str) {
+fn push_leftovers(out: &mut ExampleOutput, log: &str) {
     let (mut killed, mut left) = (0usize, 0usize);
     for line in log.lines() {
         if line.starts_with("kill ") {
@@ -99,13 +99,17 @@ fn push_left(out: &mut ExampleOutput, log: &str) {
 /// Appends the part of a run that `word` selects. `calls`, `words` and `watching` select calls, and
 /// `spawns` and `spawned` the started programs. `left` and `totals` select numbers, and other words
 /// parts of the entries.
-fn push_shown(out: &mut ExampleOutput, word: &str, run: &Driven<ScriptedSystem<'_>>) -> Result<()> {
+fn push_run_part(
+    out: &mut ExampleOutput,
+    word: &str,
+    run: &DriverRun<ScriptedSystem<'_>>,
+) -> Result<()> {
     let (log, spawned) = (run.os.log.so_far()?, run.os.spawned.so_far()?);
     match word {
         "calls" | "words" | "watching" => return push_calls(out, word, log),
         "spawns" => out.push(spawned.trim()),
         "spawned" => write!(out, "{} spawned", spawned.lines().count()),
-        "left" => push_left(out, log),
+        "left" => push_leftovers(out, log),
         "totals" => push_totals(out, run.entries.as_slice()),
         _ => push_entries(out, word, run.entries.as_slice()),
     }
@@ -127,7 +131,7 @@ fn drive<O: Os + Drop>(
     base: &Text,
     source: Text,
     mut sink: MemorySink,
-) -> Driven<O>
+) -> DriverRun<O>
     requires plan { IsPlan plan }
     requires width { IsWidth width }
 {
@@ -145,7 +149,7 @@ fn drive<O: Os + Drop>(
             (driver.close(), fault)
         }
     };
-    Driven {
+    DriverRun {
         os,
         entries: sink.entries,
         fault,
@@ -153,7 +157,7 @@ fn drive<O: Os + Drop>(
 }
 
 /// Executes the plan of an example over a scripted system.
-fn run_plan<'a>(row: &Example<'_>, scene: &'a Scene) -> Result<Driven<ScriptedSystem<'a>>> {
+fn run_plan<'a>(row: &Example<'_>, scene: &'a Scene) -> Result<DriverRun<ScriptedSystem<'a>>> {
     let alloc = scene.alloc;
     let width = number_to(row.text("width"), MAX_WIDTH)?;
     let limit = number_to(row.text("limit"), MAX_TIMEOUT)?;
@@ -177,7 +181,7 @@ fn push_run(out: &mut ExampleOutput, row: &Example<'_>, scene: &Scene) -> Result
     let run = run_plan(row, scene)?;
     for word in row.text("show").unwrap_or("entries").split_whitespace() {
         out.separate("\n");
-        push_shown(out, word, &run)?;
+        push_run_part(out, word, &run)?;
     }
     if let Some(fault) = run.fault {
         out.line(fault);
@@ -192,7 +196,7 @@ fn plan(out: &mut ExampleOutput, row: &Example<'_>, mut scene: Scene) -> Result<
     }
     for line in row.entries.as_slice() {
         if line.word == "fails" {
-            scene.failing = failing_of(line.text)?;
+            scene.failing = parse_call_range(line.text)?;
             push_run(out, row, &scene)?;
         }
     }
@@ -201,7 +205,7 @@ fn plan(out: &mut ExampleOutput, row: &Example<'_>, mut scene: Scene) -> Result<
 
 /// Lists the cases of a program by a new driver over `os`. Returns the system and the listing, or
 /// `None` if the driver can't be created.
-fn asked_for_list<O: Os + Drop>(
+fn list_over_system<O: Os + Drop>(
     alloc: Global,
     os: O,
     base: &Text,
@@ -253,7 +257,7 @@ fn listed<'a>(
     let (program, variables) = both(program_of(alloc), variables)?;
     let (base, source) = texts_of(alloc, row.text("base").unwrap_or(""), "/t")?;
     let os = ScriptedSystem::new(scene);
-    Ok(asked_for_list(alloc, os, &base, source, &program, &variables))
+    Ok(list_over_system(alloc, os, &base, source, &program, &variables))
 }
 
 /// Lists the cases of a program, and appends the first words of the calls and the result. With
@@ -274,7 +278,7 @@ fn list(out: &mut ExampleOutput, row: &Example<'_>, scene: &Scene) -> Result<()>
 /// as a Kyuafile. Returns `None` if the read fails.
 fn front(alloc: Global, file: &mut EndlessReader, limit: Option<u64>) -> Option<(usize, bool)> {
     let Some(limit) = limit else {
-        let bytes = read_start(alloc, file, MACHINE_LIMIT).ok()?;
+        let bytes = read_start(alloc, file, SCRIPT_READ_BYTES).ok()?;
         return Some((bytes.len(), false));
     };
     match read_front(alloc, file, limit) {
@@ -310,7 +314,7 @@ fn read(out: &mut ExampleOutput, row: &Example<'_>) -> Result<()> {
 ///
 /// # Errors
 ///
-/// - `Misspelled`: a line is missing or invalid.
+/// - `InvalidExample`: a line is missing or invalid.
 /// - `NoMemory`: an allocation failed.
 pub fn answer(out: &mut ExampleOutput, row: &Example<'_>) -> Result<()> {
     let scene = scene_of(out.alloc, row)?;
@@ -318,6 +322,6 @@ pub fn answer(out: &mut ExampleOutput, row: &Example<'_>) -> Result<()> {
         "plan" => plan(out, row, scene),
         "list" => list(out, row, &scene),
         "reader" => read(out, row),
-        _ => Err(ExampleFault::Misspelled("nothing like that is asked of a system")),
+        _ => Err(ExampleFault::InvalidExample("nothing like that is asked of a system")),
     }
 }

@@ -3,9 +3,9 @@
 use crate::answer::ExampleOutput;
 use crate::escapes::unescaped;
 use crate::example_fault::{ExampleFault, Result, asked, both, due, halves};
-use crate::properties::{push_props, set_known};
-use crate::row::{Example, append, with_numbered};
-use crate::verdicts::{ending_of, push_reason, refused_of};
+use crate::properties::{push_props, set_valid_property};
+use crate::row::{Example, append, append_copies};
+use crate::verdicts::{ending_of, parse_refusal, push_reason};
 use kt_atflist::{CaseDef, ListBytes, Listing, cases, parse_list};
 use kt_base::{Bytes, Interface, Items, Verdict};
 use kt_metadata::Props;
@@ -15,7 +15,7 @@ use std::alloc::Global;
 pub const HEADER: &str = "Content-Type: application/X-atf-tp; version=\"1\"\n\n";
 
 /// Returns a list of ATF test cases: the header, and then `blocks` with its escapes decoded.
-fn after_header(alloc: Global, blocks: &str) -> Result<Vec<u8>> {
+fn list_with_header(alloc: Global, blocks: &str) -> Result<Vec<u8>> {
     let mut text = HEADER.as_bytes().to_vec(alloc)?;
     append(alloc, &mut text, blocks)?;
     Ok(text)
@@ -30,9 +30,9 @@ fn ended(ending: &str, text: Result<Vec<u8>>) -> Result<Listing> {
 
 /// Parses the listing of a program: `refused CAUSE`, or an outcome and then `blocks TEXT`,
 /// `list TEXT`, `unreadable` or `too-long`.
-fn listing_of(alloc: Global, text: &str) -> Result<Listing> {
+fn parse_listing(alloc: Global, text: &str) -> Result<Listing> {
     if let Some(cause) = text.strip_prefix("refused ") {
-        return refused_of(cause).map(Listing::Refused);
+        return parse_refusal(cause).map(Listing::Refused);
     }
     if let Some(ending) = text.strip_suffix(" unreadable") {
         return Ok(Listing::Ended(ending_of(ending)?, ListBytes::Unreadable));
@@ -41,7 +41,7 @@ fn listing_of(alloc: Global, text: &str) -> Result<Listing> {
         return Ok(Listing::Ended(ending_of(ending)?, ListBytes::TooLong));
     }
     if let Some((ending, blocks)) = text.split_once(" blocks ") {
-        return ended(ending, after_header(alloc, blocks));
+        return ended(ending, list_with_header(alloc, blocks));
     }
     let (ending, list) = halves(text, " list ", "an ending stands before a list")?;
     ended(ending, unescaped(alloc, list))
@@ -79,16 +79,16 @@ fn list_text(alloc: Global, row: &Example<'_>) -> Result<Vec<u8>> {
         return unescaped(alloc, text);
     }
     let blocks = due(row.text("blocks"), "no list")?;
-    with_numbered(alloc, after_header(alloc, blocks), row)
+    append_copies(alloc, list_with_header(alloc, blocks), row)
 }
 
 /// Parses the interface of a test program: `atf`, `tap` or `plain`.
-fn interface_of(word: &str) -> Result<Interface> {
+fn parse_interface(word: &str) -> Result<Interface> {
     match word {
         "atf" => Ok(Interface::Atf),
         "tap" => Ok(Interface::Tap),
         "plain" => Ok(Interface::Plain),
-        _ => Err(ExampleFault::Misspelled("no such interface")),
+        _ => Err(ExampleFault::InvalidExample("no such interface")),
     }
 }
 
@@ -99,12 +99,12 @@ fn program_cases(alloc: Global, row: &Example<'_>, word: &str) -> Result<Items<C
     let mut lists = "exited 0 unreadable";
     for line in row.entries.as_slice() {
         match line.word {
-            "set" => set_known(alloc, &mut props, line.text)?,
+            "set" => set_valid_property(alloc, &mut props, line.text)?,
             "lists" => lists = line.text,
             _ => {}
         }
     }
-    let (listing, interface) = both(listing_of(alloc, lists), interface_of(word))?;
+    let (listing, interface) = both(parse_listing(alloc, lists), parse_interface(word))?;
     asked(cases(alloc, interface, &props, &Some(listing)))
 }
 
@@ -112,7 +112,7 @@ fn program_cases(alloc: Global, row: &Example<'_>, word: &str) -> Result<Items<C
 ///
 /// # Errors
 ///
-/// - `Misspelled`: a line is missing or invalid.
+/// - `InvalidExample`: a line is missing or invalid.
 /// - `NoMemory`: an allocation failed.
 pub fn answer(out: &mut ExampleOutput, row: &Example<'_>) -> Result<()> {
     if let Some(word) = row.text("program") {

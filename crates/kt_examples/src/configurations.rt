@@ -2,7 +2,7 @@ use crate::answer::ExampleOutput;
 use crate::escapes::{text_of, unescaped};
 use crate::example_fault::{ExampleFault, Result, both, halves};
 use crate::retried;
-use crate::row::{Example, ExampleLine, pair_of, with_numbered};
+use crate::row::{Example, ExampleLine, append_copies, parse_pair};
 use kt_base::Text;
 use kt_config::{Config, ConfigFault, SuiteVariables};
 
@@ -37,7 +37,7 @@ fn push_value(out: &mut ExampleOutput, config: &Config, text: &str) -> Result<()
 
 /// Sets the variable `NAME=VALUE` of a configuration, and appends `set` or the error's message.
 fn set(out: &mut ExampleOutput, config: &mut Config, text: &str) -> Result<()> {
-    let pair = pair_of(out.alloc, text)?;
+    let pair = parse_pair(out.alloc, text)?;
     match retried!(ConfigFault, config.set(&pair.name, &pair.value)) {
         Ok(()) => out.push("set"),
         Err(fault) => write!(out, "{fault}"),
@@ -55,13 +55,13 @@ fn push_told(out: &mut ExampleOutput, config: &mut Config, line: &ExampleLine<'_
         "parallelism" => write!(out, "{}", config.parallelism()),
         "architecture" => out.push(config.architecture()),
         "platform" => out.push(config.platform()),
-        _ => return Err(ExampleFault::Misspelled("no such word")),
+        _ => return Err(ExampleFault::InvalidExample("no such word")),
     }
     Ok(())
 }
 
 /// Executes the lines of an example on a configuration, and appends their outputs.
-fn push_answers(out: &mut ExampleOutput, mut config: Config, row: &Example<'_>) -> Result<()> {
+fn push_line_outputs(out: &mut ExampleOutput, mut config: Config, row: &Example<'_>) -> Result<()> {
     for line in row.entries.as_slice() {
         if !matches!(line.word, "file" | "numbered") {
             push_told(out, &mut config, line)?;
@@ -76,15 +76,15 @@ fn push_answers(out: &mut ExampleOutput, mut config: Config, row: &Example<'_>) 
 ///
 /// # Errors
 ///
-/// - `Misspelled`: a line is invalid.
+/// - `InvalidExample`: a line is invalid.
 /// - `NoMemory`: an allocation failed.
 pub fn answer(out: &mut ExampleOutput, row: &Example<'_>) -> Result<()> {
     let Some(file) = row.text("file") else {
-        return push_answers(out, Config::new(out.alloc), row);
+        return push_line_outputs(out, Config::new(out.alloc), row);
     };
-    let file = with_numbered(out.alloc, unescaped(out.alloc, file), row)?;
+    let file = append_copies(out.alloc, unescaped(out.alloc, file), row)?;
     match Config::read(out.alloc, &file) {
-        Ok(config) => return push_answers(out, config, row),
+        Ok(config) => return push_line_outputs(out, config, row),
         Err(fault) => write!(out, "{fault}"),
     }
     Ok(())

@@ -3,11 +3,11 @@
 ghost use Rattle.std.specs.Prelude.{◌≤◌, IfOk};
 
 use crate::answer::ExampleOutput;
-use crate::escapes::{lossy_of, unescaped};
+use crate::escapes::{unescape_lossy, unescaped};
 use crate::example_fault::{ExampleFault, Result, both, due, push_made};
 use crate::row::{Example, ExampleLine, number_in, pairs_of, text_in};
 use crate::verdicts::push_verdict;
-use kt_base::{Bytes, Entry, Items, Kind, LATEST_MOMENT, Output, Run, Verdict};
+use kt_base::{Bytes, Entry, Items, Kind, LATEST_MOMENT_MILLIS, Output, Run, Verdict};
 use std::alloc::Global;
 
 /// Returns the decoded bytes after the keyword `word` in `lines`, or no bytes without such a line.
@@ -27,7 +27,7 @@ fn output_in(alloc: Global, lines: &[ExampleLine<'_>], out: &str, err: &str) -> 
 ///
 /// # Errors
 ///
-/// - `Misspelled`: `word` isn't one of these kinds.
+/// - `InvalidExample`: `word` isn't one of these kinds.
 pub fn kind_of(word: &str) -> Result<Kind> {
     match word {
         "passed" => Ok(Kind::Passed),
@@ -35,7 +35,7 @@ pub fn kind_of(word: &str) -> Result<Kind> {
         "expected_failure" => Ok(Kind::ExpectedFailure),
         "failed" => Ok(Kind::Failed),
         "broken" => Ok(Kind::Broken),
-        _ => Err(ExampleFault::Misspelled("no such kind")),
+        _ => Err(ExampleFault::InvalidExample("no such kind")),
     }
 }
 
@@ -43,9 +43,9 @@ pub fn kind_of(word: &str) -> Result<Kind> {
 ///
 /// # Errors
 ///
-/// - `Misspelled`: an element isn't a verdict's kind.
+/// - `InvalidExample`: an element isn't a verdict's kind.
 /// - `NoMemory`: an allocation failed.
-pub fn kinds_of(alloc: Global, words: &str) -> Result<Vec<Kind>> {
+pub fn parse_verdict_kinds(alloc: Global, words: &str) -> Result<Vec<Kind>> {
     let mut kinds = Vec::new(alloc);
     for word in words.split_whitespace() {
         push_made(&mut kinds, kind_of(word))?;
@@ -54,9 +54,9 @@ pub fn kinds_of(alloc: Global, words: &str) -> Result<Vec<Kind>> {
 }
 
 /// Parses a verdict such as `failed: x`. The reason is empty without `: `.
-fn verdict_of(alloc: Global, text: &str) -> Result<Verdict> {
+fn parse_verdict(alloc: Global, text: &str) -> Result<Verdict> {
     let (word, reason) = text.split_once(": ").unwrap_or((text, ""));
-    Ok(Verdict::of(kind_of(word)?, lossy_of(alloc, reason)?))
+    Ok(Verdict::of(kind_of(word)?, unescape_lossy(alloc, reason)?))
 }
 
 /// Creates the entry at `position` with the verdict `verdict` from the lines that describe the
@@ -69,13 +69,16 @@ fn entry_of(
     verdict: &str,
     position: u32,
 ) -> Result<Entry> {
-    let program = lossy_of(alloc, text_in(content, "program").unwrap_or("a"));
-    let case_name = lossy_of(alloc, text_in(content, "case").unwrap_or("main"));
+    let program = unescape_lossy(alloc, text_in(content, "program").unwrap_or("a"));
+    let case_name = unescape_lossy(alloc, text_in(content, "case").unwrap_or("main"));
     let started = number_in(content, "started", 0);
     let times = both(started, number_in(content, "took", 0));
     let body = output_in(alloc, content, "out", "err");
     let cleanup = output_in(alloc, content, "cleanup-out", "cleanup-err");
-    let said = both(verdict_of(alloc, verdict), pairs_of(alloc, content, "meta"));
+    let said = both(
+        parse_verdict(alloc, verdict),
+        pairs_of(alloc, content, "meta"),
+    );
     let named = both(both(program, case_name), times);
     let (named, said) = both(named, both(both(body, cleanup), said))?;
     let ((program, case_name), (started, millis)) = named;
@@ -94,11 +97,11 @@ fn entry_of(
 }
 
 /// Creates an entry that a store accepts: its start time and its duration are at most
-/// `LATEST_MOMENT`. The entry has the position `at`, and `lines` describe it.
+/// `LATEST_MOMENT_MILLIS`. The entry has the position `at`, and `lines` describe it.
 ///
 /// # Errors
 ///
-/// - `Misspelled`: the verdict or a line is invalid.
+/// - `InvalidExample`: the verdict or a line is invalid.
 /// - `NoMemory`: an allocation failed.
 pub fn storable_entry(
     alloc: Global,
@@ -109,13 +112,13 @@ pub fn storable_entry(
     ensures { IfOk result (λ e. (e.started ≤ 253402300799999) × (e.millis ≤ 253402300799999)) }
 {
     let mut entry = entry_of(alloc, lines, verdict, at)?;
-    entry.started = entry.started.min(LATEST_MOMENT);
-    entry.millis = entry.millis.min(LATEST_MOMENT);
+    entry.started = entry.started.min(LATEST_MOMENT_MILLIS);
+    entry.millis = entry.millis.min(LATEST_MOMENT_MILLIS);
     Ok(entry)
 }
 
 /// Returns `true` if a line describes the entry above it, by a keyword such as `program` or `out`.
-pub fn is_content(line: &ExampleLine<'_>) -> bool {
+pub fn is_entry_line(line: &ExampleLine<'_>) -> bool {
     match line.word {
         "program" | "case" | "started" | "took" | "meta" | "times" => true,
         "out" | "err" | "cleanup-out" | "cleanup-err" => true,
@@ -126,7 +129,7 @@ pub fn is_content(line: &ExampleLine<'_>) -> bool {
 /// Returns the lines directly below the entry at index `place` that describe the entry.
 pub fn content_at<'a, 'b>(lines: &'b [ExampleLine<'a>], place: usize) -> &'b [ExampleLine<'a>] {
     let (_, rest) = lines.split_at(place.saturating_add(1).min(lines.len()));
-    let length = rest.iter().take_while(|line| is_content(*line)).count();
+    let length = rest.iter().take_while(|line| is_entry_line(*line)).count();
     rest.split_at(length.min(rest.len())).0
 }
 
@@ -165,7 +168,7 @@ fn entries_in(alloc: Global, lines: &[ExampleLine<'_>]) -> Result<Items<Entry>> 
 ///
 /// # Errors
 ///
-/// - `Misspelled`: a line is invalid, or there are 2^32 entries or more.
+/// - `InvalidExample`: a line is invalid, or there are 2^32 entries or more.
 /// - `NoMemory`: an allocation failed.
 pub fn run_of(alloc: Global, row: &Example<'_>) -> Result<Run> {
     let (number, started) = both(row.number("run", 1), row.number("at", 0))?;

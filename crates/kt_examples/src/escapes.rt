@@ -24,7 +24,7 @@ fn hex(b: Option<u8>) -> Result<u32> {
 /// Appends `times` copies of `piece`, of at most 32 MiB together.
 fn push_times(text: &mut Vec<u8>, piece: &[u8], times: usize) -> Result<()> {
     if piece.len().saturating_mul(times) > LIMIT {
-        return Err(ExampleFault::Misspelled("a text past 32 MiB"));
+        return Err(ExampleFault::InvalidExample("a text past 32 MiB"));
     }
     if let [b] = piece {
         return asked(text.resize(text.len().saturating_add(times), *b));
@@ -73,7 +73,7 @@ impl Unescaper<'_> {
                 _ => break,
             }
         }
-        Err(ExampleFault::Misspelled("\\* without a number and a text in braces"))
+        Err(ExampleFault::InvalidExample("\\* without a number and a text in braces"))
     }
 
     /// Decodes an escape after its backslash.
@@ -86,7 +86,7 @@ impl Unescaper<'_> {
             Some(b'r') => b'\r',
             Some(b's') => b' ',
             Some(b @ (b'\\' | b'}')) => b,
-            _ => return Err(ExampleFault::Misspelled("no such escape")),
+            _ => return Err(ExampleFault::InvalidExample("no such escape")),
         };
         asked(self.text.push(b))
     }
@@ -109,7 +109,7 @@ impl Unescaper<'_> {
 ///
 /// # Errors
 ///
-/// - `Misspelled`: an escape is invalid, a brace isn't closed, or a repetition makes more than 32
+/// - `InvalidExample`: an escape is invalid, a brace isn't closed, or a repetition makes more than 32
 ///   MiB.
 /// - `NoMemory`: an allocation failed.
 pub fn unescaped(alloc: Global, raw: &str) -> Result<Vec<u8>> {
@@ -125,7 +125,7 @@ pub fn unescaped(alloc: Global, raw: &str) -> Result<Vec<u8>> {
         }
     }
     if reader.open.is_some() {
-        return Err(ExampleFault::Misspelled("braces that aren't closed"));
+        return Err(ExampleFault::InvalidExample("braces that aren't closed"));
     }
     Ok(reader.text)
 }
@@ -134,13 +134,13 @@ pub fn unescaped(alloc: Global, raw: &str) -> Result<Vec<u8>> {
 ///
 /// # Errors
 ///
-/// - `Misspelled`: an escape is invalid, a brace isn't closed, a repetition makes more than 32 MiB,
+/// - `InvalidExample`: an escape is invalid, a brace isn't closed, a repetition makes more than 32 MiB,
 ///   or the decoded bytes aren't UTF-8.
 /// - `NoMemory`: an allocation failed.
 pub fn text_of(alloc: Global, raw: &str) -> Result<Text> {
     match String::from_utf8(unescaped(alloc, raw)?) {
         Ok(string) => Ok(Text::from_string(string)),
-        Err(_) => Err(ExampleFault::Misspelled("a text is UTF-8")),
+        Err(_) => Err(ExampleFault::InvalidExample("a text is UTF-8")),
     }
 }
 
@@ -148,9 +148,9 @@ pub fn text_of(alloc: Global, raw: &str) -> Result<Text> {
 ///
 /// # Errors
 ///
-/// - `Misspelled`: an escape is invalid, a brace isn't closed, or a repetition makes more than 32
+/// - `InvalidExample`: an escape is invalid, a brace isn't closed, or a repetition makes more than 32
 ///   MiB.
 /// - `NoMemory`: an allocation failed.
-pub fn lossy_of(alloc: Global, raw: &str) -> Result<Text> {
+pub fn unescape_lossy(alloc: Global, raw: &str) -> Result<Text> {
     Ok(lossy(alloc, &unescaped(alloc, raw)?)?)
 }

@@ -9,7 +9,7 @@ pub enum ExampleFault {
     /// An allocation failed.
     NoMemory(NoMemory),
     /// The example doesn't have the format of its subject. The text describes the error.
-    Misspelled(&'static str),
+    InvalidExample(&'static str),
 }
 
 impl ExampleFault {
@@ -17,7 +17,7 @@ impl ExampleFault {
     pub fn text(self) -> &'static str {
         match self {
             ExampleFault::NoMemory(_) => "out of memory",
-            ExampleFault::Misspelled(text) => text,
+            ExampleFault::InvalidExample(text) => text,
         }
     }
 }
@@ -49,25 +49,26 @@ where
 ///
 /// # Errors
 ///
-/// - `Misspelled`: `found` is `None`. The error's text is `fault`.
+/// - `InvalidExample`: `found` is `None`. The error's text is `fault`.
 pub fn due<T>(found: Option<T>, fault: &'static str) -> Result<T> {
-    found.ok_or(ExampleFault::Misspelled(fault))
+    found.ok_or(ExampleFault::InvalidExample(fault))
 }
 
 /// Returns the parts of `text` before and after the first `sign`. Allocates nothing.
 ///
 /// # Errors
 ///
-/// - `Misspelled`: `text` doesn't contain `sign`. The error's text is `fault`.
+/// - `InvalidExample`: `text` doesn't contain `sign`. The error's text is `fault`.
 pub fn halves<'a>(text: &'a str, sign: &str, fault: &'static str) -> Result<(&'a str, &'a str)> {
-    text.split_once(sign).ok_or(ExampleFault::Misspelled(fault))
+    text.split_once(sign)
+        .ok_or(ExampleFault::InvalidExample(fault))
 }
 
 /// Appends `value` to `values`, unless it is an error.
 ///
 /// # Errors
 ///
-/// - `Misspelled` or `NoMemory`: `value` is this error.
+/// - `InvalidExample` or `NoMemory`: `value` is this error.
 /// - `NoMemory`: the allocation for `values` failed.
 pub fn push_made<T: Drop>(values: &mut Vec<T>, value: Result<T>) -> Result<()> {
     asked(values.push(value?))
@@ -77,7 +78,7 @@ pub fn push_made<T: Drop>(values: &mut Vec<T>, value: Result<T>) -> Result<()> {
 ///
 /// # Errors
 ///
-/// - `Misspelled` or `NoMemory`: the error of `first`, or else that of `second`.
+/// - `InvalidExample` or `NoMemory`: the error of `first`, or else that of `second`.
 pub fn both<A: Drop, B: Drop>(first: Result<A>, second: Result<B>) -> Result<(A, B)> {
     Ok((first?, second?))
 }

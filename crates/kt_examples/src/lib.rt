@@ -20,8 +20,8 @@ mod verdicts;
 
 pub use answer::ExampleOutput;
 pub use case_lists::HEADER;
-pub use entries::{content_at, is_content, kind_of, push_entries, storable_entry};
-pub use escapes::{lossy_of, text_of, unescaped};
+pub use entries::{content_at, is_entry_line, kind_of, push_entries, storable_entry};
+pub use escapes::{text_of, unescape_lossy, unescaped};
 pub use example_fault::{ExampleFault, Result, asked, both, due, halves, push_made};
 pub use numbers::{count, number, number_to, numbered, numbers_of};
 pub use properties::push_props;
@@ -34,7 +34,7 @@ pub use verdicts::{ending_of, push_reason, push_verdict};
 ///
 /// # Errors
 ///
-/// - `Misspelled`: this crate has no such subject, or `row` doesn't have the format of its subject.
+/// - `InvalidExample`: this crate has no such subject, or `row` doesn't have the format of its subject.
 /// - `NoMemory`: an allocation failed. A failed append to `out` is returned by
 ///   [`ExampleOutput::end`] instead.
 pub fn push_answer(out: &mut ExampleOutput, subject: &str, row: &Example<'_>) -> Result<()> {
@@ -47,6 +47,6 @@ pub fn push_answer(out: &mut ExampleOutput, subject: &str, row: &Example<'_>) ->
         "scripts" => scripts::answer(out, row),
         "taps" => streams::answer(out, row, "tap"),
         "verdicts" => verdicts::answer(out, row),
-        _ => Err(ExampleFault::Misspelled("no such subject")),
+        _ => Err(ExampleFault::InvalidExample("no such subject")),
     }
 }

@@ -7,7 +7,7 @@ use std::alloc::Global;
 ///
 /// # Errors
 ///
-/// - `Misspelled`: `text` isn't such a number.
+/// - `InvalidExample`: `text` isn't such a number.
 pub fn number(text: &str) -> Result<u64> {
     due(text.parse::<u64>().ok(), "a number is due")
 }
@@ -16,7 +16,7 @@ pub fn number(text: &str) -> Result<u64> {
 ///
 /// # Errors
 ///
-/// - `Misspelled`: `text` isn't such a number.
+/// - `InvalidExample`: `text` isn't such a number.
 pub fn count(text: &str) -> Result<u32> {
     due(text.parse::<u32>().ok(), "a number below 2^32 is due")
 }
@@ -25,8 +25,8 @@ pub fn count(text: &str) -> Result<u32> {
 ///
 /// # Errors
 ///
-/// - `Misspelled`: `text` isn't such a number.
-pub fn set_number(place: &mut Option<u64>, text: &str) -> Result<()> {
+/// - `InvalidExample`: `text` isn't such a number.
+pub fn store_number(place: &mut Option<u64>, text: &str) -> Result<()> {
     *place = Some(number(text)?);
     Ok(())
 }
@@ -35,7 +35,7 @@ pub fn set_number(place: &mut Option<u64>, text: &str) -> Result<()> {
 ///
 /// # Errors
 ///
-/// - `Misspelled`: an element isn't a number from 0 to 2^64 - 1.
+/// - `InvalidExample`: an element isn't a number from 0 to 2^64 - 1.
 /// - `NoMemory`: an allocation failed.
 pub fn numbers_of(alloc: Global, text: &str) -> Result<Vec<u64>> {
     let mut numbers = Vec::new(alloc);
@@ -46,7 +46,7 @@ pub fn numbers_of(alloc: Global, text: &str) -> Result<Vec<u64>> {
 }
 
 /// Returns `text` with each `#` replaced by `number`.
-fn numbered_text(alloc: Global, text: &str, number: u32) -> Result<String> {
+fn numbered_copy(alloc: Global, text: &str, number: u32) -> Result<String> {
     let number = number.to_string(alloc)?;
     asked(text.replace(alloc, "#", number.as_str()))
 }
@@ -56,13 +56,13 @@ fn numbered_text(alloc: Global, text: &str, number: u32) -> Result<String> {
 ///
 /// # Errors
 ///
-/// - `Misspelled`: `raw` has no space, or COUNT isn't a number from 0 to 2^32 - 1.
+/// - `InvalidExample`: `raw` has no space, or COUNT isn't a number from 0 to 2^32 - 1.
 /// - `NoMemory`: an allocation failed.
 pub fn numbered(alloc: Global, raw: &str) -> Result<Vec<String>> {
     let (times, text) = halves(raw, " ", "a text stands after a number")?;
     let mut texts = Vec::new(alloc);
     for number in 0..count(times)? {
-        push_made(&mut texts, numbered_text(alloc, text, number))?;
+        push_made(&mut texts, numbered_copy(alloc, text, number))?;
     }
     Ok(texts)
 }
@@ -71,12 +71,12 @@ pub fn numbered(alloc: Global, raw: &str) -> Result<Vec<String>> {
 ///
 /// # Errors
 ///
-/// - `Misspelled`: the text isn't a number from 1 to `most`.
+/// - `InvalidExample`: the text isn't a number from 1 to `most`.
 pub fn number_to(text: Option<&str>, most: u32) -> Result<u32>
     ensures { IfOk result (λ n. (1 ≤ n) × (n ≤ most)) }
 {
     match text.unwrap_or("1").parse::<u32>() {
         Ok(number) if number >= 1 && number <= most => Ok(number),
-        _ => Err(ExampleFault::Misspelled("a number is out of its range")),
+        _ => Err(ExampleFault::InvalidExample("a number is out of its range")),
     }
 }

@@ -1,19 +1,21 @@
 use crate::answer::ExampleOutput;
 use crate::escapes::text_of;
 use crate::example_fault::{ExampleFault, Result, asked, both, due};
-use crate::numbers::{numbered, set_number};
+use crate::numbers::{numbered, store_number};
 use crate::retried;
-use crate::row::{Example, ExampleLine, pair_of};
+use crate::row::{Example, ExampleLine, parse_pair};
 use crate::verdicts::push_reason;
 use kt_base::{Text, Variables, Verdict};
 use kt_config::{Config, ConfigFault};
-use kt_metadata::{Host, Need, PropFault, Props, is_kyuafile_property, property_of_key, unmet};
+use kt_metadata::{
+    Host, Need, PropFault, Props, is_kyuafile_property, property_name_of_key, unmet,
+};
 use std::alloc::Global;
 
 /// The state of an example: the properties of a program and of its case, a configuration and a
 /// host.
 #[derive(Drop)]
-struct PropertyExample {
+struct PropertyState {
     program: Props,
     case: Props,
     config: Config,
@@ -22,7 +24,7 @@ struct PropertyExample {
 
 /// Sets the property `NAME=VALUE`, and appends the error's message if it is rejected.
 fn set_property(out: &mut ExampleOutput, props: &mut Props, raw: &str) -> Result<()> {
-    let pair = pair_of(out.alloc, raw)?;
+    let pair = parse_pair(out.alloc, raw)?;
     if let Err(fault) = retried!(PropFault, props.set(&pair.name, &pair.value)) {
         out.separate("\n");
         write!(out, "{fault}");
@@ -34,10 +36,10 @@ fn set_property(out: &mut ExampleOutput, props: &mut Props, raw: &str) -> Result
 ///
 /// # Errors
 ///
-/// - `Misspelled`: the property is rejected, or an escape is invalid.
+/// - `InvalidExample`: the property is rejected, or an escape is invalid.
 /// - `NoMemory`: an allocation failed.
-pub fn set_known(alloc: Global, props: &mut Props, raw: &str) -> Result<()> {
-    let pair = pair_of(alloc, raw)?;
+pub fn set_valid_property(alloc: Global, props: &mut Props, raw: &str) -> Result<()> {
+    let pair = parse_pair(alloc, raw)?;
     let set = retried!(PropFault, props.set(&pair.name, &pair.value)).ok();
     due(set, "there is no such property or value")
 }
@@ -46,7 +48,7 @@ pub fn set_known(alloc: Global, props: &mut Props, raw: &str) -> Result<()> {
 /// property, from 0. Fails if a property is rejected.
 fn set_numbered(alloc: Global, props: &mut Props, raw: &str) -> Result<()> {
     for text in numbered(alloc, raw)?.as_slice() {
-        set_known(alloc, props, text.as_str())?;
+        set_valid_property(alloc, props, text.as_str())?;
     }
     Ok(())
 }
@@ -74,14 +76,14 @@ pub fn push_props(out: &mut ExampleOutput, props: &Props) -> Result<()> {
 
 /// Sets the variable `NAME=VALUE` of a configuration. Fails if the variable is rejected.
 fn set_variable(alloc: Global, config: &mut Config, raw: &str) -> Result<()> {
-    let pair = pair_of(alloc, raw)?;
+    let pair = parse_pair(alloc, raw)?;
     let set = retried!(ConfigFault, config.set(&pair.name, &pair.value)).ok();
     due(set, "there is no such variable")
 }
 
 /// Executes the query `show`, `count` or `listing` on the listed properties, and appends its
 /// output.
-fn push_of_listing(
+fn push_listing_query(
     out: &mut ExampleOutput,
     word: &str,
     name: &str,
@@ -91,12 +93,12 @@ fn push_of_listing(
         "show" => out.push(value_in(pairs, name).unwrap_or("-")),
         "count" => write!(out, "{}", pairs.len()),
         "listing" => out.pairs(pairs, "\n", " = "),
-        _ => return Err(ExampleFault::Misspelled("there is no such word")),
+        _ => return Err(ExampleFault::InvalidExample("there is no such word")),
     }
     Ok(())
 }
 
-impl PropertyExample {
+impl PropertyState {
     /// Appends the first unmet requirement of a case in the suite `s`, or `met`.
     fn push_unmet(&self, out: &mut ExampleOutput, props: &Props) -> Result<()> {
         let suite = Text::from_str(out.alloc, "s")?;
@@ -123,17 +125,17 @@ impl PropertyExample {
             "config" => return set_variable(alloc, &mut self.config, text),
             "file" => return self.note(alloc, Need::File, text),
             "program" => return self.note(alloc, Need::Program, text),
-            "memory" => return set_number(&mut self.host.memory, text),
-            "disk" => return set_number(&mut self.host.disk, text),
+            "memory" => return store_number(&mut self.host.memory, text),
+            "disk" => return store_number(&mut self.host.disk, text),
             "root" => self.host.root = true,
-            _ => return self.push_asked(out, line),
+            _ => return self.push_case_query(out, line),
         }
         Ok(())
     }
 
     /// Executes a query, and appends its output. The query reads the properties of the case, or of
     /// the program if the case doesn't set a property.
-    fn push_asked(&self, out: &mut ExampleOutput, line: &ExampleLine<'_>) -> Result<()> {
+    fn push_case_query(&self, out: &mut ExampleOutput, line: &ExampleLine<'_>) -> Result<()> {
         out.separate("\n");
         let props = asked(Props::overlay(&self.program, &self.case));
         let (name, props) = both(text_of(out.alloc, line.text), props)?;
@@ -150,14 +152,14 @@ impl PropertyExample {
     ) -> Result<()> {
         match word {
             "key" => {
-                let property = property_of_key(out.alloc, name)?;
+                let property = property_name_of_key(out.alloc, name)?;
                 out.push(property.as_ref().map_or("unknown", Text::as_str));
             }
             "kyuafile" if is_kyuafile_property(name) => out.push("yes"),
             "kyuafile" => out.push("no"),
             "get" => out.push(props.get(name).map_or("-", Text::as_str)),
             "unmet" => return self.push_unmet(out, props),
-            _ => return push_of_listing(out, word, name.as_str(), &props.listing()?),
+            _ => return push_listing_query(out, word, name.as_str(), &props.listing()?),
         }
         Ok(())
     }
@@ -168,10 +170,10 @@ impl PropertyExample {
 ///
 /// # Errors
 ///
-/// - `Misspelled`: a line is invalid.
+/// - `InvalidExample`: a line is invalid.
 /// - `NoMemory`: an allocation failed.
 pub fn answer(out: &mut ExampleOutput, row: &Example<'_>) -> Result<()> {
-    let mut example = PropertyExample {
+    let mut example = PropertyState {
         program: Props::new(out.alloc),
         case: Props::new(out.alloc),
         config: Config::new(out.alloc),

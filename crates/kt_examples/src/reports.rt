@@ -1,5 +1,5 @@
 use crate::answer::ExampleOutput;
-use crate::entries::{kinds_of, run_of};
+use crate::entries::{parse_verdict_kinds, run_of};
 use crate::example_fault::{ExampleFault, Result};
 use crate::row::Example;
 use crate::scripted_writer::ScriptedWriter;
@@ -23,7 +23,7 @@ fn print_text(
     page: &mut ScriptedWriter,
 ) -> Result<()> {
     let all = "failed broken expected_failure skipped passed";
-    let kinds = kinds_of(alloc, row.text("kinds").unwrap_or(all))?;
+    let kinds = parse_verdict_kinds(alloc, row.text("kinds").unwrap_or(all))?;
     let _ = kt_report::text(run, &kinds, row.text("verbose").is_some(), page);
     Ok(())
 }
@@ -57,7 +57,7 @@ fn print(
             page.failing = 1;
             print_junit(out, run, page);
         }
-        _ => return Err(ExampleFault::Misspelled("no such report")),
+        _ => return Err(ExampleFault::InvalidExample("no such report")),
     }
     Ok(())
 }
@@ -79,7 +79,7 @@ fn push_report(out: &mut ExampleOutput, row: &Example<'_>, run: &Run) -> Result<
 ///
 /// # Errors
 ///
-/// - `Misspelled`: a line is missing or invalid.
+/// - `InvalidExample`: a line is missing or invalid.
 /// - `NoMemory`: an allocation failed.
 pub fn answer(out: &mut ExampleOutput, row: &Example<'_>) -> Result<()> {
     push_report(out, row, &run_of(out.alloc, row)?)

@@ -1,4 +1,4 @@
-use crate::escapes::{lossy_of, unescaped};
+use crate::escapes::{unescape_lossy, unescaped};
 use crate::example_fault::{Result, asked, both, due};
 use crate::numbers::{number, numbered};
 use kt_base::{Variable, Variables};
@@ -36,7 +36,7 @@ pub fn text_in<'a>(lines: &[ExampleLine<'a>], word: &str) -> Option<&'a str> {
 ///
 /// # Errors
 ///
-/// - `Misspelled`: the text after the keyword isn't a number from 0 to 2^64 - 1.
+/// - `InvalidExample`: the text after the keyword isn't a number from 0 to 2^64 - 1.
 pub fn number_in(lines: &[ExampleLine<'_>], word: &str, other: u64) -> Result<u64> {
     text_in(lines, word).map_or(Ok(other), number)
 }
@@ -45,7 +45,7 @@ pub fn number_in(lines: &[ExampleLine<'_>], word: &str, other: u64) -> Result<u6
 ///
 /// # Errors
 ///
-/// - `Misspelled`: an escape or a repetition is invalid.
+/// - `InvalidExample`: an escape or a repetition is invalid.
 /// - `NoMemory`: an allocation failed.
 pub fn append(alloc: Global, bytes: &mut Vec<u8>, raw: &str) -> Result<()> {
     asked(bytes.extend_from_slice(&unescaped(alloc, raw)?))
@@ -56,11 +56,11 @@ pub fn append(alloc: Global, bytes: &mut Vec<u8>, raw: &str) -> Result<()> {
 ///
 /// # Errors
 ///
-/// - `Misspelled`: an escape or a repetition is invalid.
+/// - `InvalidExample`: an escape or a repetition is invalid.
 /// - `NoMemory`: an allocation failed.
-pub fn pair_of(alloc: Global, raw: &str) -> Result<Variable> {
+pub fn parse_pair(alloc: Global, raw: &str) -> Result<Variable> {
     let (name, value) = raw.split_once('=').unwrap_or((raw, ""));
-    let (name, value) = both(lossy_of(alloc, name), lossy_of(alloc, value))?;
+    let (name, value) = both(unescape_lossy(alloc, name), unescape_lossy(alloc, value))?;
     Ok(Variable { name, value })
 }
 
@@ -68,13 +68,13 @@ pub fn pair_of(alloc: Global, raw: &str) -> Result<Variable> {
 ///
 /// # Errors
 ///
-/// - `Misspelled`: an escape or a repetition is invalid.
+/// - `InvalidExample`: an escape or a repetition is invalid.
 /// - `NoMemory`: an allocation failed.
 pub fn pairs_of(alloc: Global, lines: &[ExampleLine<'_>], word: &str) -> Result<Variables> {
     let mut pairs = Variables::new(alloc);
     for line in lines {
         if line.word == word {
-            pairs.push(pair_of(alloc, line.text)?)?;
+            pairs.push(parse_pair(alloc, line.text)?)?;
         }
     }
     Ok(pairs)
@@ -85,7 +85,7 @@ impl<'a> Example<'a> {
     ///
     /// # Errors
     ///
-    /// - `Misspelled`: the example has no input.
+    /// - `InvalidExample`: the example has no input.
     pub fn first(&self) -> Result<ExampleLine<'a>> {
         due(self.entries.first().copied(), "the row is empty")
     }
@@ -101,7 +101,7 @@ impl<'a> Example<'a> {
     ///
     /// # Errors
     ///
-    /// - `Misspelled`: the text after the keyword isn't a number from 0 to 2^64 - 1.
+    /// - `InvalidExample`: the text after the keyword isn't a number from 0 to 2^64 - 1.
     pub fn number(&self, word: &str, other: u64) -> Result<u64> {
         number_in(self.entries.as_slice(), word, other)
     }
@@ -111,7 +111,7 @@ impl<'a> Example<'a> {
     ///
     /// # Errors
     ///
-    /// - `Misspelled`: an escape or a repetition is invalid.
+    /// - `InvalidExample`: an escape or a repetition is invalid.
     /// - `NoMemory`: an allocation failed.
     pub fn bytes(&self, alloc: Global, word: &str) -> Result<Option<Vec<u8>>> {
         self.text(word).map(|raw| unescaped(alloc, raw)).transpose()
@@ -121,10 +121,15 @@ impl<'a> Example<'a> {
     ///
     /// # Errors
     ///
-    /// - `Misspelled`: no line has the keyword (the error's text is `fault`), or an escape or a
+    /// - `InvalidExample`: no line has the keyword (the error's text is `fault`), or an escape or a
     ///   repetition is invalid.
     /// - `NoMemory`: an allocation failed.
-    pub fn due_bytes(&self, alloc: Global, word: &str, fault: &'static str) -> Result<Vec<u8>> {
+    pub fn required_bytes(
+        &self,
+        alloc: Global,
+        word: &str,
+        fault: &'static str,
+    ) -> Result<Vec<u8>> {
         unescaped(alloc, due(self.text(word), fault)?)
     }
 
@@ -132,7 +137,7 @@ impl<'a> Example<'a> {
     ///
     /// # Errors
     ///
-    /// - `Misspelled`: an escape or a repetition is invalid.
+    /// - `InvalidExample`: an escape or a repetition is invalid.
     /// - `NoMemory`: an allocation failed.
     pub fn wanted(&self, alloc: Global) -> Result<Vec<u8>> {
         unescaped(alloc, self.wanted.as_slice().join(alloc, "\n")?.as_str())
@@ -153,9 +158,9 @@ fn append_numbered(alloc: Global, bytes: &mut Vec<u8>, raw: &str) -> Result<()> 
 ///
 /// # Errors
 ///
-/// - `Misspelled`: a line or an escape is invalid, or `bytes` is this error.
+/// - `InvalidExample`: a line or an escape is invalid, or `bytes` is this error.
 /// - `NoMemory`: an allocation failed, or `bytes` is this error.
-pub fn with_numbered(alloc: Global, bytes: Result<Vec<u8>>, row: &Example<'_>) -> Result<Vec<u8>> {
+pub fn append_copies(alloc: Global, bytes: Result<Vec<u8>>, row: &Example<'_>) -> Result<Vec<u8>> {
     let mut bytes = bytes?;
     for line in row.entries.as_slice() {
         if line.word == "numbered" {

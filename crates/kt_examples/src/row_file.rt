@@ -27,20 +27,20 @@ fn is_open(rows: &[Example<'_>]) -> bool {
 }
 
 /// Appends a line to the expected output of the last example.
-fn take_answer<'a>(rows: &mut Vec<Example<'a>>, wanted: &'a str) -> Result<()> {
-    let fault = ExampleFault::Misspelled("an answer without a question");
+fn push_output_line<'a>(rows: &mut Vec<Example<'a>>, wanted: &'a str) -> Result<()> {
+    let fault = ExampleFault::InvalidExample("an answer without a question");
     asked(rows.last_mut().ok_or(fault)?.wanted.push(wanted))
 }
 
 /// Appends a line to the input of the last example, and the text after its arrow to the expected
 /// output.
-fn take_question<'a>(rows: &mut Vec<Example<'a>>, line: &'a str) -> Result<()> {
+fn push_input_line<'a>(rows: &mut Vec<Example<'a>>, line: &'a str) -> Result<()> {
     let (front, wanted) = parts(line);
     if let Some(row) = rows.last_mut() {
         row.entries.push(entry_of(front))?;
     }
     match wanted {
-        Some(wanted) => take_answer(rows, wanted),
+        Some(wanted) => push_output_line(rows, wanted),
         None => Ok(()),
     }
 }
@@ -52,7 +52,7 @@ fn take<'a>(alloc: Global, rows: &mut Vec<Example<'a>>, line: u64, text: &'a str
         return Ok(());
     }
     if let Some(wanted) = text.strip_prefix("->") {
-        return take_answer(rows, wanted.trim());
+        return push_output_line(rows, wanted.trim());
     }
     if !is_open(rows) {
         rows.push(Example {
@@ -61,7 +61,7 @@ fn take<'a>(alloc: Global, rows: &mut Vec<Example<'a>>, line: u64, text: &'a str
             wanted: Vec::new(alloc),
         })?;
     }
-    take_question(rows, text)
+    push_input_line(rows, text)
 }
 
 /// Parses the text of a `.rows` file into its examples.
@@ -70,7 +70,7 @@ fn take<'a>(alloc: Global, rows: &mut Vec<Example<'a>>, line: u64, text: &'a str
 ///
 /// Each error comes with the number of its line, counted from 1.
 ///
-/// - `Misspelled`: expected output precedes all input, or the last example has no expected output.
+/// - `InvalidExample`: expected output precedes all input, or the last example has no expected output.
 /// - `NoMemory`: an allocation failed.
 pub fn read_rows<'a>(
     alloc: Global,
@@ -87,7 +87,7 @@ pub fn read_rows<'a>(
     if is_open(&rows) {
         return Err((
             number,
-            ExampleFault::Misspelled("the last row has no answer"),
+            ExampleFault::InvalidExample("the last row has no answer"),
         ));
     }
     Ok(rows)

@@ -55,10 +55,13 @@ fn push_stmts(out: &mut ExampleOutput, stmts: &[Stmt]) {
 ///
 /// # Errors
 ///
-/// - `Misspelled`: the line is missing, or an escape is invalid.
+/// - `InvalidExample`: the line is missing, or an escape is invalid.
 /// - `NoMemory`: an allocation failed.
 pub fn answer(out: &mut ExampleOutput, row: &Example<'_>) -> Result<()> {
-    match parse(out.alloc, &row.due_bytes(out.alloc, "script", "no script")?) {
+    match parse(
+        out.alloc,
+        &row.required_bytes(out.alloc, "script", "no script")?,
+    ) {
         Ok(stmts) => push_stmts(out, stmts.as_slice()),
         Err(fault) => write!(out, "{fault:?}"),
     }

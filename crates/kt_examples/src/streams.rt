@@ -9,7 +9,7 @@ use kt_claim::{Claim, ClaimReader, Tap, TapReader, read_claim, read_tap};
 use std::alloc::Global;
 
 /// The maximum length, in bytes, of an input that is split at each position.
-const LONG: usize = 1_000;
+const MAX_SPLIT_BYTES: usize = 1_000;
 
 /// A reader of a result file or of a TAP stream in pieces.
 #[derive(Drop)]
@@ -104,7 +104,13 @@ fn whole_text(alloc: Global, word: &str, bytes: &[u8]) -> Result<String> {
 
 /// Returns the output for `bytes` that are read in pieces: the first has `first` bytes, the others
 /// have at most `rest`.
-fn cut_text(alloc: Global, word: &str, bytes: &[u8], first: usize, rest: usize) -> Result<String> {
+fn text_in_pieces(
+    alloc: Global,
+    word: &str,
+    bytes: &[u8],
+    first: usize,
+    rest: usize,
+) -> Result<String> {
     let mut reader = Reader::new(alloc, word);
     reader.take_pieces(bytes, first, rest)?;
     let mut out = ExampleOutput::new(alloc);
@@ -114,14 +120,14 @@ fn cut_text(alloc: Global, word: &str, bytes: &[u8], first: usize, rest: usize) 
 
 /// Returns `true` if reading `bytes` in two pieces, split at `cut`, gives the output `whole`.
 /// Appends the output if it differs.
-fn push_cut(
+fn push_if_split_differs(
     out: &mut ExampleOutput,
     word: &str,
     bytes: &[u8],
     cut: usize,
     whole: &str,
 ) -> Result<bool> {
-    let other = cut_text(out.alloc, word, bytes, cut, bytes.len())?;
+    let other = text_in_pieces(out.alloc, word, bytes, cut, bytes.len())?;
     let agrees = other.as_str() == whole;
     if !agrees {
         write!(out, "cut at {cut}: {other}");
@@ -132,14 +138,18 @@ fn push_cut(
 /// Appends the output for `bytes` that are read byte by byte, if each split into two pieces gives
 /// the output `whole`. Otherwise appends the first output that differs. Input of more than 1,000
 /// bytes is split only at its beginning.
-fn push_agreed(out: &mut ExampleOutput, word: &str, bytes: &[u8], whole: &str) -> Result<()> {
-    let cuts = if bytes.len() > LONG { 1 } else { bytes.len() };
+fn push_checked_text(out: &mut ExampleOutput, word: &str, bytes: &[u8], whole: &str) -> Result<()> {
+    let cuts = if bytes.len() > MAX_SPLIT_BYTES {
+        1
+    } else {
+        bytes.len()
+    };
     for cut in 0..cuts {
-        if !push_cut(out, word, bytes, cut, whole)? {
+        if !push_if_split_differs(out, word, bytes, cut, whole)? {
             return Ok(());
         }
     }
-    let other = cut_text(out.alloc, word, bytes, 0, 1)?;
+    let other = text_in_pieces(out.alloc, word, bytes, 0, 1)?;
     if other.as_str() != whole {
         out.push("byte by byte: ");
     }
@@ -164,12 +174,12 @@ fn push_pieces(out: &mut ExampleOutput, row: &Example<'_>, word: &str) -> Result
 ///
 /// # Errors
 ///
-/// - `Misspelled`: an escape is invalid.
+/// - `InvalidExample`: an escape is invalid.
 /// - `NoMemory`: an allocation failed.
 pub fn answer(out: &mut ExampleOutput, row: &Example<'_>, word: &str) -> Result<()> {
     let Some(bytes) = row.bytes(out.alloc, word)? else {
         return push_pieces(out, row, word);
     };
     let whole = whole_text(out.alloc, word, &bytes)?;
-    push_agreed(out, word, &bytes, whole.as_str())
+    push_checked_text(out, word, &bytes, whole.as_str())
 }

@@ -26,14 +26,14 @@ pub fn push_verdict(out: &mut ExampleOutput, verdict: &Verdict) {
 }
 
 /// Returns the reason of a verdict, as `print_reason` prints it to a writer.
-fn printed_reason(alloc: Global, verdict: &Verdict) -> Result<String> {
+fn print_reason_text(alloc: Global, verdict: &Verdict) -> Result<String> {
     let mut page = ScriptedWriter::new(alloc);
     let _ = verdict.print_reason(&mut page);
     asked(page.text(alloc))
 }
 
 /// Returns the reason of a verdict, as `write_reason` appends it to the text `so: `.
-fn written_reason(alloc: Global, verdict: &Verdict) -> Result<Text> {
+fn write_reason_text(alloc: Global, verdict: &Verdict) -> Result<Text> {
     let mut written = Text::from_str(alloc, "so: ")?;
     verdict.write_reason(&mut written)?;
     Ok(written)
@@ -46,8 +46,8 @@ fn written_reason(alloc: Global, verdict: &Verdict) -> Result<Text> {
 ///
 /// - `NoMemory`: an allocation failed.
 pub fn push_reason(out: &mut ExampleOutput, verdict: &Verdict) -> Result<()> {
-    let printed = printed_reason(out.alloc, verdict);
-    let (printed, written) = both(printed, written_reason(out.alloc, verdict))?;
+    let printed = print_reason_text(out.alloc, verdict);
+    let (printed, written) = both(printed, write_reason_text(out.alloc, verdict))?;
     out.push(printed.as_str());
     if written.as_str().strip_prefix("so: ") != Some(printed.as_str()) {
         write!(out, " but {}", written.as_str());
@@ -60,14 +60,14 @@ pub fn push_reason(out: &mut ExampleOutput, verdict: &Verdict) -> Result<()> {
 ///
 /// # Errors
 ///
-/// - `Misspelled`: `text` isn't one of these causes.
-pub fn refused_of(text: &str) -> Result<Refused> {
+/// - `InvalidExample`: `text` isn't one of these causes.
+pub fn parse_refusal(text: &str) -> Result<Refused> {
     match text {
         "directory" => Ok(Refused::Directory),
         "output" => Ok(Refused::Output),
         "spawn" => Ok(Refused::Spawn),
         "memory" => Ok(Refused::Memory),
-        _ => Err(ExampleFault::Misspelled("no such refusal")),
+        _ => Err(ExampleFault::InvalidExample("no such refusal")),
     }
 }
 
@@ -81,7 +81,7 @@ fn number(text: &str) -> Result<u8> {
 ///
 /// # Errors
 ///
-/// - `Misspelled`: `text` isn't an outcome, or its number isn't from 0 to 255.
+/// - `InvalidExample`: `text` isn't an outcome, or its number isn't from 0 to 255.
 pub fn ending_of(text: &str) -> Result<Outcome> {
     let (word, rest) = text.split_once(' ').unwrap_or((text, ""));
     let front = rest.strip_suffix(" core");
@@ -90,13 +90,13 @@ pub fn ending_of(text: &str) -> Result<Outcome> {
         "signaled" => Ok(Outcome::Signaled(number(front.unwrap_or(rest))?, front.is_some())),
         _ if text == "timed out" => Ok(Outcome::TimedOut),
         _ if text == "not waited for" => Ok(Outcome::WaitFailed),
-        _ => Err(ExampleFault::Misspelled("no such ending")),
+        _ => Err(ExampleFault::InvalidExample("no such ending")),
     }
 }
 
 /// Parses the first line of an example into the evidence of a case. The line is `file TEXT`,
 /// `tap TEXT`, `plain`, `no-file`, `file-unread` or `tap-unread`.
-fn evidence_of(alloc: Global, row: &Example<'_>) -> Result<Evidence> {
+fn parse_evidence(alloc: Global, row: &Example<'_>) -> Result<Evidence> {
     let line = row.first()?;
     match line.word {
         "file" => asked(read_claim(alloc, &unescaped(alloc, line.text)?)).map(Evidence::Atf),
@@ -105,14 +105,14 @@ fn evidence_of(alloc: Global, row: &Example<'_>) -> Result<Evidence> {
         "no-file" => Ok(Evidence::Atf(Claim::Missing)),
         "file-unread" => Ok(Evidence::Atf(Claim::Unreadable)),
         "tap-unread" => Ok(Evidence::Tap(Tap::Invalid(TapFault::Unreadable))),
-        _ => Err(ExampleFault::Misspelled("no evidence")),
+        _ => Err(ExampleFault::InvalidExample("no evidence")),
     }
 }
 
 /// Returns the verdict of a case whose body ended, with its cleanup if the example has one.
 fn verdict_of_body(alloc: Global, row: &Example<'_>) -> Result<Verdict> {
     let body = ending_of(due(row.text("body"), "no body")?)?;
-    let verdict = body_verdict(evidence_of(alloc, row)?, body);
+    let verdict = body_verdict(parse_evidence(alloc, row)?, body);
     match row.text("cleanup") {
         None => Ok(verdict),
         Some("refused") => Ok(with_cleanup(verdict, CleanupEnd::Refused)),
@@ -126,11 +126,11 @@ fn verdict_of_body(alloc: Global, row: &Example<'_>) -> Result<Verdict> {
 ///
 /// # Errors
 ///
-/// - `Misspelled`: a line is missing or invalid.
+/// - `InvalidExample`: a line is missing or invalid.
 /// - `NoMemory`: an allocation failed.
 pub fn answer(out: &mut ExampleOutput, row: &Example<'_>) -> Result<()> {
     let verdict = match row.text("refused") {
-        Some(refused) => refused_verdict(refused_of(refused)?),
+        Some(refused) => refused_verdict(parse_refusal(refused)?),
         None => verdict_of_body(out.alloc, row)?,
     };
     push_kind(out, &verdict);

@@ -7,7 +7,7 @@ use Rattle.kt_metadata.specs.declared.value.User.TheVariants.{Any}
 use Rattle.kt_metadata.specs.declared.value.Value.{Value}
 use Rattle.kt_metadata.specs.declared.value.Value.TheVariants.{Words, Truth, Size, User as OfUser, Timeout}
 use Rattle.kt_metadata.specs.declared.meta.Meta.{Meta}
-use Rattle.kt_metadata.specs.Properties.{value_named}
+use Rattle.kt_metadata.specs.Properties.{value_of_text}
 
 -- `texts_of definitions name`: the text of the last of `definitions` for the property `name`, or
 -- nothing.
@@ -17,7 +17,7 @@ texts_of definitions name = value_of name definitions
 -- `given texts name`: the value of the property `name`, parsed from the text that `texts` returns
 -- for it, or nothing if the property isn't set.
 abbrev pub given : (List ℕ → Option (List ℕ)) → List ℕ → Option Value
-given texts name = option_and_then (value_named name) (texts name)
+given texts name = option_and_then (value_of_text name) (texts name)
 
 -- `words_in value`: the elements of `value`, or an empty list without a value.
 abbrev pub words_in : Option Value → List (List ℕ)
@@ -39,14 +39,14 @@ abbrev pub user_in : Option Value → User
 user_in (Some (OfUser user)) = user
 user_in other = Any
 
--- `default_timeout`: the timeout of a case without a `timeout` property, in seconds.
-abbrev pub default_timeout : ℕ
-default_timeout = 300
+-- `default_timeout_seconds`: the timeout of a case without a `timeout` property, in seconds.
+abbrev pub default_timeout_seconds : ℕ
+default_timeout_seconds = 300
 
 -- `timeout_in value`: the timeout in `value`, in seconds, or the default without a value.
 abbrev pub timeout_in : Option Value → ℕ
 timeout_in (Some (Timeout seconds)) = seconds
-timeout_in other = default_timeout
+timeout_in other = default_timeout_seconds
 
 -- `meta_of texts`: the effective properties if `texts` returns the texts that are set: each
 -- property has the value of its text, or its default.

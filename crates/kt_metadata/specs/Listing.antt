@@ -12,7 +12,7 @@ use Rattle.kt_metadata.specs.declared.value.User.TheVariants.{Any, Root, Unprivi
 use Rattle.kt_metadata.specs.declared.value.Value.{Value}
 use Rattle.kt_metadata.specs.declared.value.Value.TheVariants as value
 use Rattle.kt_metadata.specs.Properties.{PropertyRow, table, is_custom}
-use Rattle.kt_metadata.specs.Effective.{texts_of, given, default_timeout}
+use Rattle.kt_metadata.specs.Effective.{texts_of, given, default_timeout_seconds}
 
 -- `spaced words`: the elements `words`, each after a space.
 abbrev pub spaced : List (List ℕ) → List ℕ
@@ -53,17 +53,17 @@ default_value form.Text = value.Text
 default_value form.Truth = value.Truth false
 default_value form.Size = value.Size 0
 default_value form.User = value.User Any
-default_value form.Timeout = value.Timeout default_timeout
+default_value form.Timeout = value.Timeout default_timeout_seconds
 
--- `shown_text texts r`: the text of the property of row `r` in a listing. `texts` returns the texts
+-- `property_text texts r`: the text of the property of row `r` in a listing. `texts` returns the texts
 -- that are set. A property that isn't set has its default.
-abbrev pub shown_text : (List ℕ → Option (List ℕ)) → PropertyRow → List ℕ
-shown_text texts r = shown (unwrap_or (given texts r.name) (default_value r.form)) (unwrap_or (texts r.name) [])
+abbrev pub property_text : (List ℕ → Option (List ℕ)) → PropertyRow → List ℕ
+property_text texts r = shown (unwrap_or (given texts r.name) (default_value r.form)) (unwrap_or (texts r.name) [])
 
--- `shown_pair texts r`: the property of row `r` with its text in a listing. `texts` returns the
+-- `property_pair texts r`: the property of row `r` with its text in a listing. `texts` returns the
 -- texts that are set.
-abbrev pub shown_pair : (List ℕ → Option (List ℕ)) → PropertyRow → Variable
-shown_pair texts r = record { name = r.name; value = shown_text texts r }
+abbrev pub property_pair : (List ℕ → Option (List ℕ)) → PropertyRow → Variable
+property_pair texts r = record { name = r.name; value = property_text texts r }
 
 -- `is_valued pair`: the value of `pair` isn't empty.
 abbrev pub is_valued : Variable → Bool
@@ -73,10 +73,10 @@ is_valued pair = not (is_empty pair.value)
 abbrev pub is_custom_pair : Variable → Bool
 is_custom_pair pair = is_custom pair.name
 
--- `shown_pairs texts rows`: the properties of `rows` with their texts in a listing, in order,
+-- `property_pairs texts rows`: the properties of `rows` with their texts in a listing, in order,
 -- except those with empty texts. `texts` returns the texts that are set.
-abbrev pub shown_pairs : (List ℕ → Option (List ℕ)) → List PropertyRow → List Variable
-shown_pairs texts rows = filter is_valued (map (shown_pair texts) rows)
+abbrev pub property_pairs : (List ℕ → Option (List ℕ)) → List PropertyRow → List Variable
+property_pairs texts rows = filter is_valued (map (property_pair texts) rows)
 
 -- `custom_pairs pairs`: the custom properties among `pairs` in order, except those with empty
 -- texts.
@@ -86,4 +86,4 @@ custom_pairs pairs = filter is_valued (filter is_custom_pair pairs)
 -- `listing definitions`: the properties with their texts after `definitions`: those of the table in
 -- its order, then the custom properties in the order of their first definitions.
 abbrev pub listing : List Variable → List Variable
-listing definitions = shown_pairs (texts_of definitions) table ++ custom_pairs (last_values definitions)
+listing definitions = property_pairs (texts_of definitions) table ++ custom_pairs (last_values definitions)

@@ -9,7 +9,7 @@ use Rattle.kt_metadata.specs.declared.value.Value.TheVariants as value
 use Rattle.kt_metadata.specs.declared.fault.PropFault.{PropFault}
 use Rattle.kt_metadata.specs.declared.fault.PropFault.TheVariants.{NoMemory, UnknownProperty, BadValue}
 use Rattle.kt_metadata.specs.Words.{words}
-use Rattle.kt_metadata.specs.Values.{truth_of, user_of, size_of, timeout_of, is_not_absolute, is_no_program}
+use Rattle.kt_metadata.specs.Values.{truth_of, user_of, size_of, timeout_of, is_not_absolute, is_not_program_name}
 
 -- `PropertyRow`: a property with a fixed name: the name, the key in lists of ATF cases, and the
 -- form of the values.
@@ -43,57 +43,57 @@ abbrev pub filled : List ℕ → Option (List ℕ)
 filled [] = None
 filled (c ∷ cs) = Some (c ∷ cs)
 
--- `after_front front text`: the rest of `text` after the prefix `front`, or nothing if `text`
+-- `after_prefix front text`: the rest of `text` after the prefix `front`, or nothing if `text`
 -- doesn't begin with `front`.
-abbrev pub after_front : List ℕ → List ℕ → Option (List ℕ)
-after_front [] text = Some text
-after_front (c ∷ front) [] = None
-after_front (c ∷ front) (d ∷ text) = if c == d then after_front front text else None
+abbrev pub after_prefix : List ℕ → List ℕ → Option (List ℕ)
+after_prefix [] text = Some text
+after_prefix (c ∷ front) [] = None
+after_prefix (c ∷ front) (d ∷ text) = if c == d then after_prefix front text else None
 
--- `own_part front text`: the rest of `text` after the prefix `front`, or nothing if the prefix is
+-- `non_empty_suffix front text`: the rest of `text` after the prefix `front`, or nothing if the prefix is
 -- missing or the rest is empty.
-abbrev pub own_part : List ℕ → List ℕ → Option (List ℕ)
-own_part front text = option_and_then filled (after_front front text)
+abbrev pub non_empty_suffix : List ℕ → List ℕ → Option (List ℕ)
+non_empty_suffix front text = option_and_then filled (after_prefix front text)
 
 -- `is_custom name`: `name` is the name of a custom property: `custom.` and at least one character.
 abbrev pub is_custom : List ℕ → Bool
-is_custom name = is_some (own_part (codes "custom.") name)
+is_custom name = is_some (non_empty_suffix (codes "custom.") name)
 
 -- `has_name name r`: the property of the row `r` has the name `name`.
 abbrev pub has_name : List ℕ → PropertyRow → Bool
 has_name name r = bytes_eq name r.name
 
--- `form_named name`: the form of the values of the property `name`: any text for a custom property,
+-- `form_of_property name`: the form of the values of the property `name`: any text for a custom property,
 -- else the form in the table.
-abbrev pub form_named : List ℕ → Option Form
-form_named name = if is_custom name then Some form.Text else option_map (λ r. r.form) (find (has_name name) table)
+abbrev pub form_of_property : List ℕ → Option Form
+form_of_property name = if is_custom name then Some form.Text else option_map (λ r. r.form) (find (has_name name) table)
 
 -- `is_kyuafile_property name`: a Kyuafile may set the property `name`: each but `has_cleanup`,
 -- which belongs to a list of ATF cases.
 abbrev pub is_kyuafile_property : List ℕ → Bool
-is_kyuafile_property name = not (bytes_eq name (codes "has_cleanup")) && is_some (form_named name)
+is_kyuafile_property name = not (bytes_eq name (codes "has_cleanup")) && is_some (form_of_property name)
 
--- `words_but is_wrong found`: the value with the elements `found`, or nothing if `is_wrong` holds
+-- `valid_words is_wrong found`: the value with the elements `found`, or nothing if `is_wrong` holds
 -- of one of them.
-abbrev pub words_but : (List ℕ → Bool) → List (List ℕ) → Option Value
-words_but is_wrong found = if list_any is_wrong found then None else Some (value.Words found)
+abbrev pub valid_words : (List ℕ → Bool) → List (List ℕ) → Option Value
+valid_words is_wrong found = if list_any is_wrong found then None else Some (value.Words found)
 
 -- `value_in form text`: the value of the form `form` that `text` represents, or nothing if `text`
 -- is invalid.
 abbrev pub value_in : Form → List ℕ → Option Value
 value_in form.Words text = Some (value.Words (words text))
-value_in form.Files text = words_but is_not_absolute (words text)
-value_in form.Programs text = words_but is_no_program (words text)
+value_in form.Files text = valid_words is_not_absolute (words text)
+value_in form.Programs text = valid_words is_not_program_name (words text)
 value_in form.Text text = Some value.Text
 value_in form.Truth text = option_map (λ b. value.Truth b) (truth_of text)
 value_in form.Size text = option_map (λ n. value.Size n) (size_of text)
 value_in form.User text = option_map (λ u. value.User u) (user_of text)
 value_in form.Timeout text = option_map (λ n. value.Timeout n) (timeout_of text)
 
--- `value_named name text`: the value of the property `name` that `text` represents, or nothing if
+-- `value_of_text name text`: the value of the property `name` that `text` represents, or nothing if
 -- the name or the text is invalid.
-abbrev pub value_named : List ℕ → List ℕ → Option Value
-value_named name text = option_and_then (λ f. value_in f text) (form_named name)
+abbrev pub value_of_text : List ℕ → List ℕ → Option Value
+value_of_text name text = option_and_then (λ f. value_in f text) (form_of_property name)
 
 -- `value_fault form text`: the error if a property with values of `form` is set to `text`, or
 -- nothing. Without a form, the property is unknown.
@@ -104,7 +104,7 @@ value_fault (Some f) text = if is_some (value_in f text) then None else Some Bad
 -- `definition_fault name text`: the error if the property `name` is set to `text`, or nothing. An
 -- unknown name comes before a bad value.
 abbrev pub definition_fault : List ℕ → List ℕ → Option PropFault
-definition_fault name text = value_fault (form_named name) text
+definition_fault name text = value_fault (form_of_property name) text
 
 -- `IfFault result P`: if `result` is an error other than `NoMemory`, `P` holds of the error.
 abbrev pub IfFault : {T : Type 0} → Result T PropFault → (PropFault → Type 0) → Type 0

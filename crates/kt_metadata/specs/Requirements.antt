@@ -29,32 +29,32 @@ around front back word = option_map (λ w. front ++ (w ++ back)) word
 abbrev pub is_allowed : List (List ℕ) → List ℕ → Bool
 is_allowed listed word = length listed == 0 || list_any (λ w. bytes_eq w word) listed
 
--- `config_row meta config suite`: the reason if a variable that `meta` requires isn't set for the
+-- `config_reason_text meta config suite`: the reason if a variable that `meta` requires isn't set for the
 -- test suite `suite` in `config`. The reason names the first such variable.
-abbrev pub config_row : Meta → Values → List ℕ → Option (List ℕ)
-config_row meta config suite =
+abbrev pub config_reason_text : Meta → Values → List ℕ → Option (List ℕ)
+config_reason_text meta config suite =
     around (codes "Required configuration property '") (codes "' not defined")
     (find (is_undefined config suite) meta.required_configs)
 
--- `listed_row front listed word`: the reason if `word` isn't among the allowed values `listed`. The
+-- `listed_reason_text front listed word`: the reason if `word` isn't among the allowed values `listed`. The
 -- reason begins with `front`.
-abbrev pub listed_row : List ℕ → List (List ℕ) → List ℕ → Option (List ℕ)
-listed_row front listed word = if is_allowed listed word then None else Some (front ++ (word ++ codes "' not supported"))
+abbrev pub listed_reason_text : List ℕ → List (List ℕ) → List ℕ → Option (List ℕ)
+listed_reason_text front listed word = if is_allowed listed word then None else Some (front ++ (word ++ codes "' not supported"))
 
--- `architecture_row meta config`: the reason if `meta` doesn't allow the architecture of `config`.
-abbrev pub architecture_row : Meta → Values → Option (List ℕ)
-architecture_row meta config = listed_row (codes "Current architecture '") meta.allowed_architectures (architecture_of config)
+-- `architecture_reason_text meta config`: the reason if `meta` doesn't allow the architecture of `config`.
+abbrev pub architecture_reason_text : Meta → Values → Option (List ℕ)
+architecture_reason_text meta config = listed_reason_text (codes "Current architecture '") meta.allowed_architectures (architecture_of config)
 
--- `platform_row meta config`: the reason if `meta` doesn't allow the platform of `config`.
-abbrev pub platform_row : Meta → Values → Option (List ℕ)
-platform_row meta config = listed_row (codes "Current platform '") meta.allowed_platforms (platform_of config)
+-- `platform_reason_text meta config`: the reason if `meta` doesn't allow the platform of `config`.
+abbrev pub platform_reason_text : Meta → Values → Option (List ℕ)
+platform_reason_text meta config = listed_reason_text (codes "Current platform '") meta.allowed_platforms (platform_of config)
 
--- `user_row user root`: the reason if the runner isn't the required `user`. `root` is true if the
+-- `user_reason_text user root`: the reason if the runner isn't the required `user`. `root` is true if the
 -- runner is root.
-abbrev pub user_row : User → Bool → Option (List ℕ)
-user_row Root false = Some (codes "Requires root privileges")
-user_row Unprivileged true = Some (codes "Requires an unprivileged user")
-user_row user root = None
+abbrev pub user_reason_text : User → Bool → Option (List ℕ)
+user_reason_text Root false = Some (codes "Requires root privileges")
+user_reason_text Unprivileged true = Some (codes "Requires an unprivileged user")
+user_reason_text user root = None
 
 -- `all_needs`: all kinds of needs, in the order in which the host is searched for them.
 abbrev pub all_needs : List Need
@@ -78,9 +78,9 @@ is_same_need File path File other = bytes_eq (utf8 path) (utf8 other)
 is_same_need Program name Program other = bytes_eq (utf8 name) (utf8 other)
 is_same_need need word other_need other = false
 
--- `IsNoted need word old new`: the host `new` is `old` with `word` added to the objects of the kind
+-- `IsRecordedAsFound need word old new`: the host `new` is `old` with `word` added to the objects of the kind
 -- `need` that were found.
-pub record IsNoted (need : Need) (word : List ℕ) (old new : Host) : Type 0 where
+pub record IsRecordedAsFound (need : Need) (word : List ℕ) (old new : Host) : Type 0 where
   pub found : (other_need : Need) (other : List ℕ) → is_found other_need new other ≡ (is_found other_need old other || is_same_need need word other_need other)
   pub root : new.root ≡ old.root
   pub memory : new.memory ≡ old.memory
@@ -91,32 +91,32 @@ abbrev pub need_text : Need → List ℕ
 need_text File = codes "Required file '"
 need_text Program = codes "Required program '"
 
--- `need_row need meta host`: the reason if an object of the kind `need` that `meta` requires wasn't
+-- `need_reason_text need meta host`: the reason if an object of the kind `need` that `meta` requires wasn't
 -- found on `host`. The reason names the first such object.
-abbrev pub need_row : Need → Meta → Host → Option (List ℕ)
-need_row need meta host = around (need_text need) (codes "' not found") (find (λ word. not (is_found need host word)) (needed need meta))
+abbrev pub need_reason_text : Need → Meta → Host → Option (List ℕ)
+need_reason_text need meta host = around (need_text need) (codes "' not found") (find (λ word. not (is_found need host word)) (needed need meta))
 
--- `amount_row phrase due there`: the reason, with the message `phrase`, if the host has `there`
+-- `amount_reason_text phrase due there`: the reason, with the message `phrase`, if the host has `there`
 -- bytes and `due` bytes are required. An unknown amount is enough.
-abbrev pub amount_row : Phrase → ℕ → Option ℕ → Option (List ℕ)
-amount_row phrase due None = None
-amount_row phrase due (Some there) =
+abbrev pub amount_reason_text : Phrase → ℕ → Option ℕ → Option (List ℕ)
+amount_reason_text phrase due None = None
+amount_reason_text phrase due (Some there) =
     if nat_lt there due then Some (counted_text phrase due there) else None
 
--- `host_rows meta host`: the reasons why `host` doesn't meet the requirements of `meta` on user,
+-- `host_reason_texts meta host`: the reasons why `host` doesn't meet the requirements of `meta` on user,
 -- files, programs, memory and disk, in this order. A reason is absent if the requirement is met.
-abbrev pub host_rows : Meta → Host → List (Option (List ℕ))
-host_rows meta host =
-    user_row meta.required_user host.root ∷ need_row File meta host ∷ need_row Program meta host
-    ∷ amount_row MemoryNeeded meta.required_memory host.memory
-    ∷ amount_row DiskNeeded meta.required_disk_space host.disk ∷ []
+abbrev pub host_reason_texts : Meta → Host → List (Option (List ℕ))
+host_reason_texts meta host =
+    user_reason_text meta.required_user host.root ∷ need_reason_text File meta host ∷ need_reason_text Program meta host
+    ∷ amount_reason_text MemoryNeeded meta.required_memory host.memory
+    ∷ amount_reason_text DiskNeeded meta.required_disk_space host.disk ∷ []
 
 -- `rows meta config suite host`: the reasons of all eight requirements of a case of `suite`, in the
 -- order of the checks. A reason is absent if the requirement is met.
 abbrev pub rows : Meta → Values → List ℕ → Host → List (Option (List ℕ))
 rows meta config suite host =
-    config_row meta config suite ∷ architecture_row meta config
-    ∷ platform_row meta config ∷ host_rows meta host
+    config_reason_text meta config suite ∷ architecture_reason_text meta config
+    ∷ platform_reason_text meta config ∷ host_reason_texts meta host
 
 -- `first_reason rows`: the first reason that is present in `rows`, or nothing.
 abbrev pub first_reason : List (Option (List ℕ)) → Option (List ℕ)

@@ -3,7 +3,7 @@ use Rattle.std.specs.Prelude.{ℕ, ◌*◌, ◌^◌, ◌==◌, ◌||◌, Bool, t
 use Rattle.std.specs.List.{list_any, prefix_len}
 use Rattle.kt_base.specs.Characters.{is_slash, is_absolute}
 use Rattle.kt_base.specs.Digits.{is_digit, decimal_from, fits}
-use Rattle.kt_base.specs.Limits.{longest_timeout}
+use Rattle.kt_base.specs.Limits.{longest_timeout_seconds}
 use Rattle.kt_base.specs.Words.{named}
 use Rattle.kt_base.specs.Utf8.{utf8}
 use Rattle.kt_metadata.specs.declared.value.User.{User}
@@ -72,7 +72,7 @@ size_of text = size_in (utf8 text)
 -- `limited number rest`: the timeout in seconds for `number`, which is followed by `rest`. 0 gives
 -- the longest timeout. Nothing if `rest` isn't empty or the number is too large.
 abbrev pub limited : Option ℕ → List ℕ → Option ℕ
-limited (Some v) [] = if v == 0 then Some longest_timeout else if nat_le v longest_timeout then Some v else None
+limited (Some v) [] = if v == 0 then Some longest_timeout_seconds else if nat_le v longest_timeout_seconds then Some v else None
 limited (Some v) (c ∷ cs) = None
 limited None rest = None
 
@@ -90,7 +90,7 @@ timeout_of text = timeout_in (utf8 text)
 abbrev pub is_not_absolute : List ℕ → Bool
 is_not_absolute word = not (is_absolute word)
 
--- `is_no_program word`: `word` is a relative path with a slash, so it can't name a required
+-- `is_not_program_name word`: `word` is a relative path with a slash, so it can't name a required
 -- program.
-abbrev pub is_no_program : List ℕ → Bool
-is_no_program word = if is_absolute word then false else list_any is_slash word
+abbrev pub is_not_program_name : List ℕ → Bool
+is_not_program_name word = if is_absolute word then false else list_any is_slash word

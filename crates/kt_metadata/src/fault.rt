@@ -17,11 +17,11 @@ pub enum PropFault {
 }
 
 impl PropFault {
-    ghost use Rattle.kt_metadata.specs.FaultWords.{prop_words};
+    ghost use Rattle.kt_metadata.specs.FaultWords.{prop_message};
 
     /// Returns the message of the error (this profile), which `Display` prints.
     pub fn words(&self) -> &'static str
-        ensures { result.now ≡ prop_words self.now }
+        ensures { result.now ≡ prop_message self.now }
     {
         match self {
             PropFault::NoMemory(_) => OUT_OF_MEMORY,

@@ -4,7 +4,7 @@ ghost use Rattle.kt_metadata.specs.Properties.{value_in};
 
 use crate::User;
 use crate::value::Value;
-use crate::values::{has_no_file, has_no_program, size, timeout, truth, user, words};
+use crate::values::{has_invalid_file, has_invalid_program, size, timeout, truth, user, words};
 use kt_base::{Items, NoMemory, Text};
 use std::alloc::Global;
 
@@ -30,7 +30,7 @@ pub enum Form {
 }
 
 /// The timeout of a case without a `timeout` property, in seconds.
-pub const DEFAULT_TIMEOUT: u32 = 300;
+pub const DEFAULT_TIMEOUT_SECONDS: u32 = 300;
 
 /// Returns the elements `words` as a value, or `None` if `wrong` is `true`: an element is invalid.
 fn unless(wrong: bool, words: Items<Text>) -> Option<Value>
@@ -56,11 +56,11 @@ impl Form {
             Form::Words => Ok(Some(Value::Words(words(alloc, text)?))),
             Form::Files => {
                 let words = words(alloc, text)?;
-                Ok(unless(has_no_file(words.as_slice()), words))
+                Ok(unless(has_invalid_file(words.as_slice()), words))
             }
             Form::Programs => {
                 let words = words(alloc, text)?;
-                Ok(unless(has_no_program(words.as_slice()), words))
+                Ok(unless(has_invalid_program(words.as_slice()), words))
             }
             Form::Text => Ok(Some(Value::Text)),
             Form::Truth => Ok(truth(text).map(Value::Truth)),
@@ -82,7 +82,7 @@ impl Form {
             Form::Truth => Value::Truth(false),
             Form::Size => Value::Size(0),
             Form::User => Value::User(User::Any),
-            Form::Timeout => Value::Timeout(DEFAULT_TIMEOUT),
+            Form::Timeout => Value::Timeout(DEFAULT_TIMEOUT_SECONDS),
         }
     }
 }

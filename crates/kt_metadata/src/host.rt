@@ -56,7 +56,7 @@ pub struct Host {
 
 impl Host {
     ghost use Rattle.std.specs.Prelude.{◌≡◌, List, ℕ, OnOk, false};
-    ghost use Rattle.kt_metadata.specs.Common.{is_found, IsNoted, Need};
+    ghost use Rattle.kt_metadata.specs.Common.{is_found, IsRecordedAsFound, Need};
 
     /// Creates the description of a host on which no required file or program was found yet.
     ///
@@ -84,7 +84,7 @@ impl Host {
     ///
     /// - `NoMemory`: an allocation fails.
     pub fn note(&mut self, need: Need, word: &Text) -> Result<(), NoMemory>
-        ensures { OnOk result (IsNoted need word.now self.old self.new) }
+        ensures { OnOk result (IsRecordedAsFound need word.now self.old self.new) }
     {
         let name = word.copy()?.into_string();
         match need {

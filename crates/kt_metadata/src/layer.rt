@@ -1,8 +1,8 @@
 ghost use Rattle.std.specs.Prelude.{◌≡◌, ◌↔◌, ◌∷◌, ◌++◌, [], List, IfOk, IsTrue, OnOk, OnErr, chars};
-ghost use Rattle.kt_metadata.specs.Common.{option_copied, option_map, filter, Variable, last_values, value_of, texts_of, given, IsRead, custom_pairs, is_valued, a_pair};
+ghost use Rattle.kt_metadata.specs.Common.{option_copied, option_map, filter, Variable, last_values, value_of, texts_of, given, IsRead, custom_pairs, is_valued, name_with_value};
 
 use crate::table::is_custom;
-use crate::value::Given;
+use crate::value::PropertyDefinition;
 use indexmap::IndexMap;
 use kt_base::{NoMemory, Text, Variable, Variables};
 use std::alloc::Global;
@@ -13,19 +13,19 @@ use std::marker::Model;
 /// In contracts, a `Layer` is the list of its names with their texts. Each name occurs once.
 #[derive(Drop)]
 pub struct Layer {
-    given: IndexMap<String, Given>,
+    given: IndexMap<String, PropertyDefinition>,
 }
 
 impl Model for Layer {
     ghost use Rattle.std.specs.Prelude.{List};
     ghost use Rattle.kt_base.specs.declared.variable.Variable.{Variable};
-    ghost use Rattle.kt_metadata.specs.Inner.Layers.{pairs_in, AreSound};
+    ghost use Rattle.kt_metadata.specs.Inner.Layers.{pairs_in, AreConsistent};
 
     ghost Value = { List Variable };
 
     ghost view = { λ l. pairs_in l.given.entries };
 
-    ghost invariant = { λ l. AreSound l.given.entries };
+    ghost invariant = { λ l. AreConsistent l.given.entries };
 }
 
 impl Layer {
@@ -58,7 +58,7 @@ impl Layer {
     /// Returns the definition of the property `name`, or `None` without a definition.
     ///
     /// Takes constant time.
-    pub fn get(&self, name: &str) -> Option<&Given>
+    pub fn get(&self, name: &str) -> Option<&PropertyDefinition>
         ensures text { option_map (λ it. it.text) (option_copied result)
             ≡ value_of (chars name.now) self.now }
         ensures value { option_map (λ it. it.value) (option_copied result)
@@ -72,10 +72,10 @@ impl Layer {
     /// # Errors
     ///
     /// - `NoMemory`: an allocation fails. The layer is unchanged.
-    pub fn put(&mut self, name: &str, given: Given) -> Result<(), NoMemory>
+    pub fn put(&mut self, name: &str, given: PropertyDefinition) -> Result<(), NoMemory>
         requires { IsRead (chars name.now) given }
         ensures ok { OnOk result (self.new
-            ≡ last_values (self.old ++ a_pair (chars name.now) given.text ∷ [])) }
+            ≡ last_values (self.old ++ name_with_value (chars name.now) given.text ∷ [])) }
         ensures err { OnErr result (self.new ≡ self.old) }
     {
         let name = String::from_str(self.allocator(), name)?;
@@ -120,7 +120,7 @@ impl Layer {
 ///
 /// - `NoMemory`: an allocation fails.
 pub fn add(pairs: &mut Variables, name: Text, value: Text) -> Result<(), NoMemory>
-    ensures { OnOk result (pairs.new ≡ pairs.old ++ filter is_valued (a_pair name value ∷ [])) }
+    ensures { OnOk result (pairs.new ≡ pairs.old ++ filter is_valued (name_with_value name value ∷ [])) }
 {
     if value.is_empty() {
         return Ok(());
@@ -138,7 +138,7 @@ fn add_if_custom(
     value: &Text,
 ) -> Result<(), NoMemory>
     ensures { OnOk result (pairs.new
-        ≡ pairs.old ++ custom_pairs (a_pair (chars name.now) value.now ∷ [])) }
+        ≡ pairs.old ++ custom_pairs (name_with_value (chars name.now) value.now ∷ [])) }
 {
     if !is_custom(name) {
         return Ok(());

@@ -17,10 +17,10 @@ mod values;
 
 pub use fault::PropFault;
 pub use host::{Host, Need};
-pub use list_keys::property_of_key;
+pub use list_keys::property_name_of_key;
 pub use meta::Meta;
 pub use props::Props;
 pub use requirements::unmet;
 pub use table::is_kyuafile_property;
 pub use value::User;
-pub use values::words_laws;
+pub use values::theorem_of_words;

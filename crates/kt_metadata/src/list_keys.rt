@@ -1,7 +1,7 @@
 ghost use Rattle.std.specs.Prelude.{◌≡◌, ◌++◌, List, ℕ, chars, codes, Some, IfOk, IfSome, IsSome};
-ghost use Rattle.kt_metadata.specs.Common.{option_map, own_part, form_named, name_of_key, StandsFor};
+ghost use Rattle.kt_metadata.specs.Common.{option_map, non_empty_suffix, form_of_property, name_of_key, IsKeyOf};
 
-use crate::table::{TABLE, own_part, row_keyed};
+use crate::table::{TABLE, non_empty_suffix, row_with_key};
 use kt_base::{NoMemory, Text};
 use std::alloc::Global;
 
@@ -17,9 +17,9 @@ fn custom_name(alloc: Global, part: &str) -> Result<Text, NoMemory>
 /// Returns the name `custom.NAME` for the key `X-NAME`, or `None` if `key` has another form.
 fn name_of_custom_key(alloc: Global, key: &Text) -> Result<Option<Text>, NoMemory>
     ensures { IfOk result (λ found. found
-        ≡ option_map (λ part. codes "custom." ++ part) (own_part (codes "X-") key.now)) }
+        ≡ option_map (λ part. codes "custom." ++ part) (non_empty_suffix (codes "X-") key.now)) }
 {
-    match own_part(key.as_str(), "X-") {
+    match non_empty_suffix(key.as_str(), "X-") {
         None => Ok(None),
         Some(part) => {
             let name = custom_name(alloc, part)?;
@@ -32,7 +32,7 @@ fn name_of_custom_key(alloc: Global, key: &Text) -> Result<Option<Text>, NoMemor
 fn name_of_key(alloc: Global, key: &Text) -> Result<Option<Text>, NoMemory>
     ensures { IfOk result (λ found. found ≡ name_of_key key.now) }
 {
-    match row_keyed(key, &TABLE) {
+    match row_with_key(key, &TABLE) {
         Some(row) => Ok(Some(Text::from_str(alloc, row.0)?)),
         None => name_of_custom_key(alloc, key),
     }
@@ -46,13 +46,13 @@ fn name_of_key(alloc: Global, key: &Text) -> Result<Option<Text>, NoMemory>
 /// # Errors
 ///
 /// - `NoMemory`: an allocation fails.
-pub fn property_of_key(alloc: Global, key: &Text) -> Result<Option<Text>, NoMemory>
-    ensures stands { IfOk result (λ found. IfSome found (λ name. StandsFor key.now name)) }
-    ensures only { (name : List ℕ) → StandsFor key.now name
+pub fn property_name_of_key(alloc: Global, key: &Text) -> Result<Option<Text>, NoMemory>
+    ensures stands { IfOk result (λ found. IfSome found (λ name. IsKeyOf key.now name)) }
+    ensures only { (name : List ℕ) → IsKeyOf key.now name
         → IfOk result (λ found. found ≡ Some name) }
 
     // For a returned name, `Props::set` never fails with `UnknownProperty`.
-    ensures known { IfOk result (λ found. IfSome found (λ name. IsSome (form_named name))) }
+    ensures known { IfOk result (λ found. IfSome found (λ name. IsSome (form_of_property name))) }
     ensures value { IfOk result (λ found. found ≡ name_of_key key.now) }
 {
     name_of_key(alloc, key)

@@ -1,4 +1,4 @@
-use crate::form::DEFAULT_TIMEOUT;
+use crate::form::DEFAULT_TIMEOUT_SECONDS;
 use crate::value::{Value, copy_of_words};
 use crate::{Need, Props, User};
 use kt_base::{Items, NoMemory, Text};
@@ -68,7 +68,7 @@ impl Meta {
 
 impl Props {
     ghost use Rattle.std.specs.Prelude.{◌≡◌, ◌≤◌, [], List, IfOk, chars, unwrap_or};
-    ghost use Rattle.kt_metadata.specs.Common.{Variable, last_values, longest_timeout, texts_of, given, words_in, truth_in, size_in, user_in, timeout_in, effective, needed};
+    ghost use Rattle.kt_metadata.specs.Common.{Variable, last_values, longest_timeout_seconds, texts_of, given, words_in, truth_in, size_in, user_in, timeout_in, effective, needed};
 
     /// Returns the elements of the property `name`, or an empty slice if the property isn't set.
     fn listed(&self, name: &str) -> &[Text]
@@ -134,7 +134,7 @@ impl Props {
     {
         match self.value(name) {
             Some(Value::Timeout(seconds)) => *seconds,
-            _ => DEFAULT_TIMEOUT,
+            _ => DEFAULT_TIMEOUT_SECONDS,
         }
     }
 
@@ -162,7 +162,7 @@ impl Props {
         ensures defined { (definitions : List Variable) → self.now ≡ last_values definitions
             → IfOk result (λ meta. meta ≡ effective definitions) }
         ensures timeout { IfOk result (λ meta. (1 ≤ meta.timeout)
-            × (meta.timeout ≤ longest_timeout)) }
+            × (meta.timeout ≤ longest_timeout_seconds)) }
     {
         Ok(Meta {
             allowed_architectures: self.words("allowed_architectures")?,

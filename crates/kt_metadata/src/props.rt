@@ -1,11 +1,11 @@
 ghost use Rattle.std.specs.Prelude.{◌≡◌, [], ◌∷◌, ◌++◌, chars, List, None, Some, IfOk, OnOk, OnErr, map};
-ghost use Rattle.kt_metadata.specs.Common.{option_copied, option_map, Variable, last_values, value_of, texts_of, given, program_layer, a_pair, definition_fault, IfFault, row_in, custom_pairs, shown_pairs, shown_text, listing};
+ghost use Rattle.kt_metadata.specs.Common.{option_copied, option_map, Variable, last_values, value_of, texts_of, given, program_layer, name_with_value, definition_fault, IfFault, row_in, custom_pairs, property_pairs, property_text, listing};
 
 use crate::PropFault;
 use crate::layer::{Layer, add};
 use crate::shared_layer::SharedLayer;
 use crate::table::{PropertyRow, TABLE, read_definition};
-use crate::value::{Given, Value};
+use crate::value::{PropertyDefinition, Value};
 use kt_base::{NoMemory, Text, Variables};
 use std::alloc::Global;
 use std::marker::Model;
@@ -75,7 +75,7 @@ impl Props {
     /// Returns the last definition of the property `name`, or `None` if the property isn't set.
     ///
     /// A definition of the case comes before a definition of its program.
-    pub(crate) fn find(&self, name: &str) -> Option<&Given>
+    pub(crate) fn find(&self, name: &str) -> Option<&PropertyDefinition>
         ensures text { option_map (λ it. it.text) (option_copied result)
             ≡ texts_of self.now (chars name.now) }
         ensures value { option_map (λ it. it.value) (option_copied result)
@@ -130,7 +130,7 @@ impl Props {
     /// - `NoMemory`: an allocation fails.
     pub fn set(&mut self, key: &Text, text: &Text) -> Result<(), PropFault>
         ensures ok { (definitions : List Variable) → self.old ≡ last_values definitions
-            → OnOk result (self.new ≡ last_values (definitions ++ a_pair key.now text.now ∷ [])) }
+            → OnOk result (self.new ≡ last_values (definitions ++ name_with_value key.now text.now ∷ [])) }
         ensures err { OnErr result (self.new ≡ self.old) }
         ensures accepted { OnOk result (definition_fault key.now text.now ≡ None) }
         ensures refused { IfFault result (λ fault. definition_fault key.now text.now ≡ Some fault) }
@@ -138,12 +138,13 @@ impl Props {
         let alloc = self.allocator();
         let value = read_definition(alloc, key, text)?;
         let text = text.copy()?;
-        self.own.put(key.as_str(), Given { text, value })?;
+        self.own
+            .put(key.as_str(), PropertyDefinition { text, value })?;
         Ok(())
     }
 
     /// Sets each property of `self` in `layer`, in place of the values that `layer` had.
-    fn lay_over(&self, layer: &mut Layer) -> Result<(), NoMemory>
+    fn copy_into(&self, layer: &mut Layer) -> Result<(), NoMemory>
         ensures { OnOk result (layer.new ≡ last_values (layer.old ++ self.now)) }
     {
         match &self.program {
@@ -164,7 +165,7 @@ impl Props {
         ensures { IfOk result (λ layer. layer ≡ self.now) }
     {
         let mut layer = Layer::new(self.allocator());
-        self.lay_over(&mut layer)?;
+        self.copy_into(&mut layer)?;
         Ok(layer)
     }
 
@@ -219,7 +220,7 @@ impl Props {
     {
         let mut own = Layer::new(program.allocator());
         own.put_all(&program.own)?;
-        case.lay_over(&mut own)?;
+        case.copy_into(&mut own)?;
         Ok(Props {
             program: program_layer(&program.program)?,
             own,
@@ -232,7 +233,7 @@ impl Props {
     ///
     /// A property that isn't set has the text of its default value.
     fn shown(&self, row: &PropertyRow) -> Result<Text, NoMemory>
-        ensures { IfOk result (λ text. text ≡ shown_text (texts_of self.now) (row_in row.now)) }
+        ensures { IfOk result (λ text. text ≡ property_text (texts_of self.now) (row_in row.now)) }
     {
         let alloc = self.allocator();
         match self.find(row.0) {
@@ -244,7 +245,7 @@ impl Props {
     /// Appends the properties of `rows` with their texts to `pairs`, except those with empty texts.
     fn add_shown(&self, pairs: &mut Variables, rows: &[PropertyRow]) -> Result<(), NoMemory>
         ensures { OnOk result (pairs.new
-            ≡ pairs.old ++ shown_pairs (texts_of self.now) (map row_in rows.now)) }
+            ≡ pairs.old ++ property_pairs (texts_of self.now) (map row_in rows.now)) }
     {
         for row in rows {
             let name = Text::from_str(self.allocator(), row.0)?;

@@ -1,5 +1,5 @@
 ghost use Rattle.std.specs.Prelude.{◌≡◌, ◌++◌, chars, IfOk, bytes_eq, not};
-ghost use Rattle.kt_metadata.specs.Common.{list_any, find, option_copied, reason_text, text_in, config_row, listed_row, user_row, need_row, amount_row, is_allowed, is_found, needed, is_undefined};
+ghost use Rattle.kt_metadata.specs.Common.{list_any, find, option_copied, reason_text, text_in, config_reason_text, listed_reason_text, user_reason_text, need_reason_text, amount_reason_text, is_allowed, is_found, needed, is_undefined};
 
 use crate::{Host, Meta, Need, User};
 use kt_base::{NoMemory, Phrase, Reason, Text};
@@ -72,7 +72,7 @@ pub fn config_reason(
     config: &Config,
     suite: &Text,
 ) -> Result<Option<Reason>, NoMemory>
-    ensures { IfOk result (λ reason. text_in reason ≡ config_row meta.now config.now suite.now) }
+    ensures { IfOk result (λ reason. text_in reason ≡ config_reason_text meta.now config.now suite.now) }
 {
     match first_undefined(meta.required_configs.as_slice(), config, suite) {
         None => Ok(None),
@@ -103,7 +103,7 @@ pub fn listed_reason(
     word: &str,
 ) -> Result<Option<Reason>, NoMemory>
     ensures { IfOk result (λ reason. text_in reason
-        ≡ listed_row (chars front.now) listed.now (chars word.now)) }
+        ≡ listed_reason_text (chars front.now) listed.now (chars word.now)) }
 {
     if is_allowed(listed, word) {
         return Ok(None);
@@ -116,7 +116,7 @@ pub fn listed_reason(
 ///
 /// `root` is `true` if the runner is root.
 pub fn user_reason(user: User, root: bool) -> Option<Reason>
-    ensures { text_in result ≡ user_row user root }
+    ensures { text_in result ≡ user_reason_text user root }
 {
     match (user, root) {
         (User::Root, false) => Some(Reason::Fixed(Phrase::RootNeeded)),
@@ -138,7 +138,7 @@ pub fn need_reason(
     meta: &Meta,
     host: &Host,
 ) -> Result<Option<Reason>, NoMemory>
-    ensures { IfOk result (λ reason. text_in reason ≡ need_row need meta.now host.now) }
+    ensures { IfOk result (λ reason. text_in reason ≡ need_reason_text need meta.now host.now) }
 {
     match first_missing(need, meta, host) {
         None => Ok(None),
@@ -154,7 +154,7 @@ pub fn need_reason(
 /// `due` is the required amount in bytes, and `there` the amount of the host, if it is known.
 /// Returns `None` if the amount is enough or unknown.
 pub fn amount_reason(phrase: Phrase, due: u64, there: Option<u64>) -> Option<Reason>
-    ensures { text_in result ≡ amount_row phrase due there }
+    ensures { text_in result ≡ amount_reason_text phrase due there }
 {
     match there {
         None => None,

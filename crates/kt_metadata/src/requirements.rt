@@ -1,5 +1,5 @@
 ghost use Rattle.std.specs.Prelude.{◌≡◌, IfOk};
-ghost use Rattle.kt_metadata.specs.Common.{text_in, architecture_row, platform_row, rows, host_rows, first_reason};
+ghost use Rattle.kt_metadata.specs.Common.{text_in, architecture_reason_text, platform_reason_text, rows, host_reason_texts, first_reason};
 
 use crate::reasons::{amount_reason, config_reason, listed_reason, need_reason, user_reason};
 use crate::{Host, Meta, Need};
@@ -13,7 +13,7 @@ fn architecture_reason(
     meta: &Meta,
     config: &Config,
 ) -> Result<Option<Reason>, NoMemory>
-    ensures { IfOk result (λ reason. text_in reason ≡ architecture_row meta.now config.now) }
+    ensures { IfOk result (λ reason. text_in reason ≡ architecture_reason_text meta.now config.now) }
 {
     let listed = meta.allowed_architectures.as_slice();
     listed_reason(
@@ -26,7 +26,7 @@ fn architecture_reason(
 
 /// Returns the reason to skip a case if the configured platform isn't allowed, else `None`.
 fn platform_reason(alloc: Global, meta: &Meta, config: &Config) -> Result<Option<Reason>, NoMemory>
-    ensures { IfOk result (λ reason. text_in reason ≡ platform_row meta.now config.now) }
+    ensures { IfOk result (λ reason. text_in reason ≡ platform_reason_text meta.now config.now) }
 {
     let listed = meta.allowed_platforms.as_slice();
     listed_reason(alloc, "Current platform '", listed, config.platform())
@@ -36,7 +36,7 @@ fn platform_reason(alloc: Global, meta: &Meta, config: &Config) -> Result<Option
 ///
 /// Returns `None` if the host meets the requirements on user, files, programs, memory and disk.
 fn host_reason(alloc: Global, meta: &Meta, host: &Host) -> Result<Option<Reason>, NoMemory>
-    ensures { IfOk result (λ reason. text_in reason ≡ first_reason (host_rows meta.now host.now)) }
+    ensures { IfOk result (λ reason. text_in reason ≡ first_reason (host_reason_texts meta.now host.now)) }
 {
     if let Some(reason) = user_reason(meta.required_user, host.root) {
         return Ok(Some(reason));

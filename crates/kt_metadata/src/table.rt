@@ -1,5 +1,5 @@
 ghost use Rattle.std.specs.Prelude.{◌≡◌, chars, map, IfOk, Some};
-ghost use Rattle.kt_metadata.specs.Common.{find, option_copied, option_map, row_in, has_key, has_name, is_custom, form_named, is_kyuafile_property, value_named, definition_fault, IfFault, filled, own_part};
+ghost use Rattle.kt_metadata.specs.Common.{find, option_copied, option_map, row_in, has_key, has_name, is_custom, form_of_property, is_kyuafile_property, value_of_text, definition_fault, IfFault, filled, non_empty_suffix};
 
 use crate::PropFault;
 use crate::form::Form;
@@ -35,11 +35,11 @@ pub const TABLE: [PropertyRow; 12] = [
 pub fn is_custom(name: &str) -> bool
     ensures { result ≡ is_custom (chars name.now) }
 {
-    own_part(name, "custom.").is_some()
+    non_empty_suffix(name, "custom.").is_some()
 }
 
 /// Returns the first of `rows` whose property has the name `name`, or `None` without such a row.
-fn row_named<'a>(name: &Text, rows: &'a [PropertyRow]) -> Option<&'a PropertyRow>
+fn row_with_name<'a>(name: &Text, rows: &'a [PropertyRow]) -> Option<&'a PropertyRow>
     ensures { option_map row_in (option_copied result)
         ≡ find (has_name name.now) (map row_in rows.now) }
 {
@@ -54,7 +54,7 @@ fn row_named<'a>(name: &Text, rows: &'a [PropertyRow]) -> Option<&'a PropertyRow
 /// Returns the first of `rows` with the key `key`, or `None` without such a row.
 ///
 /// The keys are those of a list of ATF cases (this profile).
-pub fn row_keyed<'a>(key: &Text, rows: &'a [PropertyRow]) -> Option<&'a PropertyRow>
+pub fn row_with_key<'a>(key: &Text, rows: &'a [PropertyRow]) -> Option<&'a PropertyRow>
     ensures { option_map row_in (option_copied result)
         ≡ find (has_key key.now) (map row_in rows.now) }
 {
@@ -67,13 +67,13 @@ pub fn row_keyed<'a>(key: &Text, rows: &'a [PropertyRow]) -> Option<&'a Property
 }
 
 /// Returns the form of the values of the property `name`, or `None` if no property has this name.
-fn form_named(name: &Text) -> Option<Form>
-    ensures { result ≡ form_named name.now }
+fn form_of_property(name: &Text) -> Option<Form>
+    ensures { result ≡ form_of_property name.now }
 {
     if is_custom(name.as_str()) {
         return Some(Form::Text);
     }
-    match row_named(name, &TABLE) {
+    match row_with_name(name, &TABLE) {
         Some(row) => Some(row.2),
         None => None,
     }
@@ -85,7 +85,7 @@ fn form_named(name: &Text) -> Option<Form>
 pub fn is_kyuafile_property(name: &Text) -> bool
     ensures { result ≡ is_kyuafile_property name.now }
 {
-    !name.is_word("has_cleanup") && form_named(name).is_some()
+    !name.is_word("has_cleanup") && form_of_property(name).is_some()
 }
 
 /// Parses `text` as a value of the property `name`.
@@ -96,10 +96,10 @@ pub fn is_kyuafile_property(name: &Text) -> bool
 /// - `BadValue`: a property has this name, but `text` isn't a value of the property.
 /// - `NoMemory`: an allocation fails.
 pub fn read_definition(alloc: Global, name: &Text, text: &Text) -> Result<Value, PropFault>
-    ensures value { IfOk result (λ value. value_named name.now text.now ≡ Some value) }
+    ensures value { IfOk result (λ value. value_of_text name.now text.now ≡ Some value) }
     ensures refused { IfFault result (λ fault. definition_fault name.now text.now ≡ Some fault) }
 {
-    match form_named(name) {
+    match form_of_property(name) {
         None => Err(PropFault::UnknownProperty),
         Some(form) => match form.read(alloc, text)? {
             None => Err(PropFault::BadValue),
@@ -121,9 +121,9 @@ fn filled(text: &str) -> Option<&str>
 /// Strips the prefix `front` from `text`.
 ///
 /// Returns `None` if `text` does not begin with `front` or has nothing after it.
-pub fn own_part<'a>(text: &'a str, front: &str) -> Option<&'a str>
+pub fn non_empty_suffix<'a>(text: &'a str, front: &str) -> Option<&'a str>
     ensures { option_map (λ part. chars part.now) result
-        ≡ own_part (chars front.now) (chars text.now) }
+        ≡ non_empty_suffix (chars front.now) (chars text.now) }
 {
     match text.strip_prefix(front) {
         None => None,

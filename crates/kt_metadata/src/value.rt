@@ -20,7 +20,7 @@ pub enum User {
 pub enum Value {
     /// The elements of the text, in their order.
     Words(Items<Text>),
-    /// Any text. The text itself is stored in [`Given`].
+    /// Any text. The text itself is stored in [`PropertyDefinition`].
     Text,
     /// A truth value.
     Truth(bool),
@@ -132,14 +132,14 @@ impl Value {
 
 /// A definition of a property: the text that was set, and the value parsed from it.
 #[derive(Drop)]
-pub struct Given {
+pub struct PropertyDefinition {
     /// The text that was set, unchanged.
     pub text: Text,
     /// The value parsed from the text.
     pub value: Value,
 }
 
-impl Given {
+impl PropertyDefinition {
     ghost use Rattle.std.specs.Prelude.{◌≡◌, IfOk};
 
     /// Copies the text and the value into newly allocated memory.
@@ -147,10 +147,10 @@ impl Given {
     /// # Errors
     ///
     /// - `NoMemory`: an allocation fails.
-    pub fn copy(&self, alloc: Global) -> Result<Given, NoMemory>
+    pub fn copy(&self, alloc: Global) -> Result<PropertyDefinition, NoMemory>
         ensures { IfOk result (λ given. given ≡ self.now) }
     {
-        Ok(Given {
+        Ok(PropertyDefinition {
             text: self.text.copy()?,
             value: self.value.copy(alloc)?,
         })

@@ -1,5 +1,5 @@
 ghost use Rattle.std.specs.Prelude.{◌≡◌, ◌∷◌, [], ◌++◌, List, ℕ, IfOk, OnOk};
-ghost use Rattle.kt_metadata.specs.Common.{list_any, truth_of, user_of, number_of, unit_of, factor_of, scaled, limited, is_not_absolute, is_no_program, is_space, ended, words, words_from, AreWords};
+ghost use Rattle.kt_metadata.specs.Common.{list_any, truth_of, user_of, number_of, unit_of, factor_of, scaled, limited, is_not_absolute, is_not_program_name, is_space, ended, words, words_from, AreWords};
 ghost use Rattle.kt_metadata.specs.Values.{size_in, timeout_in};
 
 use crate::User;
@@ -58,7 +58,7 @@ pub fn words(alloc: Global, text: &Text) -> Result<Items<Text>, NoMemory>
 }
 
 /// Theorem: each text has exactly one list of elements by the rule `AreWords`: `words text`.
-pub fn words_laws()
+pub fn theorem_of_words()
     ensures words { (text : List ℕ) → AreWords text (words text) }
     ensures only { (text : List ℕ) → (found : List (List ℕ)) → AreWords text found
         → found ≡ words text }
@@ -100,7 +100,7 @@ pub fn user(text: &Text) -> Option<User>
 }
 
 /// The greatest timeout of a test case, in seconds.
-const LONGEST_TIMEOUT: u32 = 1_000_000;
+const LONGEST_TIMEOUT_SECONDS: u32 = 1_000_000;
 
 /// Parses `digits` as a decimal number.
 ///
@@ -175,8 +175,8 @@ fn limited(number: Option<u64>, rest: &[u8]) -> Option<u32>
         return None;
     }
     if seconds == 0 {
-        Some(LONGEST_TIMEOUT)
-    } else if seconds <= LONGEST_TIMEOUT as u64 {
+        Some(LONGEST_TIMEOUT_SECONDS)
+    } else if seconds <= LONGEST_TIMEOUT_SECONDS as u64 {
         Some(seconds as u32)
     } else {
         None
@@ -201,14 +201,14 @@ fn is_not_absolute(word: &Text) -> bool
 }
 
 /// Returns `true` if `word` is a relative path with a slash.
-fn is_no_program(word: &Text) -> bool
-    ensures { result ≡ is_no_program word.now }
+fn is_not_program_name(word: &Text) -> bool
+    ensures { result ≡ is_not_program_name word.now }
 {
     !is_absolute(word.as_str()) && has_slash(word.as_str())
 }
 
 /// Returns `true` if one of `words` isn't an absolute path and so can't name a required file.
-pub fn has_no_file(words: &[Text]) -> bool
+pub fn has_invalid_file(words: &[Text]) -> bool
     ensures { result ≡ list_any is_not_absolute words.now }
 {
     words.iter().any(|word| is_not_absolute(word))
@@ -217,8 +217,8 @@ pub fn has_no_file(words: &[Text]) -> bool
 /// Returns `true` if one of `words` is a relative path with a slash.
 ///
 /// Such an element can't name a required program.
-pub fn has_no_program(words: &[Text]) -> bool
-    ensures { result ≡ list_any is_no_program words.now }
+pub fn has_invalid_program(words: &[Text]) -> bool
+    ensures { result ≡ list_any is_not_program_name words.now }
 {
-    words.iter().any(|word| is_no_program(word))
+    words.iter().any(|word| is_not_program_name(word))
 }

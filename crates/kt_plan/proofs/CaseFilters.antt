@@ -1,6 +1,6 @@
 -- Lemmas on the filters of a command, one by one and together.
 use Rattle.std.proofs.Common.{arith, Option, Some, None, Result, Ok, Err, IsErrAnd, find, option_map, option_and_then, slice_get, ◌≡◌, ℕ, suc, ◌<◌, Bool, true, false, List, [], ◌∷◌, length, get_or, take, refl, sym, ap, ◌∙◌, subst, ◌⊎◌, inr}
-use Rattle.kt_plan.proofs.Common.{err_from_is_err_and, Filter, FilterFault, ChecksTogether, apart, position_in, shared, Filters, clash, each_of, filters_of, in_front, lacks_case, right, unnamed, unparsed, IsShort, Stop}
+use Rattle.kt_plan.proofs.Common.{err_from_is_err_and, Filter, FilterFault, ChecksTogether, apart, position_in, shared, Filters, clash, each_of, filters_of, cons_result, lacks_case, right, unnamed, unparsed, IsShort, Stop}
 use Rattle.std.proofs.lemmas.Option.{slice_get_read, slice_get_within}
 use Rattle.kt_suite.specs.Disjoint.{IsDisjoint, IsFirstFault, overlap}
 use Rattle.kt_suite.specs.Disjoint as of
@@ -9,7 +9,7 @@ use Rattle.kt_plan.specs.declared.stop.Stop.TheVariants as stop
 -- ---- the number of filters
 
 -- One meaning before the others adds one to their number.
-length_in_front : {A : Type 0} (m : Result A Stop) (rest : Result (List A) Stop) (all : List A) (n : ℕ) → in_front m rest ≡ Ok all → ((more : List A) → rest ≡ Ok more → n ≡ length more) → suc n ≡ length all
+length_in_front : {A : Type 0} (m : Result A Stop) (rest : Result (List A) Stop) (all : List A) (n : ℕ) → cons_result m rest ≡ Ok all → ((more : List A) → rest ≡ Ok more → n ≡ length more) → suc n ≡ length all
 length_in_front (Err fault) rest all n e f = absurd (cc)
 length_in_front (Ok one) (Err fault) all n e f = absurd (cc)
 length_in_front {A} (Ok one) (Ok more) all n e f = let same : one ∷ more ≡ all = cc in ap suc (f more refl) ∙ ap (λ (xs : List A). length xs) same

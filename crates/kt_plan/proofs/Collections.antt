@@ -1,14 +1,14 @@
 -- Lemmas on the calls for a selection: those to the tree, and then the lists.
 use Rattle.std.proofs.Common.{Result, Ok, Err, Bool, not, filter, ◌+◌, IfErr, IfOk, List, OnOk, [], ap, arith, inl, inr, length, refl, subst, sym, ℕ, ◌<◌, ◌∙◌, ◌≡◌, ◌≤◌, ◌⊎◌}
-use Rattle.kt_plan.proofs.Common.{Asked, Answered, NoMemory, most_items, is_selected, SuiteFault, Filter, Program, Candidate, Chosen, Settings, Stop, CollectsOrShort, Collected, item_of, selected_cases, chosen_of, Offers, OffersFirst, Collects, unloaded, too_many, chosen, loading, offering, LoadsOrShort, RanShort, Loads, by_tree, RanOut, IsShort, Reply}
+use Rattle.kt_plan.proofs.Common.{Asked, Answered, NoMemory, item_limit, is_selected, SuiteFault, Filter, Program, Candidate, Chosen, Settings, Stop, CollectsOrShort, Collected, item_of, selected_cases, chosen_of, Offers, OffersFirst, Collects, unloaded, too_many, chosen, loading, offering, LoadsOrShort, LoadStopsForMemory, Loads, by_tree, StopsForMemory, IsShort, Reply}
 use Rattle.std.proofs.lemmas.List.Filters.{length-filter_both}
 use Rattle.kt_base.specs.declared.no_memory.NoMemory.{NoMemory as OutOfMemory}
 use Rattle.kt_suite.specs.Faults.{IsNoMemory}
 use Rattle.kt_plan.specs.declared.stop.Stop.TheVariants as stop
 use Rattle.kt_plan.proofs.OfferLaws.{all_first}
 
--- An error other than a failed allocation is not `RanShort`.
-never_short : (fault : SuiteFault) → (IsNoMemory fault → ⊥) → RanShort (Err fault) → ⊥
+-- An error other than a failed allocation is not `LoadStopsForMemory`.
+never_short : (fault : SuiteFault) → (IsNoMemory fault → ⊥) → LoadStopsForMemory (Err fault) → ⊥
 never_short fault never s = let e = s.2 in let same : fault ≡ s.0 = cc in never (s.1.0, same ∙ s.1.1)
 
 -- Programs that were loaded are those that the Kyuafile registers.
@@ -17,12 +17,12 @@ loaded_all programs asked kyuafile (inl s) = let e = s.0.2 in absurd (cc)
 loaded_all programs asked kyuafile (inr l) = l
 
 -- A selection has at most as many cases as there are.
-pub few_chosen : (filters : List Filter) (found : List Candidate) (r : Result Chosen Stop) → IfOk r (λ c. c ≡ chosen_of filters found) → OnOk r (length found ≤ most_items) → IfOk r (λ c. length c.cases ≤ most_items)
+pub few_chosen : (filters : List Filter) (found : List Candidate) (r : Result Chosen Stop) → IfOk r (λ c. c ≡ chosen_of filters found) → OnOk r (length found ≤ item_limit) → IfOk r (λ c. length c.cases ≤ item_limit)
 few_chosen filters found (Ok c) e few =
     let test : Candidate → Bool = λ candidate. is_selected filters (item_of candidate) in
     let both : length (filter test found) + length (filter (λ candidate. not (test candidate)) found) ≡ length found = length-filter_both test (λ candidate. not (test candidate)) (λ candidate. refl) found in
-    let less : length (selected_cases filters found) ≤ most_items = omega (arith, both, few) in
-    subst (λ (x : Chosen). length x.cases ≤ most_items) (sym e) less
+    let less : length (selected_cases filters found) ≤ item_limit = omega (arith, both, few) in
+    subst (λ (x : Chosen). length x.cases ≤ item_limit) (sym e) less
 few_chosen filters found (Err why) e few = tt
 
 module _ {W : Type 0} (asks : W → Asked → W → Type 0) (replies : W → Reply → W → Type 0) (settings : Settings) (kyuafile : List ℕ) (old mid : W) where
@@ -45,7 +45,7 @@ module _ {W : Type 0} (asks : W → Asked → W → Type 0) (replies : W → Rep
     loads = loaded_all programs a.asked kyuafile a.holds
 
     -- A failed allocation during the lists leaves the first calls of the selection.
-    pub lists_stopped : (shown : List Program) (r : Result Chosen Stop) (why : Stop) → shown ≡ programs → Answered replies mid new (λ answers. OffersFirst settings.config settings.filters shown answers) → r ≡ Err why → RanOut why
+    pub lists_stopped : (shown : List Program) (r : Result Chosen Stop) (why : Stop) → shown ≡ programs → Answered replies mid new (λ answers. OffersFirst settings.config settings.filters shown answers) → r ≡ Err why → StopsForMemory why
         → Collected asks replies settings kyuafile old new r
     lists_stopped shown r why same b e short = record {
       asked = a.asked;
@@ -70,7 +70,7 @@ module _ {W : Type 0} (asks : W → Asked → W → Type 0) (replies : W → Rep
       offers = subst (λ (ps : List Program). Offers settings.config settings.filters ps b.asked found) same b.holds
 
       -- The result of the filters is the result of the selection.
-      pub all_chosen : (r : Result Chosen Stop) → IfOk r (λ c. c ≡ chosen_of filters found) → OnOk r (length found ≤ most_items) → IfErr r (λ why. RanOut why ⊎ ((why ≡ stop.TooManyCases) × (most_items < length found)))
+      pub all_chosen : (r : Result Chosen Stop) → IfOk r (λ c. c ≡ chosen_of filters found) → OnOk r (length found ≤ item_limit) → IfErr r (λ why. StopsForMemory why ⊎ ((why ≡ stop.TooManyCases) × (item_limit < length found)))
           → Collected asks replies settings kyuafile old new r
       all_chosen (Ok c) e few s =
           let right : c ≡ chosen_of settings.filters found = e ∙ ap (λ (fs : List Filter). chosen_of fs found) own in

@@ -1,13 +1,13 @@
 -- Lemmas on the checks of required files and programs, and on their record.
 use Rattle.std.proofs.Common.{Bool, true, false, Option, ◌≡◌, ℕ, List, [], ◌∷◌, ◌++◌, ◌&&◌, ◌||◌, refl, sym, ap, ◌∙◌, subst, append_assoc, append-nil}
-use Rattle.kt_plan.proofs.Common.{Answered, is_found, is_same_need, IsNoted, Host, Need, Candidate, Notes, finds, needs_of, LooksFor, nothing, asked, Surveys, SurveysFirst, AreFirst, Reply, Finds, IsRoot, HasMemory, HasDisk}
+use Rattle.kt_plan.proofs.Common.{Answered, is_found, is_same_need, IsRecordedAsFound, Host, Need, Candidate, RecordsFound, finds, needs_of, ChecksNeeds, nothing, asked, Surveys, SurveysFirst, IsCallPrefix, Reply, Finds, IsRoot, HasMemory, HasDisk}
 use Rattle.kt_plan.proofs.Chains.{answered-as, answered-once, answered-then}
 use Rattle.std.specs.List.{list_any}
 use Rattle.std.proofs.lemmas.List.Folds.{list_any-append}
 use Rattle.std.proofs.Math.Bool.{or-false, and-true, and-false, or_assoc}
 
 -- Recording two lists of results, one after the other, is recording both.
-notes_more : (answers more : List Reply) (a b d : Host) → Notes answers a b → Notes more b d → Notes (answers ++ more) a d
+notes_more : (answers more : List Reply) (a b d : Host) → RecordsFound answers a b → RecordsFound more b d → RecordsFound (answers ++ more) a d
 notes_more answers more a b d h k = record {
   found = λ need word.
       k.found need word ∙ ap (λ (x : Bool). x || list_any (finds need word) more) (h.found need word)
@@ -19,7 +19,7 @@ notes_more answers more a b d h k = record {
 }
 
 -- A file or program that doesn't exist leaves the record unchanged.
-notes_missing : (need : Need) (name : List ℕ) (host : Host) → Notes (Finds need name false ∷ []) host host
+notes_missing : (need : Need) (name : List ℕ) (host : Host) → RecordsFound (Finds need name false ∷ []) host host
 notes_missing need name host = record {
   found = λ other word. sym (or-false (is_found other host word)) ∙ ap (λ (x : Bool). is_found other host word || x) (sym (or-false (is_same_need need name other word && false) ∙ and-false (is_same_need need name other word)));
   root = refl;
@@ -28,7 +28,7 @@ notes_missing need name host = record {
 }
 
 -- A file or program that exists is recorded.
-notes_there : (need : Need) (name : List ℕ) (old new : Host) → IsNoted need name old new → Notes (Finds need name true ∷ []) old new
+notes_there : (need : Need) (name : List ℕ) (old new : Host) → IsRecordedAsFound need name old new → RecordsFound (Finds need name true ∷ []) old new
 notes_there need name old new k = record {
   found = λ other word. k.found other word ∙ ap (λ (x : Bool). is_found other old word || x) (sym (or-false (is_same_need need name other word && true) ∙ and-true (is_same_need need name other word)));
   root = k.root;
@@ -38,12 +38,12 @@ notes_there need name old new k = record {
 
 -- The checks of one list of requirements, followed by the checks of another, are the checks of
 -- both.
-looks_append : (some after : List (Need × List ℕ)) (answers more : List Reply) → LooksFor some answers → LooksFor after more → LooksFor (some ++ after) (answers ++ more)
+looks_append : (some after : List (Need × List ℕ)) (answers more : List Reply) → ChecksNeeds some answers → ChecksNeeds after more → ChecksNeeds (some ++ after) (answers ++ more)
 looks_append _ after _ more nothing k = k
 looks_append _ after _ more (asked need word needs answer answers h) k = asked need word (needs ++ after) answer (answers ++ more) (looks_append needs after answers more h k)
 
 -- Each list of requirements has a list of checks.
-asks_all : (needs : List (Need × List ℕ)) → (answers : List Reply) × LooksFor needs answers
+asks_all : (needs : List (Need × List ℕ)) → (answers : List Reply) × ChecksNeeds needs answers
 asks_all [] = ([], nothing)
 asks_all (first ∷ needs) = let rest = asks_all needs in (Finds first.0 first.1 false ∷ rest.0, asked first.0 first.1 needs false rest.0 rest.1)
 
@@ -59,24 +59,24 @@ all_surveyed cases answers host s = record {
   disk = host.disk;
   looked = s.looked;
   asked = s.asked;
-  first = ([], subst (λ (ts : List Reply). LooksFor (needs_of cases) ts) (sym (append-nil s.looked)) s.all);
+  first = ([], subst (λ (ts : List Reply). ChecksNeeds (needs_of cases) ts) (sym (append-nil s.looked)) s.all);
 }
 
 module _ {W : Type 0} (replies : W → Reply → W → Type 0) where
   -- The check of a file or program that doesn't exist leaves the record unchanged.
   pub word_missing : (need : Need) (name : List ℕ) (old new : W) (host : Host) (answer : Bool) → answer ≡ false → replies old (Finds need name answer) new
-      → Answered replies old new (λ answers. LooksFor ((need, name) ∷ []) answers × Notes answers host host)
+      → Answered replies old new (λ answers. ChecksNeeds ((need, name) ∷ []) answers × RecordsFound answers host host)
   word_missing need name old new host answer missing h =
       answered-once (Finds need name false) (subst (λ (b : Bool). replies old (Finds need name b) new) missing h) (asked need name [] false [] nothing, notes_missing need name host)
 
   -- The check of a file or program that exists records it.
-  pub word_there : (need : Need) (name : List ℕ) (old new : W) (was now : Host) (answer : Bool) → answer ≡ true → replies old (Finds need name answer) new → IsNoted need name was now
-      → Answered replies old new (λ answers. LooksFor ((need, name) ∷ []) answers × Notes answers was now)
+  pub word_there : (need : Need) (name : List ℕ) (old new : W) (was now : Host) (answer : Bool) → answer ≡ true → replies old (Finds need name answer) new → IsRecordedAsFound need name was now
+      → Answered replies old new (λ answers. ChecksNeeds ((need, name) ∷ []) answers × RecordsFound answers was now)
   word_there need name old new was now answer there h n =
       answered-once (Finds need name true) (subst (λ (b : Bool). replies old (Finds need name b) new) there h) (asked need name [] true [] nothing, notes_there need name was now n)
 
   -- A check after which an allocation fails is the first call.
-  pub word_asked : (need : Need) (name : List ℕ) (old new : W) (answer : Bool) → replies old (Finds need name answer) new → Answered replies old new (λ answers. AreFirst (LooksFor ((need, name) ∷ [])) answers)
+  pub word_asked : (need : Need) (name : List ℕ) (old new : W) (answer : Bool) → replies old (Finds need name answer) new → Answered replies old new (λ answers. IsCallPrefix (ChecksNeeds ((need, name) ∷ [])) answers)
   word_asked need name old new answer h = answered-once (Finds need name answer) h ([], asked need name [] answer [] nothing)
 
   module _ (needs : List (Need × List ℕ)) (old : W) (was : Host) where
@@ -84,11 +84,11 @@ module _ {W : Type 0} (replies : W → Reply → W → Type 0) where
     -- their record. With the checks of `rest`, they are all checks.
     abbrev pub Looking : List (Need × List ℕ) → W → Host → Type 0
     Looking rest new now =
-        Answered replies old new (λ answers. ((more : List Reply) → LooksFor rest more → LooksFor needs (answers ++ more)) × Notes answers was now)
+        Answered replies old new (λ answers. ((more : List Reply) → ChecksNeeds rest more → ChecksNeeds needs (answers ++ more)) × RecordsFound answers was now)
 
     -- The checks of the next requirements extend the checks so far.
     pub looking_next : (rest some after : List (Need × List ℕ)) (mid new : W) (then now : Host) → rest ≡ some ++ after → Looking rest mid then
-        → Answered replies mid new (λ answers. LooksFor some answers × Notes answers then now) → Looking after new now
+        → Answered replies mid new (λ answers. ChecksNeeds some answers × RecordsFound answers then now) → Looking after new now
     looking_next rest some after mid new then now e l a = answered-then l a (λ answers own g h. (
       λ more k. rw append_assoc (g.0 (own ++ more) (rw e (looks_append some after own more h.0 k))),
       notes_more answers own was then now g.1 h.1,
@@ -96,22 +96,22 @@ module _ {W : Type 0} (replies : W → Reply → W → Type 0) where
 
     -- The checks before a failed allocation are the first calls.
     pub looking_stopped : (rest some after : List (Need × List ℕ)) (mid new : W) (then : Host) → rest ≡ some ++ after → Looking rest mid then
-        → Answered replies mid new (λ answers. AreFirst (LooksFor some) answers) → Answered replies old new (λ answers. AreFirst (LooksFor needs) answers)
+        → Answered replies mid new (λ answers. IsCallPrefix (ChecksNeeds some) answers) → Answered replies old new (λ answers. IsCallPrefix (ChecksNeeds needs) answers)
     looking_stopped rest some after mid new then e l a =
         let others = asks_all after in
         answered-then l a (λ answers own g h. (
           h.0 ++ others.0,
-          subst (λ (ts : List Reply). LooksFor needs ts) (rejoined answers own h.0 others.0) (g.0 ((own ++ h.0) ++ others.0) (rw e (looks_append some after (own ++ h.0) others.0 h.1 others.1))),
+          subst (λ (ts : List Reply). ChecksNeeds needs ts) (rejoined answers own h.0 others.0) (g.0 ((own ++ h.0) ++ others.0) (rw e (looks_append some after (own ++ h.0) others.0 h.1 others.1))),
         ))
 
     -- Without remaining requirements, the checks so far are all.
-    pub looking_all : (rest : List (Need × List ℕ)) (new : W) (now : Host) → rest ≡ [] → Looking rest new now → Answered replies old new (λ answers. LooksFor needs answers × Notes answers was now)
+    pub looking_all : (rest : List (Need × List ℕ)) (new : W) (now : Host) → rest ≡ [] → Looking rest new now → Answered replies old new (λ answers. ChecksNeeds needs answers × RecordsFound answers was now)
     looking_all rest new now e l = answered-as l (λ answers g. (rw append-nil at (g.0 [] (rw e nothing)), g.1))
 
   -- The checks for root, memory, disk space and the requirements are all calls to the host.
   pub surveyed : (cases : List Candidate) (old a b d new : W) (was now : Host) (root : Bool) (memory disk : Option ℕ) → was.root ≡ root → was.memory ≡ memory → was.disk ≡ disk
       → ((need : Need) (word : List ℕ) → is_found need was word ≡ false) → replies old (IsRoot root) a → replies a (HasMemory memory) b → replies b (HasDisk disk) d
-      → Answered replies d new (λ answers. LooksFor (needs_of cases) answers × Notes answers was now) → Answered replies old new (λ answers. Surveys cases answers now)
+      → Answered replies d new (λ answers. ChecksNeeds (needs_of cases) answers × RecordsFound answers was now) → Answered replies old new (λ answers. Surveys cases answers now)
   surveyed cases old a b d new was now root memory disk r m k none x y z h = record {
     asked = IsRoot root ∷ HasMemory memory ∷ HasDisk disk ∷ h.asked;
     chain = (a, x, (b, y, (d, z, h.chain)));
@@ -125,7 +125,7 @@ module _ {W : Type 0} (replies : W → Reply → W → Type 0) where
 
   -- The calls to the host before a failed allocation are the first calls.
   pub survey_stopped : (cases : List Candidate) (old a b d new : W) (root : Bool) (memory disk : Option ℕ) → replies old (IsRoot root) a → replies a (HasMemory memory) b → replies b (HasDisk disk) d
-      → Answered replies d new (λ answers. AreFirst (LooksFor (needs_of cases)) answers) → Answered replies old new (λ answers. SurveysFirst cases answers)
+      → Answered replies d new (λ answers. IsCallPrefix (ChecksNeeds (needs_of cases)) answers) → Answered replies old new (λ answers. SurveysFirst cases answers)
   survey_stopped cases old a b d new root memory disk x y z h = record {
     asked = IsRoot root ∷ HasMemory memory ∷ HasDisk disk ∷ h.asked;
     chain = (a, x, (b, y, (d, z, h.chain)));

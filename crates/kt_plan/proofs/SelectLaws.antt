@@ -1,39 +1,39 @@
 -- Lemmas on the selection of a command, step by step.
 use Rattle.std.proofs.Common.{Ok, Err, Bool, ℕ, List, ◌++◌, inl, inr}
-use Rattle.kt_plan.proofs.Common.{Chain, Asked, Answered, CaseOptions, Chosen, Settings, Stop, CollectsOrShort, Collected, Collects, SettlesOrShort, Settles, leads_by, of_tree, of_host, Reply, chain-append}
+use Rattle.kt_plan.proofs.Common.{Chain, Asked, Answered, CaseOptions, Chosen, Settings, Stop, CollectsOrShort, Collected, Collects, ReadsSettingsOrShort, ReadsSettings, leads_by, tree_calls, host_calls, Reply, chain-append}
 use Rattle.kt_plan.specs.Selecting.{SelectsOrShort, collecting, selected, settling, uncollected, unsettled}
 use Rattle.kt_plan.proofs.QuestionChains.{chain_of_host, chain_of_tree}
 
 module _ {W : Type 0} (asks : W → Asked → W → Type 0) (replies : W → Reply → W → Type 0) where
   -- An error in the settings is the error of the selection.
   pub unsettled_answer : (needed : Bool) (options : CaseOptions) (old new : W) (fault : Stop)
-      → Answered replies old new (λ answers. SettlesOrShort needed options answers (Err fault))
+      → Answered replies old new (λ answers. ReadsSettingsOrShort needed options answers (Err fault))
       → Answered (leads_by asks replies) old new (λ questions. SelectsOrShort needed options questions (Err fault))
   unsettled_answer needed options old new fault a = record {
-    asked = of_host a.asked;
+    asked = host_calls a.asked;
     chain = chain_of_host asks replies a.asked old new a.chain;
     holds = elim a.holds [ inl s ↦ inl (s.0, settling a.asked s.1) | inr s ↦ inr (unsettled a.asked fault s) ];
   }
 
   -- Settings that were returned are the settings of the command.
-  settled_is : (needed : Bool) (options : CaseOptions) (answers : List Reply) (settings : Settings) → SettlesOrShort needed options answers (Ok settings) → Settles needed options answers (Ok settings)
+  settled_is : (needed : Bool) (options : CaseOptions) (answers : List Reply) (settings : Settings) → ReadsSettingsOrShort needed options answers (Ok settings) → ReadsSettings needed options answers (Ok settings)
   settled_is needed options answers settings (inl s) = absurd s.0
   settled_is needed options answers settings (inr s) = s
 
   -- Calls to the host, to the tree and for the lists are calls to the world.
   chain_to : (answers : List Reply) (asked : List Asked) (lists : List Reply) (a b d e : W) → Chain replies a answers b → Chain asks b asked d → Chain replies d lists e
-      → Chain (leads_by asks replies) a (of_host answers ++ (of_tree asked ++ of_host lists)) e
+      → Chain (leads_by asks replies) a (host_calls answers ++ (tree_calls asked ++ host_calls lists)) e
   chain_to answers asked lists a b d e x y z =
-      chain-append (leads_by asks replies) (of_host answers) (of_tree asked ++ of_host lists) a b e (chain_of_host asks replies answers a b x)
-      (chain-append (leads_by asks replies) (of_tree asked) (of_host lists) b d e (chain_of_tree asks replies asked b d y) (chain_of_host asks replies lists d e z))
+      chain-append (leads_by asks replies) (host_calls answers) (tree_calls asked ++ host_calls lists) a b e (chain_of_host asks replies answers a b x)
+      (chain-append (leads_by asks replies) (tree_calls asked) (host_calls lists) b d e (chain_of_tree asks replies asked b d y) (chain_of_host asks replies lists d e z))
 
   -- An error in the Kyuafiles or the cases is the error of the selection.
   pub uncollected_answer : (needed : Bool) (options : CaseOptions) (old mid new : W) (settings : Settings) (fault : Stop)
-      → Answered replies old mid (λ answers. SettlesOrShort needed options answers (Ok settings))
+      → Answered replies old mid (λ answers. ReadsSettingsOrShort needed options answers (Ok settings))
       → Collected asks replies settings options.kyuafile mid new (Err fault)
       → Answered (leads_by asks replies) old new (λ questions. SelectsOrShort needed options questions (Err fault))
   uncollected_answer needed options old mid new settings fault a c = record {
-    asked = of_host a.asked ++ (of_tree c.asked ++ of_host c.answers);
+    asked = host_calls a.asked ++ (tree_calls c.asked ++ host_calls c.answers);
     chain = chain_to a.asked c.asked c.answers old mid c.loaded new a.chain c.chain c.lists;
     holds = elim c.holds [ inl s ↦ inl (s.0, collecting a.asked settings c.asked c.answers (settled_is needed options a.asked settings a.holds) s.1) | inr s ↦ inr (uncollected a.asked settings c.asked c.answers fault (settled_is needed options a.asked settings a.holds) s) ];
   }
@@ -45,11 +45,11 @@ module _ {W : Type 0} (asks : W → Asked → W → Type 0) (replies : W → Rep
 
   -- Settings and selected cases are a selection.
   pub selected_answer : (needed : Bool) (options : CaseOptions) (old mid new : W) (settings : Settings) (chosen : Chosen)
-      → Answered replies old mid (λ answers. SettlesOrShort needed options answers (Ok settings))
+      → Answered replies old mid (λ answers. ReadsSettingsOrShort needed options answers (Ok settings))
       → Collected asks replies settings options.kyuafile mid new (Ok chosen)
       → Answered (leads_by asks replies) old new (λ questions. SelectsOrShort needed options questions (Ok (record { settings = settings; chosen = chosen })))
   selected_answer needed options old mid new settings chosen a c = record {
-    asked = of_host a.asked ++ (of_tree c.asked ++ of_host c.answers);
+    asked = host_calls a.asked ++ (tree_calls c.asked ++ host_calls c.answers);
     chain = chain_to a.asked c.asked c.answers old mid c.loaded new a.chain c.chain c.lists;
     holds = inr (selected a.asked settings c.asked c.answers chosen (settled_is needed options a.asked settings a.holds) (collects_is settings options.kyuafile c.asked c.answers chosen c.holds));
   }

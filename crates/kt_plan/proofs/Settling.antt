@@ -1,6 +1,6 @@
 -- Lemmas on the settings of a command.
 use Rattle.std.proofs.Common.{Result, Ok, Err, IsErrAnd, ◌≡◌, Bool, List, sym, ap, ◌∙◌, subst, ◌⊎◌, inl, inr}
-use Rattle.kt_plan.proofs.Common.{err_from_is_err_and, Definition, Values, Answered, Filter, Configured, Gives, OrShort, SettlesOrShort, Configures, Filters, Settles, settled, unconfigured, unfiltered, IsShort, Reply, CaseOptions, Settings, Stop}
+use Rattle.kt_plan.proofs.Common.{err_from_is_err_and, Definition, Values, Answered, Filter, HasConfiguration, Gives, HoldsOrShort, ReadsSettingsOrShort, Configures, Filters, ReadsSettings, settled, unconfigured, unfiltered, IsShort, Reply, CaseOptions, Settings, Stop}
 use Rattle.kt_base.specs.declared.no_memory.NoMemory.{NoMemory as OutOfMemory}
 use Rattle.kt_plan.specs.declared.stop.Stop.TheVariants as stop
 use Rattle.kt_plan.proofs.Chains.{answered-as}
@@ -16,20 +16,20 @@ module _ {W : Type 0} (replies : W → Reply → W → Type 0) (old new : W) (ne
   -- `Settled result`: the calls from `old` to `new` give the settings `result` of the command, or
   -- its error.
   abbrev pub Settled : Result Settings Stop → Type 0
-  Settled result = Answered replies old new (λ answers. SettlesOrShort needs_case options answers result)
+  Settled result = Answered replies old new (λ answers. ReadsSettingsOrShort needs_case options answers result)
 
   -- The error of the configuration is the error of the settings.
   pub not_configured : (found : Result Values Stop) (result : Result Settings Stop) (fault : Stop) → found ≡ Err fault → IsErrAnd result (λ e. e ≡ fault) → Configuration replies old new options found → Settled result
   not_configured found result fault e r a =
       let p = err_from_is_err_and result r in
-      answered-as a (λ answers h. subst (λ (o : Result Settings Stop). SettlesOrShort needs_case options answers o) (sym (p.1 ∙ ap (λ (x : Stop). Err x) p.2))
-      (by answers (subst (λ (o : Result Values Stop). OrShort o options.config answers (Configured (Configures options answers) o)) e h)))
+      answered-as a (λ answers h. subst (λ (o : Result Settings Stop). ReadsSettingsOrShort needs_case options answers o) (sym (p.1 ∙ ap (λ (x : Stop). Err x) p.2))
+      (by answers (subst (λ (o : Result Values Stop). HoldsOrShort o options.config answers (HasConfiguration (Configures options answers) o)) e h)))
     where
-      meant : (answers : List Reply) (m : Result (List Definition) Stop) → Configures options answers m → Gives (Err fault) m → Settles needs_case options answers (Err fault)
+      meant : (answers : List Reply) (m : Result (List Definition) Stop) → Configures options answers m → Gives (Err fault) m → ReadsSettings needs_case options answers (Err fault)
       meant answers (Ok definitions) m g = absurd g
-      meant answers (Err f) m g = subst (λ (x : Stop). Settles needs_case options answers (Err x)) (sym g) (unconfigured f m)
+      meant answers (Err f) m g = subst (λ (x : Stop). ReadsSettings needs_case options answers (Err x)) (sym g) (unconfigured f m)
 
-      by : (answers : List Reply) → OrShort {T = Values} (Err fault) options.config answers (Configured (Configures options answers) (Err fault)) → SettlesOrShort needs_case options answers (Err fault)
+      by : (answers : List Reply) → HoldsOrShort {T = Values} (Err fault) options.config answers (HasConfiguration (Configures options answers) (Err fault)) → ReadsSettingsOrShort needs_case options answers (Err fault)
       by answers (inl s) = inl s
       by answers (inr c) = inr (meant answers c.meant c.means c.gives)
 
@@ -40,11 +40,11 @@ module _ {W : Type 0} (replies : W → Reply → W → Type 0) (old new : W) (ne
     not_filtered read result fault f r h =
         let p = err_from_is_err_and result r in
         with_definitions replies old new (Configures options) e a (λ answers definitions m g.
-        subst (λ (o : Result Settings Stop). SettlesOrShort needs_case options answers o) (sym (p.1 ∙ ap (λ (x : Stop). Err x) p.2))
+        subst (λ (o : Result Settings Stop). ReadsSettingsOrShort needs_case options answers o) (sym (p.1 ∙ ap (λ (x : Stop). Err x) p.2))
         (by answers definitions m (subst (λ (o : Result (List Filter) Stop). IsShort o ⊎ Filters needs_case options.filters o) f h)))
       where
         by : (answers : List Reply) (definitions : List Definition) → Configures options answers (Ok definitions) → IsShort {T = List Filter} (Err fault) ⊎ Filters needs_case options.filters (Err fault)
-            → SettlesOrShort needs_case options answers (Err fault)
+            → ReadsSettingsOrShort needs_case options answers (Err fault)
         by answers definitions m (inl s) = inl (s, configuration_first options answers (Ok definitions) m)
         by answers definitions m (inr w) = inr (unfiltered definitions fault m w)
 
@@ -57,6 +57,6 @@ module _ {W : Type 0} (replies : W → Reply → W → Type 0) (old new : W) (ne
       where
         by : (answers : List Reply) (definitions : List Definition) → Configures options answers (Ok definitions) → Gives (Ok config) (Ok definitions)
             → IsShort {T = List Filter} (Ok filters) ⊎ Filters needs_case options.filters (Ok filters)
-            → SettlesOrShort needs_case options answers (Ok (record { config = config; filters = filters }))
+            → ReadsSettingsOrShort needs_case options answers (Ok (record { config = config; filters = filters }))
         by answers definitions m g (inl s) = absurd s
         by answers definitions m g (inr w) = inr (settled definitions (record { config = config; filters = filters }) m g w)

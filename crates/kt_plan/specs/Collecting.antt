@@ -5,7 +5,7 @@ use Rattle.kt_plan.specs.Types.{Asked, Atf, Candidate, CaseDef, Chosen, Filter, 
 use Rattle.kt_config.specs.Values.{variables_of}
 use Rattle.kt_atflist.specs.Cases.{AreCases}
 use Rattle.kt_suite.specs.Matching.{MayMatch}
-use Rattle.kt_suite.specs.Selecting.{most_items, is_selected, unmatched_places}
+use Rattle.kt_suite.specs.Selecting.{item_limit, is_selected, unmatched_positions}
 use Rattle.kt_plan.specs.declared.stop.Stop.TheVariants as stop
 use Rattle.kt_plan.specs.Listings.{Loads, LoadsFirst}
 use Rattle.kt_plan.specs.Reply.{Reply, Lists}
@@ -72,7 +72,7 @@ selected_cases filters found = filter (λ candidate. is_selected filters (item_o
 abbrev pub chosen_of : List Filter → List Candidate → Chosen
 chosen_of filters found = record {
   cases = selected_cases filters found;
-  unmatched = unmatched_places (map item_of found) filters;
+  unmatched = unmatched_positions (map item_of found) filters;
 }
 
 -- `Collects settings kyuafile asked answers result`: `result` has the selected cases, or the error
@@ -80,9 +80,9 @@ chosen_of filters found = record {
 pub data Collects (settings : Settings) (kyuafile : List ℕ) : List Asked → List Reply → Result Chosen Stop → Type 0 where
   unloaded : (asked : List Asked) (fault : SuiteFault) → Loads kyuafile asked (Err fault) → Collects settings kyuafile asked [] (Err (stop.Tree fault))
   too_many : (asked : List Asked) (answers : List Reply) (programs : List Program) (found : List Candidate) → Loads kyuafile asked (Ok programs)
-      → Offers settings.config settings.filters programs answers found → most_items < length found → Collects settings kyuafile asked answers (Err stop.TooManyCases)
+      → Offers settings.config settings.filters programs answers found → item_limit < length found → Collects settings kyuafile asked answers (Err stop.TooManyCases)
   chosen : (asked : List Asked) (answers : List Reply) (programs : List Program) (found : List Candidate) → Loads kyuafile asked (Ok programs)
-      → Offers settings.config settings.filters programs answers found → length found ≤ most_items
+      → Offers settings.config settings.filters programs answers found → length found ≤ item_limit
       → Collects settings kyuafile asked answers (Ok (chosen_of settings.filters found))
 
 -- `CollectsFirst settings kyuafile asked answers`: `asked` and `answers` are the first calls of a

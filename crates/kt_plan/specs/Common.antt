@@ -13,16 +13,16 @@ pub use Rattle.kt_suite.specs.Faults.{IsNoMemory, no_memory}
 pub use Rattle.kt_suite.specs.Inner.Steps.{Blames}
 pub use Rattle.kt_suite.specs.Matching.{MayMatch}
 pub use Rattle.kt_suite.specs.Registered.{program_limit}
-pub use Rattle.kt_suite.specs.Selecting.{most_items}
+pub use Rattle.kt_suite.specs.Selecting.{item_limit}
 pub use Rattle.kt_suite.specs.declared.filter.Filter.{Filter}
 pub use Rattle.kt_plan.specs.Collecting.{IsWanted, ListsCases, Offers, OffersFirst, OffersOne, candidate_of, candidates_of, chosen_of, item_of, selected_cases, variables_for}
-pub use Rattle.kt_plan.specs.Configuring.{Configures, Filters, IsConfiguration, ReadsConfig, filter_of, filters_of, lacks_case, names_one_case, or_stop, word_meaning, words_meaning}
+pub use Rattle.kt_plan.specs.Configuring.{Configures, Filters, IsConfiguration, ReadsConfig, filter_of, filters_of, lacks_case, names_one_case, or_stop, argument_definition, argument_definitions}
 pub use Rattle.kt_plan.specs.Inner.Collecting.{Collected, ListsFirst, LoadsOrShort, places_from}
-pub use Rattle.kt_plan.specs.Inner.Configuring.{ChecksTogether, Configured, GivesMore, GivesOne, OrShort, SettlesOrShort, config_or_stop, position_in, unread_stop}
-pub use Rattle.kt_plan.specs.Inner.Planning.{Notes}
-pub use Rattle.kt_plan.specs.Planning.{ArePlanned, IsDecided, IsJobOf, LooksFor, Surveys, SurveysFirst, is_atf, meta_in, needs_among, needs_by, needs_in, needs_of}
-pub use Rattle.kt_plan.specs.Questions.{AreFirst, leads_by}
+pub use Rattle.kt_plan.specs.Inner.Configuring.{ChecksTogether, HasConfiguration, AppendsDefinitions, AppendsDefinition, HoldsOrShort, ReadsSettingsOrShort, config_or_stop, position_in, config_read_stop}
+pub use Rattle.kt_plan.specs.Inner.Planning.{RecordsFound}
+pub use Rattle.kt_plan.specs.Planning.{ArePlanned, IsDecided, IsJobOf, ChecksNeeds, Surveys, SurveysFirst, is_atf, meta_in, needs_among, needs_by, needs_in, needs_of}
+pub use Rattle.kt_plan.specs.Questions.{IsCallPrefix, leads_by}
 pub use Rattle.kt_plan.specs.Selecting.{SelectsOrShort}
-pub use Rattle.kt_plan.specs.Stops.{IsShort, RanOut}
+pub use Rattle.kt_plan.specs.Stops.{IsShort, StopsForMemory}
 pub use Rattle.kt_plan.specs.Reply.{Finds, HasDisk, HasMemory, IsRoot, Lists, Now, ReadConfig, Reply}
 pub use Rattle.kt_plan.specs.declared.cases.Candidate.{Candidate}

@@ -22,18 +22,18 @@ abbrev pub or_stop : {A E : Type 0} → (E → Stop) → Result A E → Result A
 or_stop stop_for (Ok meaning) = Ok meaning
 or_stop stop_for (Err fault) = Err (stop_for fault)
 
--- `in_front first rest`: the value of `first`, followed by the values of `rest`, or the first
+-- `cons_result first rest`: the value of `first`, followed by the values of `rest`, or the first
 -- `Stop` of the two.
-abbrev pub in_front : {A : Type 0} → Result A Stop → Result (List A) Stop → Result (List A) Stop
-in_front (Err fault) rest = Err fault
-in_front (Ok first) (Ok rest) = Ok (first ∷ rest)
-in_front (Ok first) (Err fault) = Err fault
+abbrev pub cons_result : {A : Type 0} → Result A Stop → Result (List A) Stop → Result (List A) Stop
+cons_result (Err fault) rest = Err fault
+cons_result (Ok first) (Ok rest) = Ok (first ∷ rest)
+cons_result (Ok first) (Err fault) = Err fault
 
 -- `each_of meaning words`: the values that `meaning` gives for `words`, or the `Stop` of the first
 -- argument with an error.
 abbrev pub each_of : {A : Type 0} → (List ℕ → Result A Stop) → List (List ℕ) → Result (List A) Stop
 each_of meaning [] = Ok []
-each_of meaning (word ∷ words) = in_front (meaning word) (each_of meaning words)
+each_of meaning (word ∷ words) = cons_result (meaning word) (each_of meaning words)
 
 -- `behind before result`: `before`, followed by the values of `result`, or the `Stop` of `result`.
 abbrev pub behind : {A : Type 0} → List A → Result (List A) Stop → Result (List A) Stop
@@ -42,16 +42,16 @@ behind before (Err fault) = Err fault
 
 -- ---- variables
 
--- `word_meaning word`: the definition of the argument `word` of `-v`, or its `Stop`. An argument
+-- `argument_definition word`: the definition of the argument `word` of `-v`, or its `Stop`. An argument
 -- without an equals sign (61) has the error `BadValue`.
-abbrev pub word_meaning : List ℕ → Result Definition Stop
-word_meaning word =
+abbrev pub argument_definition : List ℕ → Result Definition Stop
+argument_definition word =
     or_stop (stop.Variable (before 61 word)) (option_map_or (definition_named (before 61 word)) (after 61 word) (Err BadValue))
 
--- `words_meaning words`: the definitions of the arguments `words` of `-v`, or the `Stop` of the
+-- `argument_definitions words`: the definitions of the arguments `words` of `-v`, or the `Stop` of the
 -- first argument with an error.
-abbrev pub words_meaning : List (List ℕ) → Result (List Definition) Stop
-words_meaning words = each_of word_meaning words
+abbrev pub argument_definitions : List (List ℕ) → Result (List Definition) Stop
+argument_definitions words = each_of argument_definition words
 
 -- ---- the configuration
 
@@ -79,7 +79,7 @@ pub data ReadsConfig : Option (List ℕ) → List Reply → Result (List Definit
 -- followed by the definitions of `-v`, or is the `Stop` of the first error.
 pub data Configures (options : CaseOptions) (answers : List Reply) : Result (List Definition) Stop → Type 0 where
   stopped : (fault : Stop) → ReadsConfig options.config answers (Err fault) → Configures options answers (Err fault)
-  defined : (before : List Definition) → ReadsConfig options.config answers (Ok before) → Configures options answers (behind before (words_meaning options.variables))
+  defined : (before : List Definition) → ReadsConfig options.config answers (Ok before) → Configures options answers (behind before (argument_definitions options.variables))
 
 -- ---- filters
 
@@ -123,15 +123,15 @@ pub data Filters (needs_case : Bool) (words : List (List ℕ)) : Result (List Fi
 
 -- ---- settings
 
--- `Settles needs_case options answers result`: `result` has the settings of a command, or is the
+-- `ReadsSettings needs_case options answers result`: `result` has the settings of a command, or is the
 -- `Stop` of its first error. The error is in the configuration file, the arguments of `-v` or the
 -- filters. `answers` are the calls to the host.
-pub data Settles (needs_case : Bool) (options : CaseOptions) (answers : List Reply) : Result Settings Stop → Type 0 where
-  unconfigured : (fault : Stop) → Configures options answers (Err fault) → Settles needs_case options answers (Err fault)
+pub data ReadsSettings (needs_case : Bool) (options : CaseOptions) (answers : List Reply) : Result Settings Stop → Type 0 where
+  unconfigured : (fault : Stop) → Configures options answers (Err fault) → ReadsSettings needs_case options answers (Err fault)
   unfiltered : (definitions : List Definition) (fault : Stop) → Configures options answers (Ok definitions) → Filters needs_case options.filters (Err fault)
-      → Settles needs_case options answers (Err fault)
+      → ReadsSettings needs_case options answers (Err fault)
   settled : (definitions : List Definition) (settings : Settings) → Configures options answers (Ok definitions) → Holds settings.config definitions
-      → Filters needs_case options.filters (Ok settings.filters) → Settles needs_case options answers (Ok settings)
+      → Filters needs_case options.filters (Ok settings.filters) → ReadsSettings needs_case options answers (Ok settings)
 
 -- `ReadsFirst path replies`: `replies` has no call, or only the read of the configuration file at
 -- `path`.

@@ -13,7 +13,7 @@ use Rattle.kt_metadata.specs.Listing.{listing}
 use Rattle.kt_metadata.specs.Requirements.{all_needs, first_reason, is_found, is_same_need, needed, rows}
 use Rattle.kt_metadata.specs.declared.meta.Meta.{Meta}
 use Rattle.kt_plan.specs.Collecting.{variables_for}
-use Rattle.kt_plan.specs.Questions.{AreFirst}
+use Rattle.kt_plan.specs.Questions.{IsCallPrefix}
 use Rattle.kt_plan.specs.Reply.{Reply, Finds, IsRoot, HasMemory, HasDisk}
 
 -- `meta_in candidate`: the effective properties of the case `candidate`.
@@ -40,12 +40,12 @@ abbrev pub needs_of : List Candidate → List (Need × List ℕ)
 needs_of [] = []
 needs_of (candidate ∷ candidates) = needs_by candidate.case.fault (meta_in candidate) ++ needs_of candidates
 
--- `LooksFor needs answers`: `answers` are calls to the host that check each of the requirements
+-- `ChecksNeeds needs answers`: `answers` are calls to the host that check each of the requirements
 -- `needs`, in order.
-pub data LooksFor : List (Need × List ℕ) → List Reply → Type 0 where
-  nothing : LooksFor [] []
-  asked : (need : Need) (word : List ℕ) (needs : List (Need × List ℕ)) (answer : Bool) (answers : List Reply) → LooksFor needs answers
-      → LooksFor ((need, word) ∷ needs) (Finds need word answer ∷ answers)
+pub data ChecksNeeds : List (Need × List ℕ) → List Reply → Type 0 where
+  nothing : ChecksNeeds [] []
+  asked : (need : Need) (word : List ℕ) (needs : List (Need × List ℕ)) (answer : Bool) (answers : List Reply) → ChecksNeeds needs answers
+      → ChecksNeeds ((need, word) ∷ needs) (Finds need word answer ∷ answers)
 
 -- `finds need word reply`: `reply` reports that the file or program `word` of the kind `need`
 -- exists.
@@ -59,7 +59,7 @@ finds need word other = false
 pub record Surveys (candidates : List Candidate) (answers : List Reply) (host : Host) : Type 0 where
   pub looked : List Reply
   pub asked : answers ≡ IsRoot host.root ∷ HasMemory host.memory ∷ HasDisk host.disk ∷ looked
-  pub all : LooksFor (needs_of candidates) looked
+  pub all : ChecksNeeds (needs_of candidates) looked
   pub found : (need : Need) (word : List ℕ) → is_found need host word ≡ list_any (finds need word) looked
 
 -- `SurveysFirst candidates answers`: `answers` are the first calls to the host before an allocation
@@ -70,7 +70,7 @@ pub record SurveysFirst (candidates : List Candidate) (answers : List Reply) : T
   pub disk : Option ℕ
   pub looked : List Reply
   pub asked : answers ≡ IsRoot root ∷ HasMemory memory ∷ HasDisk disk ∷ looked
-  pub first : AreFirst (LooksFor (needs_of candidates)) looked
+  pub first : IsCallPrefix (ChecksNeeds (needs_of candidates)) looked
 
 -- `is_atf interface`: `interface` is ATF, the only interface with cleanups.
 abbrev pub is_atf : Interface → Bool

@@ -3,25 +3,25 @@ use Rattle.std.specs.Prelude.{List, ◌++◌, map}
 use Rattle.kt_plan.specs.Types.{Asked}
 use Rattle.kt_plan.specs.Reply.{Reply}
 
--- `Question`: a call to a world, to its tree or to its host, with its result.
-pub data Question : Type 0 where
-  OfTree : Asked → Question
-  OfHost : Reply → Question
+-- `WorldCall`: a call to a world, to its tree or to its host, with its result.
+pub data WorldCall : Type 0 where
+  CallToTree : Asked → WorldCall
+  CallToHost : Reply → WorldCall
 
 -- `leads_by asks replies old question new`: the call `question` may lead the world from `old` to
 -- `new`. A call to the tree does so by `asks`, and a call to the host by `replies`.
-abbrev pub leads_by : {W : Type 0} → (W → Asked → W → Type 0) → (W → Reply → W → Type 0) → W → Question → W → Type 0
-leads_by asks replies old (OfTree asked) new = asks old asked new
-leads_by asks replies old (OfHost answers) new = replies old answers new
+abbrev pub leads_by : {W : Type 0} → (W → Asked → W → Type 0) → (W → Reply → W → Type 0) → W → WorldCall → W → Type 0
+leads_by asks replies old (CallToTree asked) new = asks old asked new
+leads_by asks replies old (CallToHost answers) new = replies old answers new
 
--- `of_tree asked`: the calls `asked` to the tree as calls to the world.
-abbrev pub of_tree : List Asked → List Question
-of_tree asked = map OfTree asked
+-- `tree_calls asked`: the calls `asked` to the tree as calls to the world.
+abbrev pub tree_calls : List Asked → List WorldCall
+tree_calls asked = map CallToTree asked
 
--- `of_host answers`: the calls `answers` to the host as calls to the world.
-abbrev pub of_host : List Reply → List Question
-of_host answers = map OfHost answers
+-- `host_calls answers`: the calls `answers` to the host as calls to the world.
+abbrev pub host_calls : List Reply → List WorldCall
+host_calls answers = map CallToHost answers
 
--- `AreFirst AreAll asked`: `asked` is a prefix of a list of calls for which `AreAll` holds.
-abbrev pub AreFirst : {Q : Type 0} → (List Q → Type 0) → List Q → Type 0
-AreFirst {Q} AreAll asked = (more : List Q) × AreAll (asked ++ more)
+-- `IsCallPrefix AreAll asked`: `asked` is a prefix of a list of calls for which `AreAll` holds.
+abbrev pub IsCallPrefix : {Q : Type 0} → (List Q → Type 0) → List Q → Type 0
+IsCallPrefix {Q} AreAll asked = (more : List Q) × AreAll (asked ++ more)

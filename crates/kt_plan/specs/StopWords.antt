@@ -1,7 +1,7 @@
 -- The error messages of a `Stop`.
 use Rattle.std.specs.Prelude.{ℕ, List, ◌++◌, codes}
 use Rattle.kt_plan.specs.Types.{Stop}
-use Rattle.kt_config.specs.FaultWords.{config_words}
+use Rattle.kt_config.specs.FaultWords.{config_message}
 use Rattle.kt_suite.specs.FaultWords.{fault_words, filter_words}
 use Rattle.kt_plan.specs.declared.stop.Stop.TheVariants as stop
 
@@ -14,8 +14,8 @@ quoted_words what word fault = what ++ codes " '" ++ word ++ codes "': " ++ faul
 abbrev pub stop_words : Stop → List ℕ
 stop_words (stop.NoMemory refusal) = codes "out of memory"
 stop_words stop.UnreadConfiguration = codes "configuration: could not be read"
-stop_words (stop.Configuration fault) = codes "configuration: " ++ config_words fault
-stop_words (stop.Variable name fault) = quoted_words (codes "variable") name (config_words fault)
+stop_words (stop.Configuration fault) = codes "configuration: " ++ config_message fault
+stop_words (stop.Variable name fault) = quoted_words (codes "variable") name (config_message fault)
 stop_words (stop.Filter word fault) = quoted_words (codes "filter") word (filter_words fault)
 stop_words stop.NeedsCase = codes "debug needs PROGRAM:CASE"
 stop_words (stop.Tree fault) = fault_words fault

@@ -3,11 +3,11 @@ use Rattle.std.specs.Prelude.{◌≡◌, Result, Ok, Err}
 use Rattle.kt_plan.specs.Types.{NoMemory as OutOfMemory, Stop}
 use Rattle.kt_plan.specs.declared.stop.Stop.TheVariants as stop
 
--- `RanOut fault`: `fault` is the `Stop` of a failed allocation.
-abbrev pub RanOut : Stop → Type 0
-RanOut fault = (refusal : OutOfMemory) × (fault ≡ stop.NoMemory refusal)
+-- `StopsForMemory fault`: `fault` is the `Stop` of a failed allocation.
+abbrev pub StopsForMemory : Stop → Type 0
+StopsForMemory fault = (refusal : OutOfMemory) × (fault ≡ stop.NoMemory refusal)
 
 -- `IsShort result`: `result` is an error, the `Stop` of a failed allocation.
 abbrev pub IsShort : {T : Type 0} → Result T Stop → Type 0
 IsShort (Ok x) = ⊥
-IsShort (Err fault) = RanOut fault
+IsShort (Err fault) = StopsForMemory fault

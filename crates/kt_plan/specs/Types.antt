@@ -20,6 +20,6 @@ pub use Rattle.kt_sched.specs.declared.job.Job.{Job}
 pub use Rattle.kt_args.specs.declared.options.CaseOptions.{CaseOptions}
 pub use Rattle.kt_plan.specs.declared.cases.Candidate.{Candidate}
 pub use Rattle.kt_plan.specs.declared.cases.Chosen.{Chosen}
-pub use Rattle.kt_plan.specs.declared.cases.Picked.{Picked}
+pub use Rattle.kt_plan.specs.declared.cases.CommandSelection.{CommandSelection}
 pub use Rattle.kt_plan.specs.declared.options.Settings.{Settings}
 pub use Rattle.kt_plan.specs.declared.stop.Stop.{Stop}

@@ -9,7 +9,7 @@ mod stop;
 mod world;
 
 pub use cases::collecting::select_cases;
-pub use cases::{Candidate, Chosen, Picked};
+pub use cases::{Candidate, Chosen, CommandSelection};
 pub use options::Settings;
 pub use plan::planning::prepare;
 pub use stop::Stop;

@@ -1,10 +1,10 @@
 -- Facts that each removal step keeps.
 use Rattle.std.proofs.Common.{◌∙◌, List, ℕ, sym, inl, inr}
-use Rattle.kt_removal.specs.Common.{MayEmpty, Stays}
+use Rattle.kt_removal.specs.Common.{MayEmpty, KeepsQueue}
 use Rattle.kt_removal.specs.declared.state.Removals.{Removals}
 
--- `Stays` is transitive.
-pub stays_then : (a b c : Removals) → Stays a b → Stays b c → Stays a c
+-- `KeepsQueue` is transitive.
+pub stays_then : (a b c : Removals) → KeepsQueue a b → KeepsQueue b c → KeepsQueue a c
 stays_then a b c first second =
     record {
       root = second.root ∙ first.root;
@@ -14,7 +14,7 @@ stays_then a b c first second =
     }
 
 -- A directory that may be emptied before a step may be emptied after it.
-pub may_stays : (a b : Removals) (path : List ℕ) → Stays a b → MayEmpty a path → MayEmpty b path
+pub may_stays : (a b : Removals) (path : List ℕ) → KeepsQueue a b → MayEmpty a path → MayEmpty b path
 may_stays a b path s (inl root) = inl (root ∙ sym s.root)
 may_stays a b path s (inr (inl (name, is, number))) = inr (inl (name, rw s.root is, number))
 may_stays a b path s (inr (inr (inl place))) = inr (inr (inl (place ∙ sym s.place)))

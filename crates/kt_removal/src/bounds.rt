@@ -1,14 +1,14 @@
 ghost use Rattle.std.specs.Prelude.{◌≡◌, ◌↔◌, ◌≤◌, ◌+◌, ◌-◌, ◌^◌, min, IsTrue};
-ghost use Rattle.kt_removal.specs.Common.{IsSpent, at_close, at_once, steps_at_close};
+ghost use Rattle.kt_removal.specs.Common.{IsSpent, closing_limit, case_limit, closing_steps_least};
 
 use std::rt::Clock;
 use std::time::Instant;
 
 /// The time limit for the removal of a case's directory, in microseconds.
-const AT_ONCE: u64 = 5_000;
+const CASE_LIMIT_MICROS: u64 = 5_000;
 
 /// The time that a step counts for if the clock fails, in microseconds.
-const STEP: u64 = 100;
+const STEP_MICROS: u64 = 100;
 
 /// A limit on the duration of a removal, with the steps that were counted against it.
 #[derive(Clone, Copy)]
@@ -33,15 +33,15 @@ fn is_spent(micros: u64, steps: u64, taken: Option<u128>) -> bool
 {
     match taken {
         Some(taken) => taken >= u128::from(micros),
-        None => steps >= micros / STEP,
+        None => steps >= micros / STEP_MICROS,
     }
 }
 
 /// Returns the time limit for the removal of the root directory, in microseconds.
 ///
 /// The limit is 5 seconds, plus 10 milliseconds for each of the `waiting` directories in the queue.
-fn closing_micros(waiting: u32) -> u64
-    ensures { result ≡ at_close waiting }
+fn root_limit_micros(waiting: u32) -> u64
+    ensures { result ≡ closing_limit waiting }
 {
     5_000_000 + 10_000 * u64::from(waiting)
 }
@@ -51,7 +51,7 @@ fn closing_micros(waiting: u32) -> u64
 /// The minimum is 20,000, plus 50 for each of the `waiting` directories in the queue. It lets a
 /// slow machine finish the removal after the time limit.
 fn closing_steps(waiting: u32) -> u64
-    ensures { result ≡ steps_at_close waiting }
+    ensures { result ≡ closing_steps_least waiting }
 {
     20_000 + 50 * u64::from(waiting)
 }
@@ -72,23 +72,23 @@ impl Bound {
     }
 
     /// Creates the bound for the removal of a case's directory: 5 milliseconds from now.
-    pub(crate) fn at_once<C: Clock>(clock: &C) -> Bound
-        ensures micros { result.micros ≡ at_once }
+    pub(crate) fn case_limit<C: Clock>(clock: &C) -> Bound
+        ensures micros { result.micros ≡ case_limit }
         ensures least { result.least ≡ 0 }
     {
-        Bound::starting(clock, AT_ONCE)
+        Bound::starting(clock, CASE_LIMIT_MICROS)
     }
 
     /// Creates the bound for the removal of the root directory, while `waiting` directories are in
     /// the queue.
     pub(crate) fn closing<C: Clock>(clock: &C, waiting: u32) -> Bound
-        ensures micros { result.micros ≡ at_close waiting }
-        ensures least { result.least ≡ steps_at_close waiting }
+        ensures micros { result.micros ≡ closing_limit waiting }
+        ensures least { result.least ≡ closing_steps_least waiting }
         ensures steps { result.steps ≡ 0 }
     {
         Bound {
             started: Instant::now(clock).ok(),
-            micros: closing_micros(waiting),
+            micros: root_limit_micros(waiting),
             least: closing_steps(waiting),
             steps: 0,
         }

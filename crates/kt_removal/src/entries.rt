@@ -1,5 +1,5 @@
 ghost use Rattle.std.specs.Prelude.{◌≡◌, ◌++◌, ◌∷◌, IfOk};
-ghost use Rattle.kt_removal.specs.Common.{MayEmpty, MayRemove, is_name, moved_dir, utf8};
+ghost use Rattle.kt_removal.specs.Common.{MayEmpty, MayRemove, is_name, queued_dir, utf8};
 
 use crate::state::Removals;
 use kt_base::{Bytes, NoMemory, Text};
@@ -74,7 +74,7 @@ impl Removals {
     /// Moves the directory `path` to `to`, which is the path of the next number in the queue.
     pub(crate) fn move_to<R: Files>(&self, rt: &R, path: &[u8], to: &Text) -> io::Result<()>
         requires from { MayRemove self.now path.now }
-        requires to { to.now ≡ moved_dir self.now.place self.now.moved }
+        requires to { to.now ≡ queued_dir self.now.place self.now.moved }
     {
         match str::from_utf8(path) {
             Ok(text) => fs::rename(rt, text, to.as_str()),
@@ -97,12 +97,12 @@ impl Removals {
     /// Returns `false` if the status of `path` can't be read, or if `path` is not a directory. A
     /// symbolic link is not a directory. Returns `false`, too, if `path` is on another device than
     /// the root, since then a file system is mounted there.
-    pub(crate) fn open_up<R: Files>(&self, rt: &R, path: &Text) -> bool
+    pub(crate) fn make_accessible<R: Files>(&self, rt: &R, path: &Text) -> bool
         requires { MayEmpty self.now path.now }
     {
         match fs::symlink_metadata(rt, path.as_str()) {
             Ok(metadata) => {
-                if !metadata.is_dir() || metadata.dev() != self.root_itself.device {
+                if !metadata.is_dir() || metadata.dev() != self.root_identity.device {
                     return false;
                 }
                 if metadata.permissions().mode() & OWNER_RIGHTS != OWNER_RIGHTS {
@@ -118,12 +118,12 @@ impl Removals {
         }
     }
 
-    /// Opens a directory to read its names. Returns `None` if that fails, or if [`Self::open_up`]
+    /// Opens a directory to read its names. Returns `None` if that fails, or if [`Self::make_accessible`]
     /// returns `false`.
     pub(crate) fn open_names<R: Files>(&self, rt: &R, path: &Text) -> Option<R::Dir>
         requires { MayEmpty self.now path.now }
     {
-        if !self.open_up(rt, path) {
+        if !self.make_accessible(rt, path) {
             return None;
         }
         rt.open_dir(path.as_str()).ok()

@@ -50,10 +50,14 @@ impl Removals {
     ///
     /// The names in the directory are not read. A link at its path is not followed, and a mounted
     /// file system is left as it is.
-    pub(crate) fn remove_by_names<R: Files + AllocGlobal>(&self, rt: &R, directory: &Text) -> bool
+    pub(crate) fn remove_known_files<R: Files + AllocGlobal>(
+        &self,
+        rt: &R,
+        directory: &Text,
+    ) -> bool
         requires { IsCaseOf self.now.root directory.now }
     {
-        if !self.open_up(rt, directory) {
+        if !self.make_accessible(rt, directory) {
             return false;
         }
         self.remove_named(rt, directory, OUT);

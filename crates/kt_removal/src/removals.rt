@@ -1,6 +1,6 @@
 ghost use Rattle.std.specs.Prelude.{◌≡◌, ◌≤◌, ◌++◌, ◌∷◌, [], false, ◌==◌, IfOk, IfSome};
 ghost use Rattle.std.specs.List.{list_any};
-ghost use Rattle.kt_removal.specs.Common.{IsCaseOf, IsHeld, IsMoved, MayEmpty, MayRemove, Stays, at_close, is_name, moved_dir, steps_at_close, waiting};
+ghost use Rattle.kt_removal.specs.Common.{IsCaseOf, IsRemovable, HasNextDirectory, MayEmpty, MayRemove, KeepsQueue, closing_limit, is_name, queued_dir, closing_steps_least, waiting};
 
 use crate::bounds::Bound;
 use crate::cases::is_case;
@@ -15,11 +15,11 @@ use std::time::Duration;
 use std::{fs, io, thread};
 
 /// The size of the buffer for the names of entries, in bytes.
-const PIECE: usize = 1_024;
+const NAMES_BYTES: usize = 1_024;
 
 /// Returns the path of the directory with this number in the queue directory `place`.
-fn moved_path(alloc: Global, place: &Text, number: u64) -> Result<Text, NoMemory>
-    ensures { IfOk result (λ path. path ≡ moved_dir place.now number) }
+fn queued_path(alloc: Global, place: &Text, number: u64) -> Result<Text, NoMemory>
+    ensures { IfOk result (λ path. path ≡ queued_dir place.now number) }
 {
     let path = numbered_path(alloc, place, "/", number)?;
     Ok(path)
@@ -48,14 +48,14 @@ impl Removals {
         ensures root { IfOk result (λ removals. removals.root ≡ root) }
         ensures place { IfOk result (λ removals. removals.place ≡ place) }
     {
-        let root_itself = Identity::of(rt, root.as_str())?;
-        let place_itself = Identity::of(rt, place.as_str())?;
+        let root_identity = Identity::of(rt, root.as_str())?;
+        let queue_identity = Identity::of(rt, place.as_str())?;
         let gaps = Vec::new(rt.alloc());
         Ok(Removals {
             root,
             place,
-            root_itself,
-            place_itself,
+            root_identity,
+            queue_identity,
             moved: 0,
             done: 0,
             gaps,
@@ -64,15 +64,15 @@ impl Removals {
     }
 
     /// Returns `true` if the queue directory was neither removed nor replaced.
-    fn has_place<R: Files>(&self, rt: &R) -> bool {
-        self.place_itself.is_at(rt, self.place.as_str())
+    fn has_queue_dir<R: Files>(&self, rt: &R) -> bool {
+        self.queue_identity.is_at(rt, self.place.as_str())
     }
 
     /// Returns the path in the queue that the next moved directory gets.
-    fn next_path(&self, alloc: Global) -> Result<Text, NoMemory>
-        ensures { IfOk result (λ path. path ≡ moved_dir self.now.place self.now.moved) }
+    fn next_queued_path(&self, alloc: Global) -> Result<Text, NoMemory>
+        ensures { IfOk result (λ path. path ≡ queued_dir self.now.place self.now.moved) }
     {
-        moved_path(alloc, &self.place, self.moved)
+        queued_path(alloc, &self.place, self.moved)
     }
 
     /// Returns `true` if no directory was moved to the number that is emptied next.
@@ -98,15 +98,15 @@ impl Removals {
 
     /// Returns the path of the directory of the queue that is emptied next.
     fn path(&self, alloc: Global) -> Result<Text, NoMemory>
-        ensures { IfOk result (λ path. path ≡ moved_dir self.now.place self.now.done) }
+        ensures { IfOk result (λ path. path ≡ queued_dir self.now.place self.now.done) }
     {
-        moved_path(alloc, &self.place, self.done)
+        queued_path(alloc, &self.place, self.done)
     }
 
     /// Removes an empty directory, or a file that a process put at its path. Returns `true` on
     /// success.
-    fn remove_held<R: Files>(&self, rt: &R, path: &Text) -> bool
-        requires { IsHeld self.now path.now }
+    fn remove_empty_or_file<R: Files>(&self, rt: &R, path: &Text) -> bool
+        requires { IsRemovable self.now path.now }
     {
         self.remove_if_empty(rt, path) || self.remove_file(rt, path.as_bytes()).is_ok()
     }
@@ -114,8 +114,8 @@ impl Removals {
     /// Skips the next number of the queue, since the move to it failed.
     ///
     /// If the allocation fails, the number is not skipped, so the next move tries it again.
-    fn leave_gap(&mut self)
-        ensures stays { Stays self.old self.new }
+    fn skip_number(&mut self)
+        ensures stays { KeepsQueue self.old self.new }
         ensures gap { (self.new.moved ≡ self.old.moved)
             ⊎ (self.new.gaps.items ≡ self.old.gaps.items ++ self.old.moved ∷ []) }
     {
@@ -128,18 +128,18 @@ impl Removals {
     /// number is skipped.
     fn take<R: Files + AllocGlobal>(&mut self, rt: &R, path: &[u8]) -> bool
         requires { MayRemove self.old path.now }
-        ensures stays { Stays self.old self.new }
+        ensures stays { KeepsQueue self.old self.new }
         ensures unmoved { result ≡ false → (self.new.moved ≡ self.old.moved)
             ⊎ (self.new.gaps.items ≡ self.old.gaps.items ++ self.old.moved ∷ []) }
     {
-        let Ok(to) = self.next_path(rt.alloc()) else {
+        let Ok(to) = self.next_queued_path(rt.alloc()) else {
             return false;
         };
-        if self.has_place(rt) && self.move_to(rt, path, &to).is_ok() {
+        if self.has_queue_dir(rt) && self.move_to(rt, path, &to).is_ok() {
             self.moved = self.moved.saturating_add(1);
             return true;
         }
-        self.leave_gap();
+        self.skip_number();
         false
     }
 
@@ -148,7 +148,7 @@ impl Removals {
     /// A mount point is left as it is: its removal fails because it is busy.
     fn remove_directory<R: Files + AllocGlobal>(&mut self, rt: &R, path: &[u8])
         requires { MayRemove self.old path.now }
-        ensures stays { Stays self.old self.new }
+        ensures stays { KeepsQueue self.old self.new }
     {
         match self.remove_empty(rt, path) {
             Ok(()) => self.progress = true,
@@ -167,7 +167,7 @@ impl Removals {
     fn remove_entry<R: Files + AllocGlobal>(&mut self, rt: &R, directory: &Text, name: &[u8])
         requires may { MayEmpty self.old directory.now }
         requires name { is_name name.now ≡ true }
-        ensures stays { Stays self.old self.new }
+        ensures stays { KeepsQueue self.old self.new }
     {
         let Ok(path) = entries::entry_path(rt.alloc(), directory, name) else {
             return;
@@ -182,10 +182,10 @@ impl Removals {
     /// Removes the entries of `directory` whose names are in `names`. Each name ends with byte 0.
     fn remove_names<R: Files + AllocGlobal>(&mut self, rt: &R, directory: &Text, names: &[u8])
         requires { MayEmpty self.old directory.now }
-        ensures stays { Stays self.old self.new }
+        ensures stays { KeepsQueue self.old self.new }
     {
         let mut left = names;
-        for _ in 0..PIECE {
+        for _ in 0..NAMES_BYTES {
             let Some((name, rest)) = split_name(left) else {
                 return;
             };
@@ -199,16 +199,16 @@ impl Removals {
     /// Reads the next names of `directory` from `names` and removes the entries with these names.
     ///
     /// Returns `false` at the end of the directory, or if the read fails.
-    fn remove_piece<R: Files + AllocGlobal>(
+    fn remove_next_entries<R: Files + AllocGlobal>(
         &mut self,
         rt: &R,
         directory: &Text,
         names: &mut R::Dir,
     ) -> bool
         requires { MayEmpty self.old directory.now }
-        ensures stays { Stays self.old self.new }
+        ensures stays { KeepsQueue self.old self.new }
     {
-        let mut buffer = [0u8; PIECE];
+        let mut buffer = [0u8; NAMES_BYTES];
         match names.read(&mut buffer) {
             Ok(count) => {
                 self.remove_names(rt, directory, &buffer[..count]);
@@ -223,14 +223,14 @@ impl Removals {
     /// If the directory still has entries, it is moved to the end of the queue. It is left if
     /// nothing could be removed from it.
     fn finish<R: Files + AllocGlobal>(&mut self, rt: &R, path: &Text)
-        requires moved { IsMoved self.old }
-        requires path { path.now ≡ moved_dir self.old.place self.old.done }
+        requires moved { HasNextDirectory self.old }
+        requires path { path.now ≡ queued_dir self.old.place self.old.done }
         ensures root { self.new.root ≡ self.old.root }
         ensures place { self.new.place ≡ self.old.place }
         ensures progress { self.new.progress ≡ false }
         ensures done { self.new.done ≡ min (self.old.done + 1) (2 ^ 64 - 1) }
     {
-        if !self.remove_held(rt, path) && self.progress {
+        if !self.remove_empty_or_file(rt, path) && self.progress {
             let _ = self.take(rt, path.as_bytes());
         }
         self.pass();
@@ -259,13 +259,13 @@ impl Removals {
         bound: &mut Bound,
     ) -> bool
         requires { MayEmpty self.old directory.now }
-        ensures stays { Stays self.old self.new }
+        ensures stays { KeepsQueue self.old self.new }
     {
         let Some(mut names) = self.open_names(rt, directory) else {
             return true;
         };
         for _ in 0..bound.micros {
-            if !self.remove_piece(rt, directory, &mut names) {
+            if !self.remove_next_entries(rt, directory, &mut names) {
                 return true;
             }
             if bound.is_over(rt) {
@@ -280,14 +280,14 @@ impl Removals {
     ///
     /// Otherwise the next call starts this directory again. If nothing could be removed from it,
     /// the directory is skipped.
-    fn go_through<R: Files + Clock + AllocGlobal>(
+    fn empty_next<R: Files + Clock + AllocGlobal>(
         &mut self,
         rt: &R,
         path: &Text,
         bound: &mut Bound,
     ) -> bool
-        requires moved { IsMoved self.old }
-        requires path { path.now ≡ moved_dir self.old.place self.old.done }
+        requires moved { HasNextDirectory self.old }
+        requires path { path.now ≡ queued_dir self.old.place self.old.done }
         ensures root { self.new.root ≡ self.old.root }
         ensures place { self.new.place ≡ self.old.place }
         ensures passed { result ≡ false → self.new.progress ≡ false
@@ -319,13 +319,13 @@ impl Removals {
         let Ok(path) = self.path(rt.alloc()) else {
             return !bound.is_over(rt);
         };
-        self.go_through(rt, &path, bound)
+        self.empty_next(rt, &path, bound)
     }
 
     /// Empties the directories of the queue in order, until the bound is over.
     ///
     /// If the queue directory was removed or replaced, its entries are left.
-    fn go_on<R: Files + Clock + AllocGlobal>(&mut self, rt: &R, bound: &mut Bound)
+    fn empty_queue<R: Files + Clock + AllocGlobal>(&mut self, rt: &R, bound: &mut Bound)
         ensures root { self.new.root ≡ self.old.root }
         ensures place { self.new.place ≡ self.old.place }
     {
@@ -333,7 +333,7 @@ impl Removals {
             if !self.is_pending() {
                 return;
             }
-            if !self.has_place(rt) {
+            if !self.has_queue_dir(rt) {
                 self.done = self.moved;
                 return;
             }
@@ -347,20 +347,20 @@ impl Removals {
     /// directory with entries is at its path.
     ///
     /// The directories of the old queue are left.
-    fn renew_place<R: Files + AllocGlobal>(&mut self, rt: &R)
+    fn recreate_queue_dir<R: Files + AllocGlobal>(&mut self, rt: &R)
         ensures root { self.new.root ≡ self.old.root }
         ensures place { self.new.place ≡ self.old.place }
     {
-        if self.has_place(rt) {
+        if self.has_queue_dir(rt) {
             return;
         }
         self.done = self.moved;
-        let _ = self.remove_held(rt, &self.place);
+        let _ = self.remove_empty_or_file(rt, &self.place);
         if fs::create_dir(rt, self.place.as_str()).is_err() {
             return;
         }
         if let Ok(place) = Identity::of(rt, self.place.as_str()) {
-            self.place_itself = place;
+            self.queue_identity = place;
         }
     }
 
@@ -369,28 +369,28 @@ impl Removals {
         requires { root.now ≡ self.old.root }
         ensures place { self.new.place ≡ self.old.place }
     {
-        self.renew_place(rt);
+        self.recreate_queue_dir(rt);
         let mut bound = Bound::closing(rt, self.waiting());
-        self.close_within(rt, root, &mut bound)
+        self.remove_root_within(rt, root, &mut bound)
     }
 
     /// Removes the root directory and all entries that are left in it, within a bound. Returns
     /// `true` on success.
-    fn close_within<R: Files + Clock + AllocGlobal>(
+    fn remove_root_within<R: Files + Clock + AllocGlobal>(
         &mut self,
         rt: &R,
         root: &Text,
         bound: &mut Bound,
     ) -> bool
         requires root { root.now ≡ self.old.root }
-        requires micros { bound.old.micros ≡ at_close (waiting self.old.moved self.old.done) }
-        requires least { bound.old.least ≡ steps_at_close (waiting self.old.moved self.old.done) }
+        requires micros { bound.old.micros ≡ closing_limit (waiting self.old.moved self.old.done) }
+        requires least { bound.old.least ≡ closing_steps_least (waiting self.old.moved self.old.done) }
         ensures place { self.new.place ≡ self.old.place }
     {
         let _ = self.empty(rt, root, bound);
-        self.go_on(rt, bound);
+        self.empty_queue(rt, bound);
         if !self.remove_if_empty(rt, &self.place) {
-            self.try_again(rt, bound);
+            self.empty_queue_dir(rt, bound);
         }
         self.remove_if_empty(rt, root)
     }
@@ -398,16 +398,16 @@ impl Removals {
     /// Empties the queue directory once more, for directories that were skipped.
     ///
     /// A directory is skipped, for example, if the allocation of an entry's path failed.
-    fn try_again<R: Files + Clock + AllocGlobal>(&mut self, rt: &R, bound: &mut Bound)
+    fn empty_queue_dir<R: Files + Clock + AllocGlobal>(&mut self, rt: &R, bound: &mut Bound)
         ensures root { self.new.root ≡ self.old.root }
         ensures place { self.new.place ≡ self.old.place }
     {
         let Ok(place) = self.place.copy() else {
             return;
         };
-        if self.has_place(rt) {
+        if self.has_queue_dir(rt) {
             let _ = self.empty(rt, &place, bound);
-            self.go_on(rt, bound);
+            self.empty_queue(rt, bound);
             let _ = self.remove_if_empty(rt, &place);
         }
     }
@@ -425,7 +425,7 @@ impl Removals {
         ensures place { self.new.place ≡ self.old.place }
     {
         let _ = self.empty(rt, tree, bound);
-        self.remove_held(rt, tree) || self.take(rt, tree.as_bytes())
+        self.remove_empty_or_file(rt, tree) || self.take(rt, tree.as_bytes())
     }
 
     /// Removes the directory of a case or moves it into the queue, and then empties the queue, for
@@ -434,9 +434,9 @@ impl Removals {
         requires { IsCaseOf self.old.root tree.now }
         ensures place { self.new.place ≡ self.old.place }
     {
-        let mut bound = Bound::at_once(rt);
-        let gone = self.remove_by_names(rt, tree) || self.walk(rt, tree, &mut bound);
-        self.go_on(rt, &mut bound);
+        let mut bound = Bound::case_limit(rt);
+        let gone = self.remove_known_files(rt, tree) || self.walk(rt, tree, &mut bound);
+        self.empty_queue(rt, &mut bound);
         gone
     }
 
@@ -451,7 +451,7 @@ impl Removals {
         ensures outside { result ≡ true → (tree.now ≡ self.old.root)
             ⊎ IsCaseOf self.old.root tree.now }
     {
-        if !self.root_itself.is_at(rt, self.root.as_str()) {
+        if !self.root_identity.is_at(rt, self.root.as_str()) {
             return false;
         }
         if tree.as_str() == self.root.as_str() {
@@ -475,7 +475,7 @@ pub fn rest<R: Files + Clock + AllocGlobal>(
     if let Some(removals) = removals {
         if removals.is_pending() {
             let mut bound = Bound::starting(rt, micros);
-            removals.go_on(rt, &mut bound);
+            removals.empty_queue(rt, &mut bound);
             return bound.passed(rt).max(micros);
         }
     }

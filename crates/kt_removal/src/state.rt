@@ -18,9 +18,9 @@ pub struct Removals {
     /// The path of the queue directory, which is an entry of the root.
     pub place: Text,
     /// The identity of the root directory at the start.
-    pub(crate) root_itself: Identity,
+    pub(crate) root_identity: Identity,
     /// The identity of the queue directory when it was created.
-    pub(crate) place_itself: Identity,
+    pub(crate) queue_identity: Identity,
     /// The number that the next moved directory gets.
     pub(crate) moved: u64,
     /// The number of the directory that is emptied next.

@@ -1,14 +1,14 @@
 -- The parts of entries that a report doesn't contain don't change the report.
 use Rattle.std.proofs.Common.{codes, flat_map, fold, if◌then◌else◌, ◌≡◌, ℕ, ◌+◌, Bool, true, false, cond, List, [], ◌∷◌, ◌++◌, length, map, refl, ap, ap₂, ◌∙◌}
-use Rattle.kt_report.proofs.Common.{decimal, list_any, length-map, Date, Entry, Kind, Skipped, ExpectedFailure, Failed, Broken, seconds, heading, entry_bytes, same_kind, is_of, entries_of, order, title_line, titled, section, count_bytes, counts_bytes, started_bytes, text_bytes}
+use Rattle.kt_report.proofs.Common.{decimal, list_any, length-map, Date, Entry, Kind, Skipped, ExpectedFailure, Failed, Broken, seconds, heading, entry_bytes, same_kind, is_of, entries_of, order, title_line, titled_section, section, count_bytes, counts_bytes, started_bytes, text_bytes}
 use Rattle.kt_base.specs.declared.entry.Run.{Run}
-use Rattle.kt_report.specs.Outlines.{ChangesUnshown, with_entries}
+use Rattle.kt_report.specs.Outlines.{ChangesHiddenParts, with_entries}
 
-one : (v : Bool) (change : Entry → Entry) → ChangesUnshown v change → (e : Entry) → entry_bytes v (change e) ≡ entry_bytes v e
+one : (v : Bool) (change : Entry → Entry) → ChangesHiddenParts v change → (e : Entry) → entry_bytes v (change e) ≡ entry_bytes v e
 one false change same e = ap (entry_bytes false) (same e)
 one true change same e = ap (entry_bytes true) (same e)
 
-module _ (v : Bool) (change : Entry → Entry) (same : ChangesUnshown v change) where
+module _ (v : Bool) (change : Entry → Entry) (same : ChangesHiddenParts v change) where
   of_kind : (kind : Kind) (es : List Entry) → entries_of kind (map change es) ≡ map change (entries_of kind es)
   of_kind kind [] = refl
   of_kind kind (e ∷ es) = rw (ap (is_of kind) (same e)) (by (is_of kind e) (of_kind kind es))
@@ -22,15 +22,15 @@ module _ (v : Bool) (change : Entry → Entry) (same : ChangesUnshown v change) 
   lines [] = refl
   lines (e ∷ es) = ap₂ (λ x y. x ++ y) (one v change same e) (lines es)
 
-  titles : (kind : Kind) (es : List Entry) → titled v kind (map change es) ≡ titled v kind es
+  titles : (kind : Kind) (es : List Entry) → titled_section v kind (map change es) ≡ titled_section v kind es
   titles kind [] = refl
   titles kind (e ∷ es) = ap (λ l. title_line kind ++ l) (lines (e ∷ es))
 
   one_section : (kinds : List Kind) (es : List Entry) (kind : Kind) → section v kinds (map change es) kind ≡ section v kinds es kind
   one_section kinds es kind = by (list_any (same_kind kind) kinds)
     where
-      by : (b : Bool) → titled v kind (if b then entries_of kind (map change es) else []) ≡ titled v kind (if b then entries_of kind es else [])
-      by true = ap (titled v kind) (of_kind kind es) ∙ titles kind (entries_of kind es)
+      by : (b : Bool) → titled_section v kind (if b then entries_of kind (map change es) else []) ≡ titled_section v kind (if b then entries_of kind es else [])
+      by true = ap (titled_section v kind) (of_kind kind es) ∙ titles kind (entries_of kind es)
       by false = refl
 
   each_section : (kinds ks : List Kind) (es : List Entry) → flat_map (section v kinds (map change es)) ks ≡ flat_map (section v kinds es) ks

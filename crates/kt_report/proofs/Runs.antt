@@ -4,7 +4,7 @@ use Rattle.std.proofs.Common.{◌≡◌, ℕ, zero, suc, ◌<◌, ◌≤◌, Boo
 use Rattle.kt_report.proofs.Common.{prefix_len, chars, IsUtf8, IsCharBoundary, get_or-append-add, get_or-take, length-take, nil_from_length, and_parts, false≢true, eqb-true, cases_lt, ne_eqb, nat_tests, flat_map-append, encode_ascii, chars-nil, chars-append, chars_past_char, encodes-chars, length-encode, len_utf8_bounds, IsUtf8-take, IsUtf8-drop, escaped, escapes}
 use Rattle.kt_base.proofs.Fronts.{all_text}
 use Rattle.kt_base.specs.Lossy.{lossy}
-unfoldable use Rattle.kt_base.specs.Lossy.{lossy_after}
+unfoldable use Rattle.kt_base.specs.Lossy.{lossy_from}
 use lib.Utf8.{encode}
 use Rattle.std.proofs.lemmas.List.{append-nil}
 use Rattle.std.proofs.lemmas.List.Sums.{prefix_len-le-length, prefix_len_passes, prefix_len_stops}
@@ -107,5 +107,5 @@ at_end attribute text rest all so_far none =
 
 -- `lossy` decodes UTF-8 unchanged.
 pub lossy_utf8 : (bytes : List ℕ) → IsUtf8 bytes → lossy bytes ≡ chars bytes
-unfolding lossy_after
+unfolding lossy_from
 lossy_utf8 bytes u = sym (all_text [] (chars bytes) bytes u refl) ∙ append-nil (chars bytes)

@@ -1,6 +1,6 @@
 -- Entries in order, with the titles of their kinds.
 use Rattle.std.proofs.Common.{flat_map, cond, if◌then◌else◌, Option, Some, None, ◌≡◌, ◌⊎◌, inl, inr, Bool, true, false, ◌&&◌, not, List, [], ◌∷◌, ◌++◌, refl, ap, ap₂, ◌∙◌, append_assoc}
-use Rattle.kt_report.proofs.Common.{and_parts, list_any, Entry, Kind, Passed, Skipped, ExpectedFailure, Failed, Broken, entry_bytes, same_kind, is_of, entries_of, chosen_of, by_section, order, title_line, titled, section, sections, opening, last_kind, titled_lines}
+use Rattle.kt_report.proofs.Common.{and_parts, list_any, Entry, Kind, Passed, Skipped, ExpectedFailure, Failed, Broken, entry_bytes, same_kind, is_of, entries_of, chosen_of, entries_by_section, order, title_line, titled_section, section, sections, opening, last_kind, titled_lines}
 
 same_is : (a b : Kind) → same_kind a b ≡ true → b ≡ a
 same_is Passed Passed s = refl
@@ -54,7 +54,7 @@ module _ (v : Bool) where
       by false s w = w
 
   abbrev First : Option Kind → Kind → List Entry → Type 0
-  First before kind es = (titled_lines v before es ≡ titled v kind es) × ((last_kind before es ≡ before) ⊎ (last_kind before es ≡ Some kind))
+  First before kind es = (titled_lines v before es ≡ titled_section v kind es) × ((last_kind before es ≡ before) ⊎ (last_kind before es ≡ Some kind))
 
   -- The entries of a kind follow an entry of another kind, so the first of them has the title.
   first : (before : Option Kind) (kind : Kind) → opening before kind ≡ title_line kind → (es : List Entry) → First before kind (entries_of kind es)
@@ -92,5 +92,5 @@ module _ (v : Bool) where
         ∙ ap₂ (λ x y. x ++ y) f.0
         (elim f.1 [ inl e ↦ ap (λ o. titled_lines v o rest) e ∙ from before ks q.0 | inr e ↦ ap (λ o. titled_lines v o rest) e ∙ from (Some k) ks q.1 ])
 
-    pub by_section_is : titled_lines v None (by_section kinds es) ≡ sections v kinds es
+    pub by_section_is : titled_lines v None (entries_by_section kinds es) ≡ sections v kinds es
     by_section_is = from None order refl

@@ -14,7 +14,7 @@ pub use Rattle.kt_report.specs.Cases.{case_texts, with_outputs}
 pub use Rattle.kt_report.specs.Digits.{digit, four_digits, seconds, three_digits, two_digits}
 pub use Rattle.kt_report.specs.Escapes.{escaped, escapes}
 pub use Rattle.kt_report.specs.Junits.{case_bytes, element, ending, heading, junit_bytes, output_element, result_element}
-pub use Rattle.kt_report.specs.Lines.{line_bytes, shown_reason}
-pub use Rattle.kt_report.specs.Outlines.{ChangesUnshown, with_entries}
-pub use Rattle.kt_report.specs.Pairs.{entry_bytes, pair_bytes, shown_byte, with_meta}
-pub use Rattle.kt_report.specs.Texts.{IsDateOf, by_section, clock_bytes, count_bytes, counts_bytes, date_bytes, entries_of, moment_bytes, opening, order, same_kind, section, sections, shown_moment, started_bytes, summary, text_bytes, title, titled_lines, unfinished_bytes}
+pub use Rattle.kt_report.specs.Lines.{line_bytes, printable_reason}
+pub use Rattle.kt_report.specs.Outlines.{ChangesHiddenParts, with_entries}
+pub use Rattle.kt_report.specs.Pairs.{entry_bytes, pair_bytes, printable_byte, with_properties}
+pub use Rattle.kt_report.specs.Texts.{IsDateOf, entries_by_section, clock_bytes, count_bytes, counts_bytes, date_bytes, entries_of, moment_bytes, opening, order, same_kind, section, sections, printable_moment, started_bytes, summary, text_bytes, title, titled_lines, unfinished_bytes}

@@ -7,12 +7,12 @@ use Rattle.kt_base.specs.Kinds.{word}
 use Rattle.kt_base.specs.Utf8.{utf8}
 use Rattle.kt_report.specs.Digits.{seconds}
 
--- `shown_reason kind reason`: the reason as printed. A passed case has none.
-abbrev pub shown_reason : Kind → List ℕ → List ℕ
-shown_reason Passed reason = []
-shown_reason _ reason = codes ": " ++ utf8 reason
+-- `printable_reason kind reason`: the reason as printed. A passed case has none.
+abbrev pub printable_reason : Kind → List ℕ → List ℕ
+printable_reason Passed reason = []
+printable_reason _ reason = codes ": " ++ utf8 reason
 
 -- `line_bytes e`: the program, the case, the kind of the verdict, the reason and the duration of
 -- the entry `e`.
 abbrev pub line_bytes : Entry → List ℕ
-line_bytes e = utf8 e.program ++ codes ":" ++ utf8 e.case_name ++ codes "  ->  " ++ word e.verdict.kind ++ shown_reason e.verdict.kind e.verdict.reason ++ codes "  [" ++ seconds e.millis ++ codes "s]\n"
+line_bytes e = utf8 e.program ++ codes ":" ++ utf8 e.case_name ++ codes "  ->  " ++ word e.verdict.kind ++ printable_reason e.verdict.kind e.verdict.reason ++ codes "  [" ++ seconds e.millis ++ codes "s]\n"

@@ -3,10 +3,10 @@ use Rattle.std.specs.Prelude.{Bool, if◌then◌else◌, ◌≡◌, map}
 use Rattle.kt_base.specs.declared.entry.Entry.{Entry}
 use Rattle.kt_base.specs.declared.entry.Run.{Run}
 
--- `ChangesUnshown pairs change`: `change` replaces only the outputs of an entry, and its pairs if
+-- `ChangesHiddenParts pairs change`: `change` replaces only the outputs of an entry, and its pairs if
 -- `pairs` is false.
-abbrev pub ChangesUnshown : Bool → (Entry → Entry) → Type 0
-ChangesUnshown pairs change = (e : Entry) → change e ≡ record e { body = (change e).body; cleanup = (change e).cleanup; meta = if pairs then e.meta else (change e).meta }
+abbrev pub ChangesHiddenParts : Bool → (Entry → Entry) → Type 0
+ChangesHiddenParts pairs change = (e : Entry) → change e ≡ record e { body = (change e).body; cleanup = (change e).cleanup; meta = if pairs then e.meta else (change e).meta }
 
 -- `with_entries change run`: the run with each entry changed.
 abbrev pub with_entries : (Entry → Entry) → Run → Run

@@ -5,13 +5,13 @@ use Rattle.kt_base.specs.declared.variable.Variable.{Variable}
 use Rattle.kt_base.specs.Utf8.{utf8}
 use Rattle.kt_report.specs.Lines.{line_bytes}
 
--- `shown_byte byte`: the byte as printed: a question mark for a control character.
-abbrev pub shown_byte : ℕ → ℕ
-shown_byte byte = if nat_lt byte 32 then 63 else byte
+-- `printable_byte byte`: the byte as printed: a question mark for a control character.
+abbrev pub printable_byte : ℕ → ℕ
+printable_byte byte = if nat_lt byte 32 then 63 else byte
 
 -- `pair_bytes pair`: the line of a name and its value.
 abbrev pub pair_bytes : Variable → List ℕ
-pair_bytes pair = codes "    " ++ utf8 pair.name ++ codes " = " ++ map shown_byte (utf8 pair.value) ++ codes "\n"
+pair_bytes pair = codes "    " ++ utf8 pair.name ++ codes " = " ++ map printable_byte (utf8 pair.value) ++ codes "\n"
 
 -- `entry_bytes verbose e`: the line of the entry `e`, followed by the lines of its pairs if
 -- `verbose` is true.
@@ -19,6 +19,6 @@ abbrev pub entry_bytes : Bool → Entry → List ℕ
 entry_bytes false e = line_bytes e
 entry_bytes true e = line_bytes e ++ flat_map pair_bytes e.meta
 
--- `with_meta e pairs`: the entry `e` with these pairs.
-abbrev pub with_meta : Entry → List Variable → Entry
-with_meta e pairs = record e { meta = pairs }
+-- `with_properties e pairs`: the entry `e` with these pairs.
+abbrev pub with_properties : Entry → List Variable → Entry
+with_properties e pairs = record e { meta = pairs }

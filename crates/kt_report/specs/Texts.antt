@@ -4,7 +4,7 @@ use Rattle.std.specs.List.{filter, list_any}
 use Rattle.std.specs.Fmt.{decimal}
 use Rattle.jiff_core.specs.declared.civil.date.Date.{Date}
 use Rattle.jiff_core.specs.Date.{epoch_day}
-use Rattle.kt_base.specs.Limits.{latest_moment}
+use Rattle.kt_base.specs.Limits.{latest_moment_millis}
 use Rattle.kt_base.specs.declared.verdict.Kind.{Kind}
 use Rattle.kt_base.specs.declared.verdict.Kind.TheVariants.{Passed, Skipped, ExpectedFailure, Failed, Broken}
 use Rattle.kt_base.specs.declared.entry.Entry.{Entry}
@@ -46,24 +46,24 @@ order = Passed ∷ Skipped ∷ ExpectedFailure ∷ Broken ∷ Failed ∷ []
 abbrev pub chosen_of : List Kind → List Entry → Kind → List Entry
 chosen_of kinds entries kind = if list_any (same_kind kind) kinds then entries_of kind entries else []
 
--- `by_section kinds entries`: the entries of the chosen kinds, in the order of the sections.
-abbrev pub by_section : List Kind → List Entry → List Entry
-by_section kinds entries = flat_map (chosen_of kinds entries) order
+-- `entries_by_section kinds entries`: the entries of the chosen kinds, in the order of the sections.
+abbrev pub entries_by_section : List Kind → List Entry → List Entry
+entries_by_section kinds entries = flat_map (chosen_of kinds entries) order
 
 -- `title_line kind`: the line of a kind's title.
 abbrev pub title_line : Kind → List ℕ
 title_line kind = codes "===> " ++ title kind ++ codes "\n"
 
--- `titled verbose kind entries`: the title of a kind and the lines of these entries, or nothing if
+-- `titled_section verbose kind entries`: the title of a kind and the lines of these entries, or nothing if
 -- there are none.
-abbrev pub titled : Bool → Kind → List Entry → List ℕ
-titled verbose kind [] = []
-titled verbose kind (e ∷ entries) = title_line kind ++ flat_map (entry_bytes verbose) (e ∷ entries)
+abbrev pub titled_section : Bool → Kind → List Entry → List ℕ
+titled_section verbose kind [] = []
+titled_section verbose kind (e ∷ entries) = title_line kind ++ flat_map (entry_bytes verbose) (e ∷ entries)
 
 -- `section verbose kinds entries kind`: the section of a kind, or nothing if the kind is not
 -- chosen.
 abbrev pub section : Bool → List Kind → List Entry → Kind → List ℕ
-section verbose kinds entries kind = titled verbose kind (chosen_of kinds entries kind)
+section verbose kinds entries kind = titled_section verbose kind (chosen_of kinds entries kind)
 
 -- `sections verbose kinds entries`: the sections of the chosen kinds, in their order.
 abbrev pub sections : Bool → List Kind → List Entry → List ℕ
@@ -85,14 +85,14 @@ abbrev pub titled_lines : Bool → Option Kind → List Entry → List ℕ
 titled_lines verbose before [] = []
 titled_lines verbose before (e ∷ entries) = opening before e.verdict.kind ++ (entry_bytes verbose e ++ titled_lines verbose (Some e.verdict.kind) entries)
 
--- `shown_moment moment`: the timestamp as printed: at most the latest one that the report can
+-- `printable_moment moment`: the timestamp as printed: at most the latest one that the report can
 -- print.
-abbrev pub shown_moment : ℕ → ℕ
-shown_moment moment = min moment latest_moment
+abbrev pub printable_moment : ℕ → ℕ
+printable_moment moment = min moment latest_moment_millis
 
 -- `IsDateOf moment date`: the civil date of the timestamp, in UTC.
 abbrev pub IsDateOf : ℕ → Date → Type 0
-IsDateOf moment date = epoch_day date ≡ pos (shown_moment moment / 86400000)
+IsDateOf moment date = epoch_day date ≡ pos (printable_moment moment / 86400000)
 
 -- `clock_bytes millis`: the time of day, `millis` milliseconds after midnight.
 abbrev pub clock_bytes : ℕ → List ℕ
@@ -104,7 +104,7 @@ date_bytes date = four_digits (unsigned_abs date.year) ++ codes "-" ++ two_digit
 
 -- `moment_bytes date moment`: the timestamp as printed, on its date.
 abbrev pub moment_bytes : Date → ℕ → List ℕ
-moment_bytes date moment = date_bytes date ++ codes "T" ++ clock_bytes (shown_moment moment % 86400000) ++ codes "Z"
+moment_bytes date moment = date_bytes date ++ codes "T" ++ clock_bytes (printable_moment moment % 86400000) ++ codes "Z"
 
 -- `unfinished_bytes finished`: the mark of a run that is not finished.
 abbrev pub unfinished_bytes : Bool → List ℕ

@@ -1,5 +1,5 @@
 ghost use Rattle.std.specs.Prelude.{is_err};
-ghost use Rattle.kt_report.specs.Common.{Shows, line_bytes, shown_reason};
+ghost use Rattle.kt_report.specs.Common.{Shows, line_bytes, printable_reason};
 
 use crate::moments::write_seconds;
 use kt_base::{Entry, Kind, OutputFault, Verdict, emit, emit_all};
@@ -8,7 +8,7 @@ use std::io::Write;
 /// Writes a colon and the reason of a verdict. A passed case has no reason.
 fn write_reason<W: Write>(verdict: &Verdict, out: &mut W) -> Result<(), OutputFault>
     ensures { Shows (W.contents out.old) (W.contents out.new) (is_err result)
-        (shown_reason verdict.now.kind verdict.now.reason) }
+        (printable_reason verdict.now.kind verdict.now.reason) }
 {
     match verdict.kind() {
         Kind::Passed => Ok(()),

@@ -38,7 +38,7 @@ fn stands(attribute: bool, byte: u8) -> bool
 }
 
 /// Returns `true` if each of these bytes is written to XML unchanged.
-fn all_stand(attribute: bool, bytes: &[u8; 32]) -> bool
+fn are_unescaped(attribute: bool, bytes: &[u8; 32]) -> bool
     ensures { result ≡ list_all
         (λ b. bytes_eq (escaped attribute b) (b ∷ []) && not (b == 239)) bytes.now }
 {
@@ -50,7 +50,7 @@ fn all_stand(attribute: bool, bytes: &[u8; 32]) -> bool
 }
 
 /// Returns the number of bytes at the beginning of a short text that are written to XML unchanged.
-fn short_run_length(attribute: bool, text: &[u8]) -> usize
+fn short_unescaped_length(attribute: bool, text: &[u8]) -> usize
     ensures length { result ≡ prefix_len
         (λ b. bytes_eq (escaped attribute b) (b ∷ []) && not (b == 239)) text.now }
     ensures within { result ≤ length text.now }
@@ -63,20 +63,20 @@ fn short_run_length(attribute: bool, text: &[u8]) -> usize
 /// Returns the number of bytes at the beginning of a text that are written to XML unchanged.
 ///
 /// The bytes are tested in chunks of 32, and the rest one by one.
-fn run_length(attribute: bool, text: &[u8]) -> usize
+fn unescaped_length(attribute: bool, text: &[u8]) -> usize
     ensures { result ≡ prefix_len
         (λ b. bytes_eq (escaped attribute b) (b ∷ []) && not (b == 239)) text.now }
 {
     let mut length = 0;
     let mut rest = text;
     while let Some((chunk, after)) = rest.split_first_chunk::<32>() {
-        if !all_stand(attribute, chunk) {
+        if !are_unescaped(attribute, chunk) {
             break;
         }
         length += 32;
         rest = after;
     }
-    length + short_run_length(attribute, rest)
+    length + short_unescaped_length(attribute, rest)
 }
 
 /// Appends a text, escaped for XML: for an attribute or for content.
@@ -87,7 +87,7 @@ fn push_escapes(escaped: &mut Text, attribute: bool, text: &str) -> Result<(), N
 {
     let mut rest = text;
     while !rest.is_empty() {
-        let (run, after) = rest.split_at(run_length(attribute, rest.as_bytes()));
+        let (run, after) = rest.split_at(unescaped_length(attribute, rest.as_bytes()));
         escaped.push_str(run)?;
         let mut characters = after.chars();
         let Some(c) = characters.next() else {

@@ -1,9 +1,9 @@
 ghost use Rattle.std.specs.Prelude.{◌≡◌, ◌<◌, pos, is_err};
-ghost use Rattle.kt_report.specs.Common.{epoch_day, Shows, shown_moment, IsDateOf, clock_bytes, date_bytes, moment_bytes, digit, two_digits, three_digits, four_digits, seconds};
+ghost use Rattle.kt_report.specs.Common.{epoch_day, Shows, printable_moment, IsDateOf, clock_bytes, date_bytes, moment_bytes, digit, two_digits, three_digits, four_digits, seconds};
 
 use jiff::ToSpan;
 use jiff::civil::{Date, date};
-use kt_base::{Decimal, LATEST_MOMENT, OutputFault, emit, emit_all};
+use kt_base::{Decimal, LATEST_MOMENT_MILLIS, OutputFault, emit, emit_all};
 use std::io::Write;
 
 /// Returns the last decimal digit of a number.
@@ -44,13 +44,13 @@ pub fn write_seconds<W: Write>(millis: u128, out: &mut W) -> Result<(), OutputFa
 }
 
 /// The length of a day, in milliseconds.
-const MILLIS_OF_DAY: u64 = 86_400_000;
+const MILLIS_PER_DAY: u64 = 86_400_000;
 
 /// Returns a timestamp as printed: at most the last millisecond of the year 9999.
-fn shown_moment(moment: u64) -> u64
-    ensures { result ≡ shown_moment moment }
+fn printable_moment(moment: u64) -> u64
+    ensures { result ≡ printable_moment moment }
 {
-    moment.min(LATEST_MOMENT)
+    moment.min(LATEST_MOMENT_MILLIS)
 }
 
 /// Returns the civil date that is `days` days after the first of January 1970.
@@ -67,7 +67,7 @@ fn date_after(days: u64) -> Date
 pub fn date_of(moment: u64) -> Date
     ensures { IsDateOf moment result }
 {
-    date_after(shown_moment(moment) / MILLIS_OF_DAY)
+    date_after(printable_moment(moment) / MILLIS_PER_DAY)
 }
 
 /// Writes the time of day that is `millis` milliseconds after midnight.
@@ -98,6 +98,6 @@ pub fn write_moment<W: Write>(date: Date, moment: u64, out: &mut W) -> Result<()
 {
     write_date(date, out)?;
     emit(b"T", out)?;
-    write_clock(shown_moment(moment) % MILLIS_OF_DAY, out)?;
+    write_clock(printable_moment(moment) % MILLIS_PER_DAY, out)?;
     emit(b"Z", out)
 }

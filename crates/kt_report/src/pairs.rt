@@ -1,13 +1,13 @@
 ghost use Rattle.std.specs.Prelude.{◌≡◌, flat_map, map, is_err, true};
-ghost use Rattle.kt_report.specs.Common.{Shows, shown_byte, pair_bytes, entry_bytes, with_meta};
+ghost use Rattle.kt_report.specs.Common.{Shows, printable_byte, pair_bytes, entry_bytes, with_properties};
 
 use crate::line;
 use kt_base::{Entry, OutputFault, Variable, Variables, emit, emit_all};
 use std::io::Write;
 
 /// Returns a byte of a value as printed: a question mark for a control character.
-fn shown_byte(byte: u8) -> u8
-    ensures { result ≡ shown_byte byte }
+fn printable_byte(byte: u8) -> u8
+    ensures { result ≡ printable_byte byte }
 {
     if byte < 32 { b'?' } else { byte }
 }
@@ -15,10 +15,10 @@ fn shown_byte(byte: u8) -> u8
 /// Writes a value, with a question mark for each control character.
 fn write_value<W: Write>(value: &[u8], out: &mut W) -> Result<(), OutputFault>
     ensures { Shows (W.contents out.old) (W.contents out.new) (is_err result)
-        (map shown_byte value.now) }
+        (map printable_byte value.now) }
 {
     for byte in value {
-        emit(&[shown_byte(*byte)], out)?;
+        emit(&[printable_byte(*byte)], out)?;
     }
     Ok(())
 }
@@ -59,7 +59,7 @@ pub fn text_entry<W: Write>(
     out: &mut W,
 ) -> Result<(), OutputFault>
     ensures { Shows (W.contents out.old) (W.contents out.new) (is_err result)
-        (entry_bytes true (with_meta entry.now pairs.now)) }
+        (entry_bytes true (with_properties entry.now pairs.now)) }
 {
     line(entry, out)?;
     write_pairs(pairs.as_slice(), out)

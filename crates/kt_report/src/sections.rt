@@ -6,7 +6,7 @@ use kt_base::{Entry, Kind, OutputFault, emit_all};
 use std::io::Write;
 
 /// The kinds in the order of their sections in the text report.
-const ORDER: [Kind; 5] = [
+const SECTION_ORDER: [Kind; 5] = [
     Kind::Passed,
     Kind::Skipped,
     Kind::ExpectedFailure,
@@ -18,7 +18,7 @@ const ORDER: [Kind; 5] = [
 pub fn text_order() -> &'static [Kind]
     ensures { result.now ≡ order }
 {
-    &ORDER
+    &SECTION_ORDER
 }
 
 /// Returns `true` if the two kinds are equal.

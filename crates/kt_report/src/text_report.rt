@@ -1,5 +1,5 @@
 ghost use Rattle.std.specs.Prelude.{is_err, ◌≡◌, Bool, false, List, None};
-ghost use Rattle.kt_report.specs.Common.{Date, Shows, IsDateOf, text_bytes, sections, by_section, titled_lines, Entry, Output, Kind, Run, heading, case_bytes, with_outputs, ChangesUnshown, with_entries};
+ghost use Rattle.kt_report.specs.Common.{Date, Shows, IsDateOf, text_bytes, sections, entries_by_section, titled_lines, Entry, Output, Kind, Run, heading, case_bytes, with_outputs, ChangesHiddenParts, with_entries};
 
 use crate::moments::date_of;
 use crate::sections::write_sections;
@@ -40,15 +40,15 @@ pub fn text<W: Write>(
 /// entry has its title, unless the entry before it has the same title.
 pub fn theorem_of_outlines()
     ensures text { (change : Entry → Entry) (date : Date) (kinds : List Kind) (verbose : Bool)
-        (run : Run) → ChangesUnshown verbose change
+        (run : Run) → ChangesHiddenParts verbose change
         → text_bytes date kinds verbose (with_entries change run)
         ≡ text_bytes date kinds verbose run }
     ensures sections { (kinds : List Kind) (verbose : Bool) (entries : List Entry)
-        → titled_lines verbose None (by_section kinds entries) ≡ sections verbose kinds entries }
-    ensures heading { (change : Entry → Entry) (run : Run) → ChangesUnshown false change
+        → titled_lines verbose None (entries_by_section kinds entries) ≡ sections verbose kinds entries }
+    ensures heading { (change : Entry → Entry) (run : Run) → ChangesHiddenParts false change
         → heading (with_entries change run) ≡ heading run }
     ensures case { (change : Entry → Entry) (e : Entry) (body cleanup : Output)
-        → ChangesUnshown false change
+        → ChangesHiddenParts false change
         → case_bytes (with_outputs (change e) body cleanup)
         ≡ case_bytes (with_outputs e body cleanup) }
 {}

@@ -7,7 +7,7 @@ use std::rt::{Files, Runtime};
 use std::{env, fs, io};
 
 /// The maximum number of bytes that are printed of an output, unless `--whole` precedes the file.
-const SHOWN: usize = 1_000;
+const SHOWN_BYTES: usize = 1_000;
 
 /// Returns the index of the first byte of the first line in which two outputs differ.
 fn differing_line(wanted: &[u8], found: &[u8]) -> usize {
@@ -104,7 +104,7 @@ fn check_file<R: Runtime + Files<File = File> + AllocGlobal>(
 /// - The error of the system if the arguments or a file can't be read, or if a write fails.
 pub fn check_files<R: Runtime + Files<File = File> + AllocGlobal>(rt: &R) -> io::Result<bool> {
     let mut is_good = true;
-    let mut shown = SHOWN;
+    let mut shown = SHOWN_BYTES;
     for file in env::args(rt)?.skip(1) {
         if file.as_str() == "--whole" {
             shown = usize::MAX;

@@ -1,16 +1,19 @@
 //! Command lines over a scripted results host, scripted files and a scripted system.
 
 use crate::disk_tests;
-use crate::played::Played;
+use crate::played::CommandsRun;
 use crate::printing::push_pieces;
 use crate::refusing_store::RefusingStore;
 use crate::scripted_results_host::ScriptedResultsHost;
 use kt_base::Text;
 use kt_child::DriverFault;
 use kt_cli::source_of;
-use kt_doubles::{InParts, Scene, failure, push_call, push_calls, push_runs, scene_of, shortage};
+use kt_doubles::{
+    PartwiseStore, Scene, failure, push_call, push_calls, push_runs, scene_of, shortage,
+};
 use kt_examples::{
-    Example, ExampleFault, ExampleLine, ExampleOutput, Result, content_at, halves, lossy_of, number,
+    Example, ExampleFault, ExampleLine, ExampleOutput, Result, content_at, halves, number,
+    unescape_lossy,
 };
 use kt_store::StoreFault;
 use std::alloc::Global;
@@ -24,7 +27,7 @@ fn store_fault(alloc: Global, fault: &str) -> Result<StoreFault> {
         "no-memory" => Ok(StoreFault::from(shortage(alloc)?)),
         "failed" => Ok(StoreFault::Store(failure(alloc)?)),
         "unknown-schema" => Ok(StoreFault::UnknownSchema),
-        _ => Err(ExampleFault::Misspelled("there is no such fault of a store")),
+        _ => Err(ExampleFault::InvalidExample("there is no such fault of a store")),
     }
 }
 
@@ -33,7 +36,7 @@ fn driver_fault(alloc: Global, fault: &str) -> Result<DriverFault> {
     match fault {
         "no-memory" => Ok(DriverFault::NoMemory(shortage(alloc)?)),
         "no-work-directory" => Ok(DriverFault::NoWorkDirectory),
-        _ => Err(ExampleFault::Misspelled("there is no such fault of a driver")),
+        _ => Err(ExampleFault::InvalidExample("there is no such fault of a driver")),
     }
 }
 
@@ -45,7 +48,7 @@ fn results_of(alloc: Global, row: &Example<'_>) -> Result<RefusingStore> {
     let lines = row.entries.as_slice();
     for (place, line) in lines.iter().enumerate() {
         if matches!(line.word, "begin" | "put" | "finish") {
-            let mut calls = InParts {
+            let mut calls = PartwiseStore {
                 store: &mut results,
                 alloc,
             };
@@ -61,11 +64,11 @@ fn results_of(alloc: Global, row: &Example<'_>) -> Result<RefusingStore> {
 fn take(platform: &mut ScriptedResultsHost<RefusingStore>, line: &ExampleLine<'_>) -> Result<()> {
     let alloc = platform.calls.alloc;
     match line.word {
-        "open" => platform.not_opened = Some(store_fault(alloc, line.text)?),
-        "close" => platform.not_closed = Some(store_fault(alloc, line.text)?),
-        "surroundings" => platform.not_found = Some(driver_fault(alloc, line.text)?),
-        "path" => platform.path = Some(lossy_of(alloc, line.text)?),
-        "user" => platform.user = Some(lossy_of(alloc, line.text)?),
+        "open" => platform.open_error = Some(store_fault(alloc, line.text)?),
+        "close" => platform.close_error = Some(store_fault(alloc, line.text)?),
+        "surroundings" => platform.env_error = Some(driver_fault(alloc, line.text)?),
+        "path" => platform.path = Some(unescape_lossy(alloc, line.text)?),
+        "user" => platform.user = Some(unescape_lossy(alloc, line.text)?),
         _ => {}
     }
     Ok(())
@@ -84,9 +87,13 @@ fn platform_of(alloc: Global, row: &Example<'_>) -> Result<ScriptedResultsHost<R
 /// output fail from number `failing` on, and its flushes fail for the line `flush fails`. Writes to
 /// standard error fail from number N on for the line `error N`. The line `takes BYTES` limits the
 /// bytes of a write to standard output.
-fn played_by(row: &Example<'_>, scene: &Scene, failing: u64) -> Result<Played<RefusingStore>> {
+fn run_example(
+    row: &Example<'_>,
+    scene: &Scene,
+    failing: u64,
+) -> Result<CommandsRun<RefusingStore>> {
     let alloc = scene.alloc;
-    let mut played = Played::new(alloc, platform_of(alloc, row)?);
+    let mut played = CommandsRun::new(alloc, platform_of(alloc, row)?);
     played.page.at_most = row.number("takes", 4096)? as usize;
     played.page.failing = failing;
     played.page.flush_fails = row.text("flush").is_some();
@@ -96,11 +103,11 @@ fn played_by(row: &Example<'_>, scene: &Scene, failing: u64) -> Result<Played<Re
 }
 
 /// Appends the runs of the results store, or `open` if the store isn't closed.
-fn push_closed(out: &mut ExampleOutput, played: &mut Played<RefusingStore>) {
+fn push_closed(out: &mut ExampleOutput, played: &mut CommandsRun<RefusingStore>) {
     match &mut played.platform.results {
         Some(store) => {
             let alloc = out.alloc;
-            push_runs(out, &mut InParts { store, alloc }, false);
+            push_runs(out, &mut PartwiseStore { store, alloc }, false);
         }
         None => out.push("open"),
     }
@@ -108,12 +115,12 @@ fn push_closed(out: &mut ExampleOutput, played: &mut Played<RefusingStore>) {
 
 /// Appends the outputs, the exit statuses, and what `show WORDS` selects: `runs` of the store, or
 /// the calls on the `system`.
-fn push_played(
+fn push_result_and_state(
     out: &mut ExampleOutput,
     row: &Example<'_>,
-    played: &mut Played<RefusingStore>,
+    played: &mut CommandsRun<RefusingStore>,
 ) -> Result<()> {
-    played.push_ended(out)?;
+    played.push_result(out)?;
     for word in row.text("show").unwrap_or("").split_whitespace() {
         out.separate("\n");
         match word {
@@ -128,8 +135,8 @@ fn push_played(
 /// status isn't 2, or the runs differ. Returns `None` if all is right.
 fn wrong(
     alloc: Global,
-    whole: &mut Played<RefusingStore>,
-    cut: &mut Played<RefusingStore>,
+    whole: &mut CommandsRun<RefusingStore>,
+    cut: &mut CommandsRun<RefusingStore>,
 ) -> Result<Option<&'static str>> {
     let (whole_page, cut_page) = (whole.page.kept()?, cut.page.kept()?);
     if cut_page.len() >= whole_page.len() || !whole_page.starts_with(cut_page) {
@@ -150,17 +157,17 @@ fn wrong(
 /// Executes command lines without a failure, and then with each write failing in turn. Appends the
 /// output without a failure, and the output of the first execution in which something is wrong.
 fn push_each_failing(out: &mut ExampleOutput, row: &Example<'_>, scene: &Scene) -> Result<()> {
-    let mut whole = played_by(row, scene, 0)?;
-    push_played(out, row, &mut whole)?;
+    let mut whole = run_example(row, scene, 0)?;
+    push_result_and_state(out, row, &mut whole)?;
     for failing in 1..LIMIT {
-        let mut cut = played_by(row, scene, failing)?;
+        let mut cut = run_example(row, scene, failing)?;
         if cut.page.writes < failing {
             break;
         }
         if let Some(what) = wrong(out.alloc, &mut whole, &mut cut)? {
             out.separate("\n");
             write!(out, "at write {failing}: {what}\n");
-            return push_played(out, row, &mut cut);
+            return push_result_and_state(out, row, &mut cut);
         }
     }
     Ok(())
@@ -175,13 +182,13 @@ fn done(out: &mut ExampleOutput, row: &Example<'_>, is_asked: bool) -> Result<()
     if writes == "each" {
         return push_each_failing(out, row, &scene);
     }
-    let mut played = played_by(row, &scene, number(writes)?)?;
+    let mut played = run_example(row, &scene, number(writes)?)?;
     match played.platform.calls.so_far()? {
         _ if !is_asked => {}
         "" => out.push("nothing\n"),
         calls => write!(out, "{calls}\n"),
     }
-    push_played(out, row, &mut played)
+    push_result_and_state(out, row, &mut played)
 }
 
 /// Parses `HERE KYUAFILE`, and appends the Kyuafile's absolute directory for the working directory
@@ -199,7 +206,7 @@ fn push_source(out: &mut ExampleOutput, text: &str) -> Result<()> {
 ///
 /// # Errors
 ///
-/// - `Misspelled`: a line is missing or invalid.
+/// - `InvalidExample`: a line is missing or invalid.
 /// - `NoMemory`: an allocation outside the command failed.
 pub fn answer(out: &mut ExampleOutput, row: &Example<'_>) -> Result<()> {
     if let Some(disk) = row.text("disk") {
@@ -218,7 +225,7 @@ pub fn answer(out: &mut ExampleOutput, row: &Example<'_>) -> Result<()> {
 ///
 /// # Errors
 ///
-/// - `Misspelled`: a line is missing or invalid.
+/// - `InvalidExample`: a line is missing or invalid.
 /// - `NoMemory`: an allocation outside the command failed.
 pub fn opening(out: &mut ExampleOutput, row: &Example<'_>) -> Result<()> {
     done(out, row, true)

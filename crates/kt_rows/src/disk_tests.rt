@@ -1,7 +1,9 @@
 //! The command `test` on a disk that fails at a call, and the runs that a crash then leaves.
 
-use crate::disks::{Work, empty_files, fused, is_cut, left_by, old_files, work_over};
-use crate::played::Played;
+use crate::disks::{
+    Work, crash_and_read, empty_files, fused, is_partial_run, run_on_files, schema_1_files,
+};
+use crate::played::CommandsRun;
 use crate::scripted_results_host::ScriptedResultsHost;
 use kt_dbfile::RunsFile;
 use kt_doubles::{Scene, scene_of};
@@ -20,11 +22,12 @@ const LINE: &str = "kyua: E: results store failed\n";
 const MEMORY: &str = "kyua: E: out of memory\n";
 
 /// The output if the runs that are left are neither those before nor those after the failed call.
-const NEITHER: &str = ", and then the runs are neither from before the call nor from after it";
+const OTHER_RUNS_TEXT: &str =
+    ", and then the runs are neither from before the call nor from after it";
 
 /// The outcome of the command `test`.
 #[derive(Drop)]
-struct Tested {
+struct TestResult {
     /// The text on standard output.
     page: String,
     /// The exit status.
@@ -37,7 +40,7 @@ struct Tested {
 #[derive(Drop)]
 struct Attempt {
     /// The outcome, or `None` if the results tables couldn't be attached.
-    tested: Option<Tested>,
+    tested: Option<TestResult>,
     /// The schema number after the crash, or 0 without one.
     schema: i64,
     /// The runs after the crash.
@@ -47,16 +50,16 @@ struct Attempt {
 /// An execution on a disk that doesn't fail. Its store calls have numbers: 0 attaches the tables, 1
 /// is `begin`, then comes a `put` for each entry, and then `finish`.
 #[derive(Drop)]
-struct Whole {
+struct SoundRun {
     /// The outcome.
-    tested: Tested,
+    tested: TestResult,
     /// The runs before the execution.
     before: Vec<String>,
     /// The runs after the execution and a crash.
     left: Vec<String>,
 }
 
-impl Whole {
+impl SoundRun {
     /// Returns the number of the store call `finish`.
     fn last(&self) -> usize {
         self.left.len().saturating_sub(self.before.len())
@@ -64,7 +67,7 @@ impl Whole {
 
     /// Returns the number of the last store call that was completed, or `None` if no call leaves
     /// the runs `left`.
-    fn done_by(&self, left: &[String]) -> Option<usize> {
+    fn completed_call(&self, left: &[String]) -> Option<usize> {
         let (before, whole) = (self.before.as_slice(), self.left.as_slice());
         if left == before {
             return Some(0);
@@ -72,13 +75,13 @@ impl Whole {
         if left == whole {
             return Some(self.last());
         }
-        (1..self.last()).find(|done| is_cut(left, whole, before.len(), *done))
+        (1..self.last()).find(|done| is_partial_run(left, whole, before.len(), *done))
     }
 
     /// Returns the number of the store call that stopped a command, derived from its output and its
     /// children. The number after `finish` means that no call stopped the command. The error
     /// describes an output that fits no call, or a failed allocation.
-    fn stop_by(&self, cut: &Tested) -> Result<usize, &'static str> {
+    fn stopping_call(&self, cut: &TestResult) -> Result<usize, &'static str> {
         let (page, whole) = (cut.page.as_str(), self.tested.page.as_str());
         let memory = page.strip_suffix(MEMORY);
         let front = match memory.or(page.strip_suffix(LINE)) {
@@ -106,9 +109,9 @@ impl Whole {
     fn push_stop(&self, out: &mut ExampleOutput, cut: &Attempt) {
         let stop = match &cut.tested {
             None => Ok(0),
-            Some(tested) => self.stop_by(tested),
+            Some(tested) => self.stopping_call(tested),
         };
-        match (stop, self.done_by(cut.left.as_slice())) {
+        match (stop, self.completed_call(cut.left.as_slice())) {
             (Err(what), Some(_)) => write!(out, ", {what}"),
             (Ok(stop), Some(done)) if stop == done || stop == done.saturating_add(1) => match stop {
                 0 => write!(out, " attach {}", cut.schema),
@@ -117,13 +120,13 @@ impl Whole {
                 _ if stop == self.last() => out.push(" finish"),
                 _ => out.push(", then not"),
             },
-            _ => out.push(NEITHER),
+            _ => out.push(OTHER_RUNS_TEXT),
         }
     }
 }
 
 /// Appends `word`, the output of a command, and the runs that a crash left, each on a new line.
-fn push_tested(out: &mut ExampleOutput, word: &str, tested: Option<&Tested>, left: &[String]) {
+fn push_tested(out: &mut ExampleOutput, word: &str, tested: Option<&TestResult>, left: &[String]) {
     out.line(word);
     if let Some(tested) = tested {
         out.line(tested.page.as_str());
@@ -135,7 +138,7 @@ fn push_tested(out: &mut ExampleOutput, word: &str, tested: Option<&Tested>, lef
 
 /// A trial of an example's command lines on disks whose log or database file fails.
 #[derive(Clone, Copy)]
-struct Trial<'a> {
+struct DiskTrial<'a> {
     /// The example.
     row: &'a Example<'a>,
     /// The script of the host files and the systems.
@@ -148,17 +151,17 @@ struct Trial<'a> {
     frames: usize,
 }
 
-impl Trial<'_> {
+impl DiskTrial<'_> {
     /// Executes the command lines over a store. Returns the outcome of the last of them, and the
     /// store.
-    fn done_over<R: ResultStore + Drop>(self, results: R) -> Result<(Tested, R)> {
-        let mut played = Played::new(
+    fn run_over_store<R: ResultStore + Drop>(self, results: R) -> Result<(TestResult, R)> {
+        let mut played = CommandsRun::new(
             self.scene.alloc,
             ScriptedResultsHost::new(self.scene.alloc, results),
         );
         played.play(self.row.entries.as_slice(), self.scene)?;
         let status = *due(played.exits.last(), "there is no command")?;
-        let tested = Tested {
+        let tested = TestResult {
             page: played.page.text(self.scene.alloc)?,
             status,
             spawned: played.log.so_far()?.contains("spawn "),
@@ -170,10 +173,10 @@ impl Trial<'_> {
     /// Returns `None` if the files can't be opened.
     fn tried(self, files: Files<Fuse<Memory>>) -> Result<Option<Attempt>> {
         let (alloc, frames) = (self.scene.alloc, self.frames);
-        let Some((tested, files)) = work_over(alloc, files, frames, self)? else {
+        let Some((tested, files)) = run_on_files(alloc, files, frames, self)? else {
             return Ok(None);
         };
-        let (schema, left) = left_by(alloc, files, frames)?;
+        let (schema, left) = crash_and_read(alloc, files, frames)?;
         Ok(Some(Attempt {
             tested,
             schema,
@@ -184,7 +187,7 @@ impl Trial<'_> {
     /// Creates the files on which the command lines begin, and which fail after `calls` calls.
     fn files(self, calls: u64) -> Result<Files<Fuse<Memory>>> {
         let files = match self.is_old {
-            true => old_files(self.scene.alloc, self.frames)?,
+            true => schema_1_files(self.scene.alloc, self.frames)?,
             false => empty_files(self.scene.alloc),
         };
         Ok(fused(files, self.in_log, calls))
@@ -192,10 +195,10 @@ impl Trial<'_> {
 
     /// Executes the command lines on a disk that doesn't fail, and returns the runs before and
     /// after it.
-    fn whole(self) -> Result<Whole> {
-        let (_, before) = left_by(self.scene.alloc, self.files(u64::MAX)?, self.frames)?;
+    fn whole(self) -> Result<SoundRun> {
+        let (_, before) = crash_and_read(self.scene.alloc, self.files(u64::MAX)?, self.frames)?;
         let whole = due(self.tried(self.files(u64::MAX)?)?, "there is no store")?;
-        Ok(Whole {
+        Ok(SoundRun {
             tested: due(whole.tested, "its tables are not taken")?,
             before,
             left: whole.left,
@@ -206,7 +209,7 @@ impl Trial<'_> {
     /// calls that stopped them, each only once. The trial ends if no call stopped a command, or if
     /// something is wrong. If the output or the runs are wrong, appends them without and with the
     /// failure.
-    fn push_stops(self, out: &mut ExampleOutput, whole: &Whole) -> Result<()> {
+    fn push_stops(self, out: &mut ExampleOutput, whole: &SoundRun) -> Result<()> {
         out.push("stopped in");
         let mut last = String::new(self.scene.alloc);
         for calls in 0..LIMIT {
@@ -249,25 +252,27 @@ impl Trial<'_> {
 
 /// Executes the command lines over a database. The outcome is `None` if the results tables can't be
 /// attached.
-impl Work for Trial<'_> {
-    type Made = Option<Tested>;
+impl Work for DiskTrial<'_> {
+    type WorkResult = Option<TestResult>;
 
-    fn over<S: Alter + Drop>(self, conn: Connection<S>) -> Result<(Option<Tested>, S)> {
+    fn over<S: Alter + Drop>(self, conn: Connection<S>) -> Result<(Option<TestResult>, S)> {
         if !conn.is_autocommit() {
-            return Err(ExampleFault::Misspelled("a transaction is open"));
+            return Err(ExampleFault::InvalidExample("a transaction is open"));
         }
         match Results::attach(self.scene.alloc, conn) {
             Ok(results) => match RunsFile::of(results) {
                 Ok(file) => {
-                    let (tested, file) = self.done_over(file)?;
+                    let (tested, file) = self.run_over_store(file)?;
                     Ok((Some(tested), file.into_store()))
                 }
-                Err(StoreFault::NoMemory(_)) => Err(ExampleFault::Misspelled("out of memory")),
-                Err(_) => Err(ExampleFault::Misspelled("its trees can't be read")),
+                Err(StoreFault::NoMemory(_)) => Err(ExampleFault::InvalidExample("out of memory")),
+                Err(_) => Err(ExampleFault::InvalidExample("its trees can't be read")),
             },
             Err((StoreFault::Store(_), conn)) => Ok((None, conn.into_store())),
-            Err((StoreFault::NoMemory(_), _conn)) => Err(ExampleFault::Misspelled("out of memory")),
-            Err(_) => Err(ExampleFault::Misspelled("it was refused for another reason")),
+            Err((StoreFault::NoMemory(_), _conn)) => Err(ExampleFault::InvalidExample(
+                "out of memory",
+            )),
+            Err(_) => Err(ExampleFault::InvalidExample("it was refused for another reason")),
         }
     }
 }
@@ -278,11 +283,11 @@ impl Work for Trial<'_> {
 ///
 /// # Errors
 ///
-/// - `Misspelled`: a line is missing or invalid, or the store can't be created or read.
+/// - `InvalidExample`: a line is missing or invalid, or the store can't be created or read.
 /// - `NoMemory`: an allocation outside the command failed.
 pub fn answer(out: &mut ExampleOutput, row: &Example<'_>, disk: &str) -> Result<()> {
     let scene = scene_of(out.alloc, row)?;
-    let trial = Trial {
+    let trial = DiskTrial {
         row,
         scene: &scene,
         in_log: disk == "log",

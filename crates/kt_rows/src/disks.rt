@@ -16,15 +16,15 @@ const SCHEMA_1: &str =
 /// An interface to an operation on a database.
 pub trait Work {
     /// The result of the operation.
-    type Made;
+    type WorkResult;
 
     /// Executes the operation on a database, and returns its result and the store.
     ///
     /// # Errors
     ///
-    /// - `Misspelled`: the operation fails in a way that no example expects.
+    /// - `InvalidExample`: the operation fails in a way that no example expects.
     /// - `NoMemory`: an allocation outside the database failed.
-    fn over<S: Alter + Drop>(self, conn: Connection<S>) -> Result<(Self::Made, S)>;
+    fn over<S: Alter + Drop>(self, conn: Connection<S>) -> Result<(Self::WorkResult, S)>;
 }
 
 /// Executes an operation on the database in `files`, and closes the files. Returns the result and
@@ -33,13 +33,13 @@ pub trait Work {
 ///
 /// # Errors
 ///
-/// - `Misspelled` or `NoMemory`: `work` fails with this error.
-pub fn work_over<D: Disk + Drop, W: Work + Drop>(
+/// - `InvalidExample` or `NoMemory`: `work` fails with this error.
+pub fn run_on_files<D: Disk + Drop, W: Work + Drop>(
     alloc: Global,
     files: Files<D>,
     frames: usize,
     work: W,
-) -> Result<Option<(W::Made, Files<D>)>> {
+) -> Result<Option<(W::WorkResult, Files<D>)>> {
     if !files.may_be_used() {
         return Ok(None);
     }
@@ -56,15 +56,15 @@ pub fn work_over<D: Disk + Drop, W: Work + Drop>(
 
 /// A `Work` that creates a store of schema 1 in an empty database.
 #[derive(Clone, Copy)]
-struct OldStore;
+struct Schema1Store;
 
-impl Work for OldStore {
-    type Made = ();
+impl Work for Schema1Store {
+    type WorkResult = ();
 
     fn over<S: Alter + Drop>(self, mut conn: Connection<S>) -> Result<((), S)> {
         match conn.execute_batch(SCHEMA_1) {
             Ok(_) => Ok(((), conn.into_store())),
-            Err(_) => Err(ExampleFault::Misspelled("the old store is not made")),
+            Err(_) => Err(ExampleFault::InvalidExample("the old store is not made")),
         }
     }
 }
@@ -73,7 +73,7 @@ impl Work for OldStore {
 fn file_of(alloc: Global, bytes: &[u8]) -> Result<Memory> {
     let mut file = Memory::new(alloc);
     if file.write_at(0, bytes).is_err() || file.sync().is_err() {
-        return Err(ExampleFault::Misspelled("the old store is not made"));
+        return Err(ExampleFault::InvalidExample("the old store is not made"));
     }
     Ok(file)
 }
@@ -91,11 +91,11 @@ pub fn empty_files(alloc: Global) -> Files<Memory> {
 ///
 /// # Errors
 ///
-/// - `Misspelled`: the store can't be created.
+/// - `InvalidExample`: the store can't be created.
 /// - `NoMemory`: an allocation failed.
-pub fn old_files(alloc: Global, frames: usize) -> Result<Files<Memory>> {
+pub fn schema_1_files(alloc: Global, frames: usize) -> Result<Files<Memory>> {
     let empty = fused(empty_files(alloc), true, u64::MAX);
-    let made = work_over(alloc, empty, frames, OldStore)?;
+    let made = run_on_files(alloc, empty, frames, Schema1Store)?;
     let ((), files) = due(made, "the old store is not made")?;
     let (log, db) = (files.log.inner().bytes(), files.db.inner().bytes());
     let (log, db) = both(file_of(alloc, log), file_of(alloc, db))?;
@@ -129,7 +129,7 @@ fn push_told<S: Alter>(
     head: &RunHead,
 ) -> Result<()> {
     let Ok(found) = results.entries(head.number) else {
-        return Err(ExampleFault::Misspelled("its entries can not be told"));
+        return Err(ExampleFault::InvalidExample("its entries can not be told"));
     };
     let text = format!(in alloc;
         "run {} at {}, {} cases",
@@ -145,7 +145,7 @@ fn push_told<S: Alter>(
 /// Returns the head, the entries and the state of each run of a store.
 fn told<S: Alter>(alloc: Global, results: &mut Results<S>) -> Result<Vec<String>> {
     let Ok(heads) = results.runs() else {
-        return Err(ExampleFault::Misspelled("its runs can not be told"));
+        return Err(ExampleFault::InvalidExample("its runs can not be told"));
     };
     let mut told = Vec::new(alloc);
     for head in heads.as_slice() {
@@ -155,7 +155,7 @@ fn told<S: Alter>(alloc: Global, results: &mut Results<S>) -> Result<Vec<String>
 }
 
 /// Returns the schema number of a database, or `None` if the query fails.
-fn asked_schema<S: Alter>(conn: &mut Connection<S>) -> Option<i64> {
+fn schema_number_of<S: Alter>(conn: &mut Connection<S>) -> Option<i64> {
     let row = conn.query_row("SELECT value FROM meta WHERE name = 'schema'", &[]);
     row.ok()?.get(0).ok()
 }
@@ -163,17 +163,17 @@ fn asked_schema<S: Alter>(conn: &mut Connection<S>) -> Option<i64> {
 /// A `Work` that returns the schema number of a database, or 0 without one, and all its runs. The
 /// query for the number is repeated once if it fails, because an allocation may fail once.
 #[derive(Clone, Copy)]
-struct Telling {
+struct ContentReader {
     alloc: Global,
 }
 
-impl Work for Telling {
-    type Made = (i64, Vec<String>);
+impl Work for ContentReader {
+    type WorkResult = (i64, Vec<String>);
 
-    fn over<S: Alter + Drop>(self, mut conn: Connection<S>) -> Result<(Self::Made, S)> {
-        let schema = asked_schema(&mut conn).or_else(|| asked_schema(&mut conn));
+    fn over<S: Alter + Drop>(self, mut conn: Connection<S>) -> Result<(Self::WorkResult, S)> {
+        let schema = schema_number_of(&mut conn).or_else(|| schema_number_of(&mut conn));
         if !conn.is_autocommit() {
-            return Err(ExampleFault::Misspelled("a transaction is open"));
+            return Err(ExampleFault::InvalidExample("a transaction is open"));
         }
         match Results::attach(self.alloc, conn) {
             Ok(mut results) => {
@@ -181,7 +181,7 @@ impl Work for Telling {
                 let store = results.detach().into_store();
                 Ok(((schema.unwrap_or(0), told), store))
             }
-            Err(_) => Err(ExampleFault::Misspelled("it can not be attached again")),
+            Err(_) => Err(ExampleFault::InvalidExample("it can not be attached again")),
         }
     }
 }
@@ -191,23 +191,23 @@ impl Work for Telling {
 ///
 /// # Errors
 ///
-/// - `Misspelled`: the files can't be opened, or the results tables can't be attached or read.
+/// - `InvalidExample`: the files can't be opened, or the results tables can't be attached or read.
 /// - `NoMemory`: an allocation outside the database failed.
-pub fn left_by<D: Crash + Drop>(
+pub fn crash_and_read<D: Crash + Drop>(
     alloc: Global,
     mut files: Files<D>,
     frames: usize,
 ) -> Result<(i64, Vec<String>)> {
     files.log.crash();
     files.db.crash();
-    let left = work_over(alloc, files, frames, Telling { alloc })?;
+    let left = run_on_files(alloc, files, frames, ContentReader { alloc })?;
     let (left, _) = due(left, "it does not open again")?;
     Ok(left)
 }
 
 /// Returns `true` if `left` consists of the first `first` + `lines` lines of `whole` and the line
 /// `unfinished`.
-pub fn is_cut(left: &[String], whole: &[String], first: usize, lines: usize) -> bool {
+pub fn is_partial_run(left: &[String], whole: &[String], first: usize, lines: usize) -> bool {
     left.split_last().is_some_and(|(last, front)| {
         last.as_str() == "unfinished"
             && front.len() == first.saturating_add(lines)

@@ -15,7 +15,7 @@ use std::io::Write;
 
 /// A state after command lines: the results host, both outputs, the exit statuses and the calls on
 /// systems.
-pub struct Played<R: ResultStore + Drop> {
+pub struct CommandsRun<R: ResultStore + Drop> {
     /// The results host, which has the results store.
     pub platform: ScriptedResultsHost<R>,
     /// Standard output.
@@ -28,9 +28,9 @@ pub struct Played<R: ResultStore + Drop> {
     pub log: ExampleOutput,
 }
 
-impl<R: ResultStore + Drop> Drop for Played<R> {
+impl<R: ResultStore + Drop> Drop for CommandsRun<R> {
     fn drop(self) {
-        let Played {
+        let CommandsRun {
             platform: _,
             page: _,
             errors: _,
@@ -73,10 +73,10 @@ fn push_errors(out: &mut ExampleOutput, errors: &ScriptedWriter) -> Result<()> {
     Ok(())
 }
 
-impl<R: ResultStore + Drop> Played<R> {
+impl<R: ResultStore + Drop> CommandsRun<R> {
     /// Creates the state in which no command line was executed yet.
-    pub fn new(alloc: Global, platform: ScriptedResultsHost<R>) -> Played<R> {
-        Played {
+    pub fn new(alloc: Global, platform: ScriptedResultsHost<R>) -> CommandsRun<R> {
+        CommandsRun {
             platform,
             page: ScriptedWriter::new(alloc),
             errors: ScriptedWriter::new(alloc),
@@ -90,7 +90,7 @@ impl<R: ResultStore + Drop> Played<R> {
     ///
     /// # Errors
     ///
-    /// - `Misspelled`: an argument has an invalid escape.
+    /// - `InvalidExample`: an argument has an invalid escape.
     /// - `NoMemory`: an allocation outside the command failed.
     pub fn play(&mut self, lines: &[ExampleLine<'_>], scene: &Scene) -> Result<()> {
         let alloc = self.log.alloc;
@@ -115,7 +115,7 @@ impl<R: ResultStore + Drop> Played<R> {
     /// # Errors
     ///
     /// - `NoMemory`: an allocation failed.
-    pub fn push_ended(&self, out: &mut ExampleOutput) -> Result<()> {
+    pub fn push_result(&self, out: &mut ExampleOutput) -> Result<()> {
         push_page(out, &self.page)?;
         push_errors(out, &self.errors)?;
         out.push("exit");
@@ -129,7 +129,7 @@ impl<R: ResultStore + Drop> Played<R> {
     ///
     /// # Errors
     ///
-    /// - `Misspelled`: the store isn't closed.
+    /// - `InvalidExample`: the store isn't closed.
     pub fn into_results(mut self) -> Result<R> {
         due(self.platform.results.take(), "there is no store")
     }

@@ -108,7 +108,7 @@ pub fn push_printed(out: &mut ExampleOutput, pieces: &[Vec<u8>], to_lines: bool)
 ///
 /// # Errors
 ///
-/// - `Misspelled`: an escape is invalid.
+/// - `InvalidExample`: an escape is invalid.
 /// - `NoMemory`: an allocation failed.
 pub fn push_pieces(out: &mut ExampleOutput, row: &Example<'_>) -> Result<()> {
     let mut pieces = Vec::new(out.alloc);

@@ -1,5 +1,5 @@
 use crate::printing::{push_printed, writer};
-use kt_base::{Bytes, NoMemory, Reason, Text, Verdict, emit_number, emit_wide_number, lossy, send};
+use kt_base::{Bytes, NoMemory, Reason, Text, Verdict, emit_number, emit_u128, lossy, send};
 use kt_examples::{
     Example, ExampleFault, ExampleLine, ExampleOutput, Result, ScriptedWriter, WriteFault, kind_of,
     push_reason, unescaped,
@@ -29,9 +29,9 @@ fn push_number(out: &mut ExampleOutput, text: &str) -> Result<()> {
     if let Ok(n) = text.parse::<u64>() {
         let _ = emit_number(n, &mut page);
     } else if let Ok(n) = text.parse::<u128>() {
-        let _ = emit_wide_number(n, &mut page);
+        let _ = emit_u128(n, &mut page);
     } else {
-        return Err(ExampleFault::Misspelled("no number"));
+        return Err(ExampleFault::InvalidExample("no number"));
     }
     out.bytes(page.kept()?);
     Ok(())
@@ -63,7 +63,7 @@ fn push_told(out: &mut ExampleOutput, row: &Example<'_>, word: &str, bytes: Vec<
         }
         "send" => push_sent(out, row, &bytes),
         "emit" => push_printed(out, &[bytes], false),
-        _ => Err(ExampleFault::Misspelled("nothing like that is asked of a reason")),
+        _ => Err(ExampleFault::InvalidExample("nothing like that is asked of a reason")),
     }
 }
 
@@ -73,7 +73,7 @@ fn push_told(out: &mut ExampleOutput, row: &Example<'_>, word: &str, bytes: Vec<
 ///
 /// # Errors
 ///
-/// - `Misspelled`: a line is missing or invalid.
+/// - `InvalidExample`: a line is missing or invalid.
 /// - `NoMemory`: an allocation failed.
 pub fn answer(out: &mut ExampleOutput, row: &Example<'_>) -> Result<()> {
     let ExampleLine { word, text } = row.first()?;

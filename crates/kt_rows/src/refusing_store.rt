@@ -1,6 +1,6 @@
 use kt_base::{Entry, Variables};
 use kt_cli::MemRuns;
-use kt_doubles::Refusals;
+use kt_doubles::FailingCalls;
 use kt_examples::Example;
 use kt_store::{CaseOutputs, ResultStore, RunHead, StoreFault, StoreSpec};
 use std::alloc::Global;
@@ -9,7 +9,7 @@ use std::alloc::Global;
 #[derive(Drop)]
 pub struct RefusingStore {
     runs: MemRuns,
-    refusals: Refusals,
+    refusals: FailingCalls,
 }
 
 impl RefusingStore {
@@ -18,13 +18,13 @@ impl RefusingStore {
     ///
     /// # Errors
     ///
-    /// - `Misspelled`: CALLS isn't one or two numbers, or the real error for the calls can't be
+    /// - `InvalidExample`: CALLS isn't one or two numbers, or the real error for the calls can't be
     ///   provoked.
     /// - `NoMemory`: an allocation failed.
     pub fn of(alloc: Global, row: &Example<'_>) -> kt_examples::Result<RefusingStore> {
         Ok(RefusingStore {
             runs: MemRuns::new(alloc),
-            refusals: Refusals::of(alloc, row)?,
+            refusals: FailingCalls::of(alloc, row)?,
         })
     }
 }

@@ -1,14 +1,14 @@
 ghost use Rattle.std.specs.Prelude.{◌≤◌, IfOk, length};
 ghost use Rattle.kt_cli.specs.Machines.{read_limit};
 
-use kt_base::{Bytes, LATEST_MOMENT};
+use kt_base::{Bytes, LATEST_MOMENT_MILLIS};
 use kt_cli::HostFiles;
-use kt_doubles::{Scene, ask_too_much};
+use kt_doubles::{Scene, fail_allocation};
 use kt_suite::ReadFault;
 use std::alloc::Global;
 
 /// The maximum number of bytes that are read of a file: one more than a Kyuafile may have.
-const READ_LIMIT: usize = 1_048_577;
+const READ_LIMIT_BYTES: usize = 1_048_577;
 
 /// A `HostFiles` with the files, programs and clock of a scene.
 #[derive(Drop)]
@@ -19,11 +19,11 @@ pub struct ScriptedFiles<'a> {
     pub told: usize,
 }
 
-/// Returns a copy of the first `READ_LIMIT` bytes, or of all bytes if they are fewer.
+/// Returns a copy of the first `READ_LIMIT_BYTES` bytes, or of all bytes if they are fewer.
 fn front_of(alloc: Global, bytes: &[u8]) -> Result<Bytes, ReadFault>
     ensures { IfOk result (λ bytes. length bytes ≤ read_limit) }
 {
-    let count = bytes.len().min(READ_LIMIT);
+    let count = bytes.len().min(READ_LIMIT_BYTES);
     match Bytes::from_slice(alloc, &bytes[..count]) {
         Ok(front) => Ok(front),
         Err(refusal) => Err(ReadFault::Memory(refusal)),
@@ -36,7 +36,7 @@ impl HostFiles for ScriptedFiles<'_> {
 
     fn front(&mut self, path: &str) -> Result<Bytes, ReadFault> {
         if self.scene.has("dear", path) {
-            if let Err(refusal) = ask_too_much(self.scene.alloc) {
+            if let Err(refusal) = fail_allocation(self.scene.alloc) {
                 return Err(ReadFault::Memory(refusal));
             }
         }
@@ -66,7 +66,7 @@ impl HostFiles for ScriptedFiles<'_> {
         let told = self.told;
         self.told = told.saturating_add(1);
         match moments.get(told).or(moments.last()) {
-            Some(moment) => (*moment).min(LATEST_MOMENT),
+            Some(moment) => (*moment).min(LATEST_MOMENT_MILLIS),
             None => 0,
         }
     }

@@ -11,11 +11,11 @@ pub struct ScriptedResultsHost<R: ResultStore + Drop> {
     /// The results store while it is closed.
     pub results: Option<R>,
     /// The error of opening the results store, if it fails.
-    pub not_opened: Option<StoreFault>,
+    pub open_error: Option<StoreFault>,
     /// The error of closing the results store, if it fails.
-    pub not_closed: Option<StoreFault>,
+    pub close_error: Option<StoreFault>,
     /// The error of reading the process environment (`ProcessEnv`), if it fails.
-    pub not_found: Option<DriverFault>,
+    pub env_error: Option<DriverFault>,
     /// The value of `PATH`, if it is set.
     pub path: Option<Text>,
     /// The value of `USER`, if it is set.
@@ -29,9 +29,9 @@ impl<R: ResultStore + Drop> ScriptedResultsHost<R> {
     pub fn new(alloc: Global, results: R) -> ScriptedResultsHost<R> {
         ScriptedResultsHost {
             results: Some(results),
-            not_opened: None,
-            not_closed: None,
-            not_found: None,
+            open_error: None,
+            close_error: None,
+            env_error: None,
             path: None,
             user: None,
             calls: ExampleOutput::new(alloc),
@@ -67,7 +67,7 @@ impl<R: ResultStore + Drop> ResultsHost for ScriptedResultsHost<R> {
 
     fn open(&mut self, file: &Text, _access: Access) -> Result<R, StoreFault> {
         self.note("open ", file.as_str())?;
-        match self.not_opened {
+        match self.open_error {
             Some(fault) => Err(fault),
             None => self.results.take().ok_or(StoreFault::UnknownSchema),
         }
@@ -76,13 +76,13 @@ impl<R: ResultStore + Drop> ResultsHost for ScriptedResultsHost<R> {
     fn close(&mut self, results: R) -> Result<(), StoreFault> {
         self.results = Some(results);
         self.note("close", "")?;
-        self.not_closed.map_or(Ok(()), Err)
+        self.close_error.map_or(Ok(()), Err)
     }
 
     fn process_env(&mut self) -> Result<ProcessEnv, DriverFault> {
         self.note("surroundings", "")
             .map_err(DriverFault::NoMemory)?;
-        match self.not_found {
+        match self.env_error {
             Some(fault) => Err(fault),
             None => self.around().map_err(DriverFault::NoMemory),
         }

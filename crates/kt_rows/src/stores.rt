@@ -1,10 +1,10 @@
-use crate::played::Played;
+use crate::played::CommandsRun;
 use crate::refusing_store::RefusingStore;
 use crate::scripted_results_host::ScriptedResultsHost;
 use kt_dbfile::RunsFile;
-use kt_doubles::{InParts, Scene, push_call};
+use kt_doubles::{PartwiseStore, Scene, push_call};
 use kt_examples::{
-    Example, ExampleFault, ExampleLine, ExampleOutput, Result, asked, content_at, is_content,
+    Example, ExampleFault, ExampleLine, ExampleOutput, Result, asked, content_at, is_entry_line,
 };
 use kt_store::{ResultStore, Results};
 use sqlite::{Alter, Connection};
@@ -27,15 +27,15 @@ fn detached<S: Alter + Drop>(store: Store<S>) -> Result<Connection<S>> {
     match store {
         Store::Open(connection) => Ok(connection),
         Store::Attached(results) => Ok(results.detach()),
-        Store::ByTrees(_file) => Err(ExampleFault::Misspelled("the tables are taken twice")),
+        Store::ByTrees(_file) => Err(ExampleFault::InvalidExample("the tables are taken twice")),
     }
 }
 
 /// Converts a store that is used by SQL into a store that is used through its trees.
-fn by_trees<S: Alter + Drop>(results: Results<S>) -> Result<RunsFile<S>> {
+fn into_runs_file<S: Alter + Drop>(results: Results<S>) -> Result<RunsFile<S>> {
     match RunsFile::of(results) {
         Ok(file) => Ok(file),
-        Err(_) => Err(ExampleFault::Misspelled("its trees can't be read")),
+        Err(_) => Err(ExampleFault::InvalidExample("its trees can't be read")),
     }
 }
 
@@ -46,13 +46,13 @@ fn attach<S: Alter + Drop>(
     is_by_trees: bool,
 ) -> Result<Store<S>> {
     if !connection.is_autocommit() {
-        return Err(ExampleFault::Misspelled("a transaction is open"));
+        return Err(ExampleFault::InvalidExample("a transaction is open"));
     }
     match Results::attach(out.alloc, connection) {
         Ok(results) => {
             out.push("attached");
             if is_by_trees {
-                return Ok(Store::ByTrees(by_trees(results)?));
+                return Ok(Store::ByTrees(into_runs_file(results)?));
             }
             Ok(Store::Attached(results))
         }
@@ -73,12 +73,12 @@ fn ask<R: ResultStore + Drop>(
 ) -> Result<R> {
     if line.word != "do" {
         let (store, alloc) = (&mut results, out.alloc);
-        push_call(out, &mut InParts { store, alloc }, line, content)?;
+        push_call(out, &mut PartwiseStore { store, alloc }, line, content)?;
         return Ok(results);
     }
-    let mut played = Played::new(out.alloc, ScriptedResultsHost::new(out.alloc, results));
+    let mut played = CommandsRun::new(out.alloc, ScriptedResultsHost::new(out.alloc, results));
     played.play(&[*line], &Scene::new(out.alloc))?;
-    played.push_ended(out)?;
+    played.push_result(out)?;
     played.into_results()
 }
 
@@ -91,7 +91,7 @@ fn ask_by_sql<S: Alter + Drop>(
     content: &[ExampleLine<'_>],
 ) -> Result<Store<S>> {
     if line.word == "do" {
-        let file = by_trees(results)?;
+        let file = into_runs_file(results)?;
         return Ok(Store::ByTrees(ask(out, file, line, content)?));
     }
     push_call(out, &mut results, line, content)?;
@@ -112,13 +112,13 @@ fn step<S: Alter + Drop>(
         "sql" => {
             let mut connection = detached(store)?;
             if connection.execute(line.text, &[]).is_err() {
-                return Err(ExampleFault::Misspelled("the statement fails"));
+                return Err(ExampleFault::InvalidExample("the statement fails"));
             }
             out.push("done");
             Ok(Store::Open(connection))
         }
         _ => match store {
-            Store::Open(_) => Err(ExampleFault::Misspelled("no tables were taken")),
+            Store::Open(_) => Err(ExampleFault::InvalidExample("no tables were taken")),
             Store::Attached(results) => ask_by_sql(out, results, line, content),
             Store::ByTrees(file) => Ok(Store::ByTrees(ask(out, file, line, content)?)),
         },
@@ -130,7 +130,7 @@ fn over(alloc: Global, lines: &[ExampleLine<'_>], is_by_trees: bool) -> Result<S
     let mut out = ExampleOutput::new(alloc);
     let mut store = Store::Open(Connection::open_in_memory(alloc)?);
     for (place, line) in lines.iter().enumerate() {
-        if !is_content(line) {
+        if !is_entry_line(line) {
             store = step(&mut out, store, is_by_trees, line, content_at(lines, place))?;
         }
     }
@@ -139,7 +139,7 @@ fn over(alloc: Global, lines: &[ExampleLine<'_>], is_by_trees: bool) -> Result<S
 
 /// Returns `true` if lines use the connection after the first `attach`. A store that is used
 /// through its trees can't return it.
-fn are_taken_again(lines: &[ExampleLine<'_>]) -> bool {
+fn is_reattached(lines: &[ExampleLine<'_>]) -> bool {
     let mut later = lines.iter().skip_while(|line| line.word != "attach");
     later.next();
     later.any(|line| line.word == "attach" || line.word == "sql")
@@ -152,26 +152,26 @@ fn is_short(answer: &str) -> bool {
 
 /// Appends the common output of both ways, or both outputs if they differ. If one output reports a
 /// failed allocation, only that output is appended, because the other one must differ.
-fn push_both(out: &mut ExampleOutput, by_sql: &str, by_trees: &str) {
-    if by_sql == by_trees || is_short(by_sql) {
+fn push_both(out: &mut ExampleOutput, by_sql: &str, of_trees: &str) {
+    if by_sql == of_trees || is_short(by_sql) {
         out.push(by_sql);
-    } else if is_short(by_trees) {
-        out.push(by_trees);
+    } else if is_short(of_trees) {
+        out.push(of_trees);
     } else {
         out.push(by_sql);
         out.line("by its trees:");
-        out.line(by_trees);
+        out.line(of_trees);
     }
 }
 
 /// Executes the lines of an example over a store in memory, and appends their outputs.
-fn over_memory(
+fn run_in_memory(
     out: &mut ExampleOutput,
     lines: &[ExampleLine<'_>],
     mut runs: RefusingStore,
 ) -> Result<()> {
     for (place, line) in lines.iter().enumerate() {
-        if !is_content(line) {
+        if !is_entry_line(line) {
             out.separate("\n");
             runs = ask(out, runs, line, content_at(lines, place))?;
         }
@@ -184,21 +184,21 @@ fn over_memory(
 ///
 /// # Errors
 ///
-/// - `Misspelled`: a line is invalid, or an SQL statement fails.
+/// - `InvalidExample`: a line is invalid, or an SQL statement fails.
 /// - `NoMemory`: an allocation outside the store failed.
 pub fn answer(out: &mut ExampleOutput, row: &Example<'_>) -> Result<()> {
     let lines = row.entries.as_slice();
     if let Some((first, calls)) = lines.split_first() {
         if first.word == "memory" {
-            return over_memory(out, calls, RefusingStore::of(out.alloc, row)?);
+            return run_in_memory(out, calls, RefusingStore::of(out.alloc, row)?);
         }
     }
     let by_sql = over(out.alloc, lines, false)?;
-    if are_taken_again(lines) {
+    if is_reattached(lines) {
         out.push(by_sql.as_str());
         return Ok(());
     }
-    let by_trees = over(out.alloc, lines, true)?;
-    push_both(out, by_sql.as_str(), by_trees.as_str());
+    let of_trees = over(out.alloc, lines, true)?;
+    push_both(out, by_sql.as_str(), of_trees.as_str());
     Ok(())
 }

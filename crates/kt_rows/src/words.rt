@@ -8,9 +8,9 @@ use std::slice;
 ///
 /// # Errors
 ///
-/// - `Misspelled`: an escape is invalid, or an argument isn't UTF-8.
+/// - `InvalidExample`: an escape is invalid, or an argument isn't UTF-8.
 /// - `NoMemory`: an allocation failed.
-pub fn words_of(alloc: Global, line: &str) -> Result<Vec<String>> {
+pub fn args_of_line(alloc: Global, line: &str) -> Result<Vec<String>> {
     let mut words = Vec::new(alloc);
     for word in line.split_whitespace() {
         push_made(&mut words, text_of(alloc, word).map(Text::into_string))?;
@@ -22,10 +22,10 @@ pub fn words_of(alloc: Global, line: &str) -> Result<Vec<String>> {
 ///
 /// # Errors
 ///
-/// - `Misspelled`: an escape is invalid, or an argument isn't UTF-8.
+/// - `InvalidExample`: an escape is invalid, or an argument isn't UTF-8.
 /// - `NoMemory`: an allocation outside `read_command` failed.
 pub fn read_line(alloc: Global, line: &str) -> Result<Result<Command, CommandFault>> {
-    let words = words_of(alloc, line)?;
+    let words = args_of_line(alloc, line)?;
     Ok(read_command(alloc, words.as_slice()))
 }
 
@@ -92,9 +92,9 @@ fn push_fault(out: &mut ExampleOutput, fault: &CommandFault) {
 }
 
 /// Returns the arguments of the line `line WORDS`, and then N times the argument of `times N WORD`.
-fn all_words(alloc: Global, row: &Example<'_>) -> Result<Vec<String>> {
+fn example_args(alloc: Global, row: &Example<'_>) -> Result<Vec<String>> {
     let line = due(row.text("line"), "the row has no command line")?;
-    let mut words = words_of(alloc, line)?;
+    let mut words = args_of_line(alloc, line)?;
     let times = row.text("times").unwrap_or("0 ");
     let (count, word) = halves(times, " ", "a number and a word are due")?;
     for _ in 0..number(count)? {
@@ -108,10 +108,10 @@ fn all_words(alloc: Global, row: &Example<'_>) -> Result<Vec<String>> {
 ///
 /// # Errors
 ///
-/// - `Misspelled`: a line is missing or invalid.
+/// - `InvalidExample`: a line is missing or invalid.
 /// - `NoMemory`: an allocation outside `read_command` failed.
 pub fn answer(out: &mut ExampleOutput, row: &Example<'_>) -> Result<()> {
-    match read_command(out.alloc, all_words(out.alloc, row)?.as_slice()) {
+    match read_command(out.alloc, example_args(out.alloc, row)?.as_slice()) {
         Ok(command) => push_command(out, &command),
         Err(fault) => push_fault(out, &fault),
     }

@@ -1,5 +1,5 @@
 -- The first state of the scheduler, and the records of cases.
-use Rattle.kt_sched.proofs.Common.{length, length-filter, slice_get, filter, Option, Some, None, is_some, map, ◌≡◌, ℕ, ◌<◌, Bool, true, false, cond, List, [], refl, sym, ◌∙◌, ap, arith, length-map, option_map, slice_get-map, Job, Case, NoEvent, turns, is_open, IsPlan, nothing_fed, first_case, first_stage, SchedState, Stands, IsStage, is_active_stage, is_owing_stage, is_fresh, positions, Judged, ◌≢◌, ◌≤◌, subst, slice_set, inl, inr, length-set, Entry, Stage, Decided, Finished, Taken, Event, of, IsEntry, decided, IsEntryOf, CaseRecord, Fed, TookEntry, IsAsked, is_over, is_owed, entry_with, record_in, decided_record, stage_work, work}
+use Rattle.kt_sched.proofs.Common.{length, length-filter, slice_get, filter, Option, Some, None, is_some, map, ◌≡◌, ℕ, ◌<◌, Bool, true, false, cond, List, [], refl, sym, ◌∙◌, ap, arith, length-map, option_map, slice_get-map, Job, Case, NoEvent, turns, is_open, IsPlan, no_responses, first_case, first_stage, SchedState, Stands, IsStage, is_active_stage, is_owing_stage, is_waiting_stage, positions, Judged, ◌≢◌, ◌≤◌, subst, slice_set, inl, inr, length-set, Entry, Stage, Decided, Finished, Taken, Event, of, IsEntry, decided, IsEntryOf, CaseRecord, Fed, TakesEntry, IsAsked, is_over, is_owed, entry_with, record_in, decided_record, stage_work, work}
 use Rattle.kt_sched.specs.declared.next.Next.TheVariants as next
 use Rattle.kt_sched.proofs.Lists.{filter_none, mapped_at, count_by-set, sum_by-set}
 use Rattle.kt_sched.proofs.Turns.{put_at_positions}
@@ -12,7 +12,7 @@ first_state w cases order =
     record { cases = cases; order = order; turn = 0; active = 0; width = w; pending = None; ready = None; asked = next.Done; failed = false }
 
 -- At first, no case is active and no case owes its cleanup.
-first_is : (o : Option Judged) → (is_fresh (first_stage o) ≡ true) × (is_active_stage (first_stage o) ≡ false) × (is_owing_stage (first_stage o) ≡ false)
+first_is : (o : Option Judged) → (is_waiting_stage (first_stage o) ≡ true) × (is_active_stage (first_stage o) ≡ false) × (is_owing_stage (first_stage o) ≡ false)
 first_is None = (refl, refl, refl)
 first_is (Some v) = (refl, refl, refl)
 
@@ -21,11 +21,11 @@ first_stands i job None e = (refl, e)
 first_stands i job (Some v) e = (refl, ap is_some e)
 
 all_first : (plan : List Job) (i : ℕ) (c : Case) → slice_get (map first_case plan) i ≡ Some c
-    → (is_fresh c.stage ≡ true) × (is_active_stage c.stage ≡ false) × (is_owing_stage c.stage ≡ false)
+    → (is_waiting_stage c.stage ≡ true) × (is_active_stage c.stage ≡ false) × (is_owing_stage c.stage ≡ false)
 all_first plan i c g = let w = mapped_at first_case plan i c g in let f = first_is w.0.decided in rw (sym w.2) f
 
 pub new_stands : {plan jobs : List Job} {w : ℕ} {cs : List Case} {xs : List ℕ} → IsPlan plan → 1 ≤ w → jobs ≡ plan → cs ≡ map first_case jobs
-    → xs ≡ positions (turns jobs) → Stands plan w nothing_fed (first_state w cs xs)
+    → xs ≡ positions (turns jobs) → Stands plan w no_responses (first_state w cs xs)
 new_stands {plan} {w = n} h l q e f = rw (e, f, q) (record {
   cases = record {
     is_plan = h;
@@ -82,14 +82,14 @@ record_over job Decided t e = (refl, refl, refl, refl, λ x. absurd (cc))
 record_over job (Finished x) t e = (refl, refl, refl, refl, λ y. absurd (cc))
 record_over job was t e = absurd (cc)
 
-pub less_taken : (ys : List Case) (i : ℕ) (cs : List Case) (entry : Entry) → TookEntry ys cs i entry → work cs < work ys
+pub less_taken : (ys : List Case) (i : ℕ) (cs : List Case) (entry : Entry) → TakesEntry ys cs i entry → work cs < work ys
 less_taken ys i cs entry t =
     let f = λ (c : Case). stage_work c.stage in
     let x = sum_by-set f ys i (record { job = t.had; stage = t.was }) (record { job = t.left; stage = Taken }) t.found in
     subst (λ (xs : List Case). work xs < work ys) (sym t.changed) (omega (arith, x, (record_over t.had t.was t.case_record t.has_record).3))
 
 module _ {plan : List Job} {n : ℕ} {fed : Fed} {b : SchedState} {i : ℕ} {cs : List Case} {entry : Entry} (h : Stands plan n fed b)
-    (t : TookEntry b.cases cs i entry) where
+    (t : TakesEntry b.cases cs i entry) where
   abbrev new : Case
   new = record { job = t.left; stage = Taken }
 

@@ -1,5 +1,5 @@
 -- The chosen step is the first that applies, its consequences hold, and no other step is next.
-use Rattle.kt_sched.proofs.Common.{slice_get, Option, Some, None, drop, filter, is_some, nat_lt, ◌==◌, MatchOption, ◌⊎◌, if◌then◌else◌, ◌≡◌, ℕ, ◌+◌, ◌<◌, Bool, true, false, List, [], ◌∷◌, ◌++◌, length, refl, sym, ◌∙◌, ap, subst, arith, inl, inr, drop_of_length-le, false_from_ne_true, ⊤, nat_tests, slice_get_within, Body, Cleanup, Job, Next, Case, Trace, active, turns, next_to_start, IsBusy, recorded, Fed, has_failed, IsNext, IsChosen, IsHeld, MayBegin, SchedState, Stands, IsSettled, positions, opened, is_open, is_decided, is_undecided, is_none, IsPlan, body_starts, map, ◌≢◌, ◌≤◌, Role, Stage, Waiting, Owing, Taken, BodyStarted, end_mark, mark_of, of, history, is_whole, has_whole_history, Follows, WereOpen, IsStage, IsAsked, option_to_list, HasExclusive, CanLend}
+use Rattle.kt_sched.proofs.Common.{slice_get, Option, Some, None, drop, filter, is_some, nat_lt, ◌==◌, MatchOption, ◌⊎◌, if◌then◌else◌, ◌≡◌, ℕ, ◌+◌, ◌<◌, Bool, true, false, List, [], ◌∷◌, ◌++◌, length, refl, sym, ◌∙◌, ap, subst, arith, inl, inr, drop_of_length-le, false_from_ne_true, ⊤, nat_tests, slice_get_within, Body, Cleanup, Job, Next, Case, Trace, active, turns, next_to_start, IsBusy, recorded, Fed, has_failed, IsNext, IsChosen, HasNoTurn, MayBegin, SchedState, Stands, IsSettled, positions, opened, is_open, is_decided, is_undecided, is_none, IsPlan, body_starts, map, ◌≢◌, ◌≤◌, Role, Stage, Waiting, Owing, Taken, BodyStarted, end_kind, kind_of_event, of, history, is_whole, has_whole_history, Follows, WereOpen, IsStage, IsAsked, option_to_list, HasExclusive, CanLend}
 use Rattle.kt_sched.specs.declared.next.Next.TheVariants as next
 use Rattle.kt_sched.proofs.Lists.{filter_none, get_drop, slice_get-drop, within_some, filter_in, list_all_from}
 use Rattle.kt_sched.proofs.Decided.{first_open, room_in}
@@ -13,7 +13,7 @@ abbrev pub Held : List Job → Trace → Option Job → Type 0
 Held plan T o = MatchOption o ⊤ (λ job. (job.exclusive ≡ true) × (0 < active plan T))
 
 module _ {plan : List Job} {n : ℕ} {fed : Fed} {b : SchedState} (h : Stands plan n fed b) where
-  pub busy_where_held : has_failed fed ≡ false → IsHeld b → IsBusy plan n fed.trace
+  pub busy_where_held : has_failed fed ≡ false → HasNoTurn b → IsBusy plan n fed.trace
   busy_where_held f (inl e) = absurd (cc (h.puts.failed))
   busy_where_held f (inr (inl e)) =
       let d : drop b.turn (turns plan) ≡ [] = drop_of_length-le (turns plan) (turn_past h e) in
@@ -61,17 +61,17 @@ module _ {plan : List Job} {n : ℕ} {fed : Fed} {b : SchedState} (h : Stands pl
           absurd (cc (ap is_some (ap (λ (j : Job). j.decided) (same_Some job u.0.job (sym g ∙ u.0.turn)) ∙ u.3), d))
 
   -- The next put is the put of the ready case, or else of the first open case.
-  put_at : (rest : List ℕ) → has_failed fed ≡ false → option_to_list b.ready ++ positions (opened plan n fed.trace b.turn) ≡ rest
+  puts_scheduled_at : (rest : List ℕ) → has_failed fed ≡ false → option_to_list b.ready ++ positions (opened plan n fed.trace b.turn) ≡ rest
       → slice_get (recorded plan n fed.trace) fed.stored ≡ slice_get rest 0
-  put_at rest f e = slice_get-drop (recorded plan n fed.trace) fed.stored ∙ ap (λ (xs : List ℕ). slice_get xs 0) (h.puts.ready f ∙ e)
+  puts_scheduled_at rest f e = slice_get-drop (recorded plan n fed.trace) fed.stored ∙ ap (λ (xs : List ℕ). slice_get xs 0) (h.puts.ready f ∙ e)
 
   pub none_put : b.ready ≡ None → IsSettled b → has_failed fed ≡ false → slice_get (recorded plan n fed.trace) fed.stored ≡ None
-  none_put e s f = put_at [] f (rw (e, nothing_opened e s f) refl)
+  none_put e s f = puts_scheduled_at [] f (rw (e, nothing_opened e s f) refl)
 
   pub is_next : (q : Next) → IsSettled b → IsChosen b q → IsNext plan n fed q
   is_next (next.Put i) s c =
       let f : has_failed fed ≡ false = sym h.puts.failed ∙ not_failed i c in
-      (f, put_at (i ∷ positions (opened plan n fed.trace b.turn)) f (rw c refl))
+      (f, puts_scheduled_at (i ∷ positions (opened plan n fed.trace b.turn)) f (rw c refl))
   is_next (next.Start i Cleanup) s c = (none_put c.0 s, sym h.cases.pending_is ∙ c.1)
   is_next (next.Start i Body) s c =
       let f : has_failed fed ≡ false = sym h.puts.failed ∙ c.2.0 in
@@ -108,7 +108,7 @@ module _ {plan : List Job} {n : ℕ} {fed : Fed} {b : SchedState} (h : Stands pl
       by stage x w = inr (w (λ e. absurd (cc (e))))
 
   -- If no case is active, none can be started and no put failed, then the turn is past all cases.
-  past : b.active ≡ 0 → IsHeld b → has_failed fed ≡ false → length (turns plan) ≤ b.turn
+  past : b.active ≡ 0 → HasNoTurn b → has_failed fed ≡ false → length (turns plan) ≤ b.turn
   past a (inl e) f = absurd (cc (h.puts.failed))
   past a (inr (inl e)) f = turn_past h e
   past a (inr (inr (inl e))) f = absurd (omega (arith, a, e, h.cases.width_is, h.cases.room))
@@ -130,13 +130,13 @@ module _ {plan : List Job} {n : ℕ} {fed : Fed} {b : SchedState} (h : Stands pl
   follows (next.Put i) s c = tt
   follows (next.Start i Body) s c =
       let u = upcoming h i c.0 s c.2 in
-      let e : history i fed.trace ≡ [] = ap (map mark_of) u.2 in
+      let e : history i fed.trace ≡ [] = ap (map kind_of_event) u.2 in
       (record { job = u.0.job; place = u.0.place; unfinished = ap (is_whole u.0.job) e ∙ ap is_some u.3; exclusive = exclusive_body h i c.2.1 c.2.3 }, e)
   follows (next.Start i Cleanup) s c =
       let w = owes h i c.1 in
       let l = located h i w.0 (Owing w.1) w.2 in (
         record { job = l.job; place = l.place; unfinished = l.says.whole; exclusive = exclusive_cleanup h i (sym h.cases.pending_is ∙ c.1) },
-        ap (map mark_of) l.stands.1 ∙ ap (λ (r : Role). BodyStarted ∷ end_mark r ∷ []) l.stands.2,
+        ap (map kind_of_event) l.stands.1 ∙ ap (λ (r : Role). BodyStarted ∷ end_kind r ∷ []) l.stands.2,
       )
   follows next.Wait s c =
       let x = something_runs h c.1 c.2 in

@@ -19,15 +19,15 @@ pub use Rattle.kt_sched.specs.Types.{Answer, Body, CaseRecord, Cleaning, Cleanup
 pub use Rattle.kt_sched.specs.Common.{Case, IsPlan, Job, Next, Role}
 pub use Rattle.kt_sched.specs.Children.{Child, IsEvidence, IsIdle, MayStart, child_of, pending_after_end, pending_after_start, running_after_end, running_after_start, same_role, with_cleanup_declared}
 pub use Rattle.kt_sched.specs.EntryOf.{AreEntries, Gains, IsEntry, IsEntryOf, cleaned, decided, ended, no_output, refused, uncleaned}
-pub use Rattle.kt_sched.specs.Fed.{Fed, IsAnswerTo, has_failed, nothing_fed, role_runs, runs}
-pub use Rattle.kt_sched.specs.History.{BodyEnded, BodyRefused, BodyStarted, CleanupEnded, CleanupRefused, CleanupStarted, Mark, active, end_mark, has_whole_history, history, is_active, is_body_started, is_whole, mark_of}
-pub use Rattle.kt_sched.specs.Inner.Answers.{CanCount, after_put, counted}
-pub use Rattle.kt_sched.specs.Inner.Cases.{IsAfter, Replaced, TookEntry, can_start, first_case, first_stage, is_over, owing_at, positions_where, ready_at, record_of, stage_runs}
-pub use Rattle.kt_sched.specs.Inner.Choice.{IsChosen, IsHeld, IsTurn}
+pub use Rattle.kt_sched.specs.Fed.{Fed, IsAnswerTo, has_failed, no_responses, role_runs, runs}
+pub use Rattle.kt_sched.specs.History.{BodyEnded, BodyRefused, BodyStarted, CleanupEnded, CleanupRefused, CleanupStarted, EventKind, active, end_kind, has_whole_history, history, is_active, is_body_started, is_whole, kind_of_event}
+pub use Rattle.kt_sched.specs.Inner.Answers.{CanCount, responses_after_put, counted}
+pub use Rattle.kt_sched.specs.Inner.Cases.{IsAfter, Replaced, TakesEntry, can_start, first_case, first_stage, is_over, owing_at, positions_where, ready_at, record_of, stage_runs}
+pub use Rattle.kt_sched.specs.Inner.Choice.{IsChosen, HasNoTurn, IsTurn}
 pub use Rattle.kt_sched.specs.Next.{AreWhole, Follows, IsNext, IsUpToDate, MayBegin, MayStartNow, WereOpen}
-pub use Rattle.kt_sched.specs.RecordOrder.{Due, ahead, dues, finished_by, is_begun, is_open, put_at, recorded, was_open}
+pub use Rattle.kt_sched.specs.RecordOrder.{Due, ahead, dues, finished_by, is_begun, is_open, puts_scheduled_at, recorded, was_open}
 pub use Rattle.kt_sched.specs.Run.{Counts, FailedPut, FitsAt, NamesEachOnce, Ran}
-pub use Rattle.kt_sched.specs.SchedState.{AreGone, CanLend, CaseStands, CasesStand, HasDecided, HasExclusive, HasRecord, HasTurn, Implies, IsAsked, IsSettled, IsStage, IsStanding, PutsStand, SchedState, Stands, Takes, TurnStands, decided_record, ended_body, entry_with, is_active_stage, is_decided, is_decided_stage, is_fresh, is_owed, is_owing_stage, is_undecided, opened, positions, record_in, stage_work, work}
-pub use Rattle.kt_sched.specs.ScheduleRules.{ExclusiveAt, IsExclusiveAtStart, BusyAt, Each, IsBusy, IsQuiet, Order, PromptAt, WidthAt, declares, owed}
+pub use Rattle.kt_sched.specs.SchedState.{HaveBeenOpen, CanLend, RepresentsCase, RepresentCases, HasDecided, HasExclusive, HasRecord, HasTurn, Implies, IsAsked, IsSettled, IsStage, IsReachable, RepresentPuts, SchedState, Stands, RecordsEvent, RepresentsTurn, decided_record, ended_body, entry_with, is_active_stage, is_decided, is_decided_stage, is_waiting_stage, is_owed, is_owing_stage, is_undecided, opened, positions, record_in, stage_work, work}
+pub use Rattle.kt_sched.specs.ScheduleRules.{KeepsExclusive, IsExclusiveAtStart, WaitsWhenBusy, Each, IsBusy, IsQuiet, Order, StartsOwedCleanup, KeepsWidth, declares, owed}
 pub use Rattle.kt_sched.specs.Trace.{End, Event, HasMoment, Leads, NoEvent, Start, Then, Trace, event_count, first, of, position_of}
 pub use Rattle.kt_sched.specs.TurnOrder.{body_start_of, body_starts, next_to_start, turns, undecided_turns}

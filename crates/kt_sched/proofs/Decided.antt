@@ -1,5 +1,5 @@
 -- Decided cases: those open from a turn on, and those that an event opens.
-use Rattle.kt_sched.proofs.Common.{ne_eqb, slice_get, filter, take, drop, Some, not, nat_lt, ◌==◌, ◌&&◌, ◌||◌, if◌then◌else◌, ◌≡◌, ◌≢◌, ℕ, zero, suc, ◌+◌, ◌-◌, ◌<◌, ◌≤◌, ◌⊎◌, Bool, true, false, List, [], ◌∷◌, refl, sym, ◌∙◌, ap, arith, inl, inr, and-true, or-false, and_from, and_parts, list_all, list_any, nat_tests, take-append-drop, filter-append, cases_eq, cases_lt, Job, Event, Trace, Then, active, turns, body_starts, is_open, was_open, is_begun, ahead, IsPlan, AreGone, opened, positions, is_decided, is_undecided}
+use Rattle.kt_sched.proofs.Common.{ne_eqb, slice_get, filter, take, drop, Some, not, nat_lt, ◌==◌, ◌&&◌, ◌||◌, if◌then◌else◌, ◌≡◌, ◌≢◌, ℕ, zero, suc, ◌+◌, ◌-◌, ◌<◌, ◌≤◌, ◌⊎◌, Bool, true, false, List, [], ◌∷◌, refl, sym, ◌∙◌, ap, arith, inl, inr, and-true, or-false, and_from, and_parts, list_all, list_any, nat_tests, take-append-drop, filter-append, cases_eq, cases_lt, Job, Event, Trace, Then, active, turns, body_starts, is_open, was_open, is_begun, ahead, IsPlan, HaveBeenOpen, opened, positions, is_decided, is_undecided}
 use Rattle.kt_sched.proofs.Lists.{any_none, filter_alike, filter_in, filter_none, get_drop, get_take, list_all_at, list_all_from, mapped_at, none_passes, take_within}
 use Rattle.kt_sched.proofs.Turns.{opens_now, turn_distinct, turn_sorted}
 use Rattle.std.proofs.lemmas.Option.{same_Some}
@@ -86,7 +86,7 @@ abbrev pub GoesOver : List Job → ℕ → ℕ → Type 0
 GoesOver plan p q = (p ≤ q) × ((k : ℕ) (job : Job) → p ≤ k → k < q → slice_get (turns plan) k ≡ Some job → is_decided job ≡ false)
 
 -- One more event, at a time when no decided case could be put.
-module _ {plan : List Job} {n : ℕ} {T : Trace} (e : Event) {p q : ℕ} (over : GoesOver plan p q) (gone : AreGone plan n T p)
+module _ {plan : List Job} {n : ℕ} {T : Trace} (e : Event) {p q : ℕ} (over : GoesOver plan p q) (gone : HaveBeenOpen plan n T p)
     (none : opened plan n T p ≡ []) where
   closed_before : (k : ℕ) (job : Job) → p ≤ k → slice_get (turns plan) k ≡ Some job → was_open plan n T job ≡ false
   closed_before k job l g =
@@ -113,7 +113,7 @@ module _ {plan : List Job} {n : ℕ} {T : Trace} (e : Event) {p q : ℕ} (over :
       ap (filter f) (sym (take-append-drop q xs)) ∙ (filter-append f (take q xs) (drop q xs) ∙ (rw none alike))
 
   -- After the event, each decided case before the turn was open.
-  pub gone_after : AreGone plan n (Then T e) q
+  pub gone_after : HaveBeenOpen plan n (Then T e) q
   gone_after = record {
     gone = λ k job l g d. rw (passed k job l g d) refl;
     due = λ k job l g. rw (closed_before k job (omega (arith, l, over.0)) g) refl;

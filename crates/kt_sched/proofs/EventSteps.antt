@@ -1,6 +1,6 @@
 -- The state after an event represents the responses with that event.
 use Rattle.kt_sched.specs.declared.next.Next.TheVariants as next
-use Rattle.kt_sched.proofs.Common.{ne_eqb, Taken, filter, slice_get, count_by, Option, Some, None, ◌≡◌, ◌≢◌, ℕ, ◌+◌, ◌<◌, ◌≤◌, ◌⊎◌, true, false, cond, List, [], ◌∷◌, ◌++◌, length, drop, take, is_none, is_some, refl, sym, ◌∙◌, ap, subst, arith, slice_set, inl, inr, length-append, append-nil, drop-append-le, length-set, map-append, slice_get_within, cases_lt, cases_eq, Job, Stage, Finished, Case, Event, Then, position_of, of, turns, body_starts, body_start_of, recorded, Fed, has_failed, SchedState, Stands, CasesStand, TurnStands, PutsStand, IsStage, IsAfter, Replaced, IsSettled, HasTurn, is_active_stage, is_owing_stage, is_over, Owing, is_owed, is_fresh, is_undecided, HasRecord, owing_at, ready_at, record_in, positions, opened, stage_work, work, Trace, option_to_list}
+use Rattle.kt_sched.proofs.Common.{ne_eqb, Taken, filter, slice_get, count_by, Option, Some, None, ◌≡◌, ◌≢◌, ℕ, ◌+◌, ◌<◌, ◌≤◌, ◌⊎◌, true, false, cond, List, [], ◌∷◌, ◌++◌, length, drop, take, is_none, is_some, refl, sym, ◌∙◌, ap, subst, arith, slice_set, inl, inr, length-append, append-nil, drop-append-le, length-set, map-append, slice_get_within, cases_lt, cases_eq, Job, Stage, Finished, Case, Event, Then, position_of, of, turns, body_starts, body_start_of, recorded, Fed, has_failed, SchedState, Stands, RepresentCases, RepresentsTurn, RepresentPuts, IsStage, IsAfter, Replaced, IsSettled, HasTurn, is_active_stage, is_owing_stage, is_over, Owing, is_owed, is_waiting_stage, is_undecided, HasRecord, owing_at, ready_at, record_in, positions, opened, stage_work, work, Trace, option_to_list}
 use Rattle.kt_sched.proofs.Lists.{cond_le, cond_one, cond_zero, pick, count_by-set, counted_one, sum_by-set, take_filter}
 use Rattle.kt_sched.proofs.Turns.{of_same, of_other, opens_now, recorded_more, finished_is}
 use Rattle.kt_sched.proofs.Stages.{fresh_inactive, says, undecided_stage, Moves, moves, owed_moves, stage_moves}
@@ -91,7 +91,7 @@ module _ {plan : List Job} {n : ℕ} {fed : Fed} {b : SchedState} {e : Event} {c
   counted = omega (arith, count_by-set (λ (c : Case). is_active_stage c.stage) b.cases i _ new s.moved.found, s.active, h.cases.active)
 
   -- A case that waited adds 1 to the number of active cases if it is active now.
-  begun_now : is_fresh was ≡ true → a ≡ b.active + cond (is_active_stage now) 1 0
+  begun_now : is_waiting_stage was ≡ true → a ≡ b.active + cond (is_active_stage now) 1 0
   begun_now f = omega (arith, s.active, cond_zero (is_active_stage was) (fresh_inactive was f))
 
   no_more : is_active_stage was ≡ true → a ≤ b.active
@@ -125,7 +125,7 @@ module _ {plan : List Job} {n : ℕ} {fed : Fed} {b : SchedState} {e : Event} {c
   owed_within k q (inl w) = omega (arith, w, length-set b.cases i new, slice_get_within b.cases i _ s.moved.found)
   owed_within k q (inr d) = absurd (cc (owing_by now i k d, ap (λ (o : Option ℕ). is_owed o k) q, same_number k))
 
-  cases_step : CasesStand plan n (Then fed.trace e) later a b.width (owing_at now i)
+  cases_step : RepresentCases plan n (Then fed.trace e) later a b.width (owing_at now i)
   cases_step = record {
     is_plan = h.cases.is_plan;
     room = h.cases.room;
@@ -182,7 +182,7 @@ module _ {plan : List Job} {n : ℕ} {fed : Fed} {b : SchedState} {e : Event} {c
         })
   ]
 
-  turn_step : TurnStands plan (Then fed.trace e) later b.order t
+  turn_step : RepresentsTurn plan (Then fed.trace e) later b.order t
   turn_step = record {
     walk = h.turn.walk;
     within = turning.within;
@@ -190,7 +190,7 @@ module _ {plan : List Job} {n : ℕ} {fed : Fed} {b : SchedState} {e : Event} {c
     met = λ k l c g q. elim (one_of l c q) [
       | inl w ↦ (
         λ x. absurd (omega (arith, x, turning.here k (g ∙ ap Some w.0))),
-        λ x z. absurd (cc (ap (λ (d : Case). is_fresh d.stage) w.1, m.begins, ap is_fresh z)),
+        λ x z. absurd (cc (ap (λ (d : Case). is_waiting_stage d.stage) w.1, m.begins, ap is_waiting_stage z)),
       )
       | inr w ↦ let u = h.turn.met k l c g w.1 in (λ x. u.0 (omega (arith, x, turning.over.0)), λ x. u.1 (turning.before k l g w.0 x))
     ];
@@ -214,7 +214,7 @@ module _ {plan : List Job} {n : ℕ} {fed : Fed} {b : SchedState} {e : Event} {c
   has_record : (k : ℕ) → k ≡ i → (x : _) × (now ≡ Finished x) → HasRecord later k
   has_record k q x = (new, x.0, ap (slice_get later) q ∙ found, ap (record_in s.moved.job) x.1)
 
-  puts_step : PutsStand plan n (record fed { trace = Then fed.trace e }) b.order t (ready_at now b.failed i) b.failed
+  puts_step : RepresentPuts plan n (record fed { trace = Then fed.trace e }) b.order t (ready_at now b.failed i) b.failed
   puts_step = record {
     failed = h.puts.failed;
     stopped = λ f. grind (arith, f);

@@ -1,5 +1,5 @@
 -- The exits of a run.
-use Rattle.kt_sched.proofs.Common.{Result, Option, Some, None, is_some, Ok, Err, ◌≡◌, ℕ, List, [], refl, append-nil, take, sym, ◌∙◌, ap, subst, arith, Job, SinkFault, Totals, Implies, IsPlan, AreEntries, Each, BusyAt, Trace, recorded, body_starts, Fed, IsNext, Follows, Ran, NoEvent, SchedState}
+use Rattle.kt_sched.proofs.Common.{Result, Option, Some, None, is_some, Ok, Err, ◌≡◌, ℕ, List, [], refl, append-nil, take, sym, ◌∙◌, ap, subst, arith, Job, SinkFault, Totals, Implies, IsPlan, AreEntries, Each, WaitsWhenBusy, Trace, recorded, body_starts, Fed, IsNext, Follows, Ran, NoEvent, SchedState}
 use Rattle.kt_sched.specs.Run.{EndsAs}
 use Rattle.kt_sched.specs.Types.{NoMemory, RunFault, SinkFailed}
 use Rattle.kt_base.specs.declared.no_memory.NoMemory.{NoMemory as Refusal}
@@ -72,7 +72,7 @@ module _ {L S : Type 0} {l : launcher.Ghosts L} {s : sink.Ghosts S} {plan : List
           width = each_of T (λ U e y. y.width) k.going.rules;
           exclusive = each_of T (λ U e y. y.exclusive) k.going.rules;
           prompt = each_of T (λ U e y. y.prompt) k.going.rules;
-          busy = subst (λ (y : Option ℕ). Each (BusyAt plan n) (up_to y T)) g.gains.0 k.until.busy;
+          busy = subst (λ (y : Option ℕ). Each (WaitsWhenBusy plan n) (up_to y T)) g.gains.0 k.until.busy;
         };
         once = once;
         all = omega (arith, g.count, k.stands.puts.stored, stored, once.all);
@@ -93,6 +93,6 @@ module _ {L S : Type 0} {l : launcher.Ghosts L} {s : sink.Ghosts S} {plan : List
           width = each_of T (λ U e y. y.width) k.going.rules;
           exclusive = each_of T (λ U e y. y.exclusive) k.going.rules;
           prompt = each_of T (λ U e y. y.prompt) k.going.rules;
-          busy = subst (λ (y : Option ℕ). Each (BusyAt plan n) (up_to y T)) g.gains.1 k.until.busy;
+          busy = subst (λ (y : Option ℕ). Each (WaitsWhenBusy plan n) (up_to y T)) g.gains.1 k.until.busy;
         };
       })

@@ -2,7 +2,7 @@
 use Rattle.kt_base.specs.Kinds.{good as is_good}
 use Rattle.kt_sched.specs.declared.sink.Sink as sink
 use Rattle.kt_sched.specs.EntryOf as recorded
-use Rattle.kt_sched.proofs.Common.{slice_get, filter, Option, Some, None, map, Result, Ok, is_some, not, ◌≡◌, ◌≢◌, ℕ, ◌≤◌, ◌⊎◌, false, List, [], ◌∷◌, ◌++◌, length, take, refl, sym, ◌∙◌, ap, subst, arith, length-append, inl, inr, length-map, map-append, take-append-le, cases_eq, slice_get_within, Entry, Job, SinkFault, Totals, Event, Trace, Then, position_of, event_count, mark_of, history, is_whole, turns, Due, dues, put_at, finished_by, recorded, IsEntry, Gains, IsEntryOf, AreEntries, IsPlan, Fed, has_failed, IsUpToDate, counted, FailedPut, Counts, if◌then◌else◌, true, cases_lt, of, Mark, BodyStarted, BodyRefused, BodyEnded, CleanupStarted, CleanupRefused, CleanupEnded, has_whole_history, AreWhole, WereOpen, NamesEachOnce, list_all, ◌==◌, Bool, ⊤, Start, End, NoEvent, Each, IsMoment, IsStorable, HasMoment, FitsAt}
+use Rattle.kt_sched.proofs.Common.{slice_get, filter, Option, Some, None, map, Result, Ok, is_some, not, ◌≡◌, ◌≢◌, ℕ, ◌≤◌, ◌⊎◌, false, List, [], ◌∷◌, ◌++◌, length, take, refl, sym, ◌∙◌, ap, subst, arith, length-append, inl, inr, length-map, map-append, take-append-le, cases_eq, slice_get_within, Entry, Job, SinkFault, Totals, Event, Trace, Then, position_of, event_count, kind_of_event, history, is_whole, turns, Due, dues, puts_scheduled_at, finished_by, recorded, IsEntry, Gains, IsEntryOf, AreEntries, IsPlan, Fed, has_failed, IsUpToDate, counted, FailedPut, Counts, if◌then◌else◌, true, cases_lt, of, EventKind, BodyStarted, BodyRefused, BodyEnded, CleanupStarted, CleanupRefused, CleanupEnded, has_whole_history, AreWhole, WereOpen, NamesEachOnce, list_all, ◌==◌, Bool, ⊤, Start, End, NoEvent, Each, IsMoment, IsStorable, HasMoment, FitsAt}
 use Rattle.kt_sched.proofs.Lists.{in_append, append_left, count-cons, count_by-append, mapped_at, none_past, list_all_at, within_some}
 use Rattle.kt_sched.proofs.Turns.{of_other, opens_now}
 use Rattle.kt_sched.proofs.Once.{NotWhole, Recorded, recorded_event, is_done, names_once}
@@ -32,12 +32,12 @@ abbrev due_of : ℕ → Job → Due
 due_of k job = record { position = job.position; after = k }
 
 -- The puts that are scheduled after `k` events carry the number `k`.
-pub due_put : (k : ℕ) (jobs : List Job) (j : ℕ) (p : Due) → slice_get (put_at k jobs) j ≡ Some p → p.after ≡ k
+pub due_put : (k : ℕ) (jobs : List Job) (j : ℕ) (p : Due) → slice_get (puts_scheduled_at k jobs) j ≡ Some p → p.after ≡ k
 due_put k jobs j p g = ap (λ (q : Due). q.after) (sym (mapped_at (due_of k) jobs j p g).2)
 
 -- `added plan n T e`: the puts that the event `e` schedules.
 abbrev added : List Job → ℕ → Trace → Event → List Due
-added plan n T e = put_at (event_count (Then T e)) (finished_by plan T e) ++ put_at (event_count (Then T e)) (filter (opens_now plan n T e) (turns plan))
+added plan n T e = puts_scheduled_at (event_count (Then T e)) (finished_by plan T e) ++ puts_scheduled_at (event_count (Then T e)) (filter (opens_now plan n T e) (turns plan))
 
 -- Lemmas for an event `e` of a case whose history isn't whole.
 module _ (plan : List Job) (T : Trace) (e : Event) (h : NotWhole plan T (position_of e)) where
@@ -48,7 +48,7 @@ module _ (plan : List Job) (T : Trace) (e : Event) (h : NotWhole plan T (positio
       record {
         job = w.job;
         place = w.place;
-        whole = ap (λ (es : List Event). is_whole w.job (map mark_of es)) o ∙ w.whole;
+        whole = ap (λ (es : List Event). is_whole w.job (map kind_of_event es)) o ∙ w.whole;
         entry_is = subst (λ (es : List Event). IsEntry w.job es x) (sym o) w.entry_is;
       }
 
@@ -130,7 +130,7 @@ module _ {S : Type 0} {s : sink.Ghosts S} {plan : List Job} {n : ℕ} {fed : Fed
           } in
           (one, w.1)
 
-whole_short : (job : Job) (w : List Mark) → is_whole job w ≡ true → length w ≤ 4
+whole_short : (job : Job) (w : List EventKind) → is_whole job w ≡ true → length w ≤ 4
 whole_short job [] e = omega arith
 whole_short job (BodyRefused ∷ []) e = omega arith
 whole_short job (BodyStarted ∷ BodyEnded ∷ []) e = omega arith
@@ -147,7 +147,7 @@ four_calls plan T p h b i = elim (cases_lt i (length plan)) [
         | inl e ↦ omega (arith, ap (λ (es : List Event). length es) e)
         | inr e ↦
             let whole = ap (λ k. is_whole w.0 (history k T)) (sym (p.placed i w.0 w.1)) ∙ e in
-            omega (arith, whole_short w.0 (history i T) whole, length-map (of i T) mark_of)
+            omega (arith, whole_short w.0 (history i T) whole, length-map (of i T) kind_of_event)
       ]
   | inr l ↦ omega (arith, ap (λ (es : List Event). length es) (b i l))
 ]

@@ -1,5 +1,5 @@
 -- The facts that a state implies for one case.
-use Rattle.kt_sched.proofs.Common.{Bool, is_fresh, is_decided_stage, HasExclusive, HasDecided, slice_get, Option, Some, None, map, ◌≡◌, ◌≢◌, ℕ, ◌<◌, ◌⊎◌, true, false, List, [], length, refl, sym, ◌∙◌, ap, subst, arith, slice_set, inl, inr, false_from_ne_true, cases_eq, cases_lt, length-map, ◌≤◌, slice_get-map, slice_get_read, slice_get_within, get_or, Role, Body, Cleanup, Job, Next, Stage, Owing, Taken, EndedBody, Case, Event, Trace, of, mark_of, history, is_active, active, turns, Fed, role_runs, runs, stage_runs, SchedState, Stands, CaseStands, IsStage, IsAsked, is_active_stage, is_owing_stage, is_owed}
+use Rattle.kt_sched.proofs.Common.{Bool, is_waiting_stage, is_decided_stage, HasExclusive, HasDecided, slice_get, Option, Some, None, map, ◌≡◌, ◌≢◌, ℕ, ◌<◌, ◌⊎◌, true, false, List, [], length, refl, sym, ◌∙◌, ap, subst, arith, slice_set, inl, inr, false_from_ne_true, cases_eq, cases_lt, length-map, ◌≤◌, slice_get-map, slice_get_read, slice_get_within, get_or, Role, Body, Cleanup, Job, Next, Stage, Owing, Taken, EndedBody, Case, Event, Trace, of, kind_of_event, history, is_active, active, turns, Fed, role_runs, runs, stage_runs, SchedState, Stands, RepresentsCase, IsStage, IsAsked, is_active_stage, is_owing_stage, is_owed}
 use Rattle.kt_sched.specs.declared.next.Next.TheVariants as next
 use Rattle.kt_sched.proofs.Lists.{within_some, mapped_at, slice_get-set_other, slice_get-set_same, counted_some, counted_one, counted_none, count_alike}
 use Rattle.kt_sched.proofs.Turns.{turn_inside, turn_distinct}
@@ -17,7 +17,7 @@ pub record AtTurn (plan : List Job) (fed : Fed) (b : SchedState) (i : ℕ) : Typ
   pub case : Case
   pub found : slice_get b.cases i ≡ Some case
   pub stage : IsStage i job case.stage (of i fed.trace)
-  pub fresh : is_fresh case.stage ≡ true
+  pub fresh : is_waiting_stage case.stage ≡ true
   pub kept : case.job ≡ job
 
 -- `Located plan T i was had`: case `i` is in the plan, and its stage `was` represents its events in
@@ -43,13 +43,13 @@ module _ (xs : List Case) (i : ℕ) (old new : Case) (g : slice_get xs i ≡ Som
   -- After the replacement each case represents its events, if the new case does.
   pub each_set : (plan : List Job) (T U : Trace) (job : Job) → slice_get plan i ≡ Some job → IsStage i job new.stage (of i U)
       → (new.stage ≢ Taken → new.job ≡ job)
-      → ((k : ℕ) → k ≢ i → of k U ≡ of k T) → ((k : ℕ) (j : Job) → slice_get plan k ≡ Some j → CaseStands T k j xs)
-      → (k : ℕ) (j : Job) → slice_get plan k ≡ Some j → CaseStands U k j (slice_set xs i new)
+      → ((k : ℕ) → k ≢ i → of k U ≡ of k T) → ((k : ℕ) (j : Job) → slice_get plan k ≡ Some j → RepresentsCase T k j xs)
+      → (k : ℕ) (j : Job) → slice_get plan k ≡ Some j → RepresentsCase U k j (slice_set xs i new)
   each_set plan T U job p s m o h k j x = elim (cases_eq k i) [
     | inl q ↦
         let same : job ≡ j = same_Some job j (sym p ∙ (ap (slice_get plan) (sym q) ∙ x)) in
-        let here : CaseStands U i job (slice_set xs i new) = record { case = new; found = set_here; stage = s; kept = m } in
-        subst (λ k. CaseStands U k j (slice_set xs i new)) (sym q) (subst (λ (y : Job). CaseStands U i y (slice_set xs i new)) same here)
+        let here : RepresentsCase U i job (slice_set xs i new) = record { case = new; found = set_here; stage = s; kept = m } in
+        subst (λ k. RepresentsCase U k j (slice_set xs i new)) (sym q) (subst (λ (y : Job). RepresentsCase U i y (slice_set xs i new)) same here)
     | inr d ↦
         let w = h k j x in
         let s = subst (IsStage k j w.case.stage) (sym (o k d)) w.stage in
@@ -143,7 +143,7 @@ module _ {plan : List Job} {n : ℕ} {fed : Fed} {b : SchedState} (h : Stands pl
         found = w.found;
         stage = w.stage;
         fresh = f;
-        kept = w.kept (λ x. absurd (cc (f, ap is_fresh x)));
+        kept = w.kept (λ x. absurd (cc (f, ap is_waiting_stage x)));
       }
 
   -- The step asked fits the state.
@@ -174,7 +174,7 @@ module _ {plan : List Job} {n : ℕ} {fed : Fed} {b : SchedState} (h : Stands pl
         let j = within_some plan i g in
         let w = h.cases.each i j.0 j.1 in
         (w.case, w.found, sym ((says i j.0 w.case.stage (of i fed.trace) w.stage).runs r) ∙ e)
-    | inr g ↦ absurd (cc (ap (λ (es : List Event). role_runs r (map mark_of es)) (h.cases.beyond i g) ∙ empty_quiet r, e))
+    | inr g ↦ absurd (cc (ap (λ (es : List Event). role_runs r (map kind_of_event es)) (h.cases.beyond i g) ∙ empty_quiet r, e))
   ]
     where
       empty_quiet : (role : Role) → role_runs role [] ≡ false

@@ -1,6 +1,6 @@
 -- The run loop: its invariant, and how each response keeps it.
 use Rattle.kt_base.specs.Kinds.{good as is_good}
-use Rattle.kt_sched.proofs.Common.{Bool, option_map, Option, Some, None, is_some, not, Ok, Err, ◌^◌, ◌≡◌, ◌<◌, ℕ, ◌+◌, ◌-◌, true, false, if◌then◌else◌, ◌==◌, List, [], ◌∷◌, ◌++◌, refl, append-nil, append_assoc, length-append, count_by-le-length, false_from_ne_true, filter, take, length, slice_get, slice_get_within, sym, ◌∙◌, ap, subst, arith, Role, Body, Cleanup, Entry, Job, StartAnswer, Ended, SinkFault, Totals, Child, IsEvidence, IsIdle, IsMoment, HasMoment, MayStart, IsPlan, IsEntryOf, AreEntries, IsStorable, Start, End, Each, FitsAt, Trace, event_count, owed, is_owed, history, is_whole, runs, turns, recorded, Due, dues, is_open, running_after_start, running_after_end, pending_after_start, pending_after_end, child_of, CanCount, counted, FailedPut, Fed, after_put, nothing_fed, IsNext, Follows, NoEvent, Case, Implies, SchedState, Stands, Takes, stage_runs, Then}
+use Rattle.kt_sched.proofs.Common.{Bool, option_map, Option, Some, None, is_some, not, Ok, Err, ◌^◌, ◌≡◌, ◌<◌, ℕ, ◌+◌, ◌-◌, true, false, if◌then◌else◌, ◌==◌, List, [], ◌∷◌, ◌++◌, refl, append-nil, append_assoc, length-append, count_by-le-length, false_from_ne_true, filter, take, length, slice_get, slice_get_within, sym, ◌∙◌, ap, subst, arith, Role, Body, Cleanup, Entry, Job, StartAnswer, Ended, SinkFault, Totals, Child, IsEvidence, IsIdle, IsMoment, HasMoment, MayStart, IsPlan, IsEntryOf, AreEntries, IsStorable, Start, End, Each, FitsAt, Trace, event_count, owed, is_owed, history, is_whole, runs, turns, recorded, Due, dues, is_open, running_after_start, running_after_end, pending_after_start, pending_after_end, child_of, CanCount, counted, FailedPut, Fed, responses_after_put, no_responses, IsNext, Follows, NoEvent, Case, Implies, SchedState, Stands, RecordsEvent, stage_runs, Then}
 use Rattle.kt_sched.specs.declared.next.Next.TheVariants as next
 use Rattle.kt_sched.specs.declared.launcher.Launcher as launcher
 use Rattle.kt_sched.specs.declared.sink.Sink as sink
@@ -26,10 +26,10 @@ pub record Loop {L S : Type 0} (l : launcher.Ghosts L) (s : sink.Ghosts S) (plan
   pub asked : sched.asked ≡ next.Done
 
 module _ {L S : Type 0} (l : launcher.Ghosts L) (s : sink.Ghosts S) (plan : List Job) (n : ℕ) (old : L) (before : S) where
-  pub loop_first : (sched : SchedState) (totals : Totals) → Stands plan n nothing_fed sched → sched.asked ≡ next.Done → IsIdle (l.running old) (l.pending old)
+  pub loop_first : (sched : SchedState) (totals : Totals) → Stands plan n no_responses sched → sched.asked ≡ next.Done → IsIdle (l.running old) (l.pending old)
       → totals ≡ record { total = 0; good = 0; bad = 0 } → Loop l s plan n old before sched old before totals None
   loop_first sched totals h a i t = record {
-    fed = nothing_fed;
+    fed = no_responses;
     stands = h;
     going = record { leads = refl; runs = none_runs; owes = i.pends; rules = tt };
     until = record { busy = tt; begun = refl; passed = tt };
@@ -100,7 +100,7 @@ module _ {L S : Type 0} {l : launcher.Ghosts L} {s : sink.Ghosts S} {plan : List
 
     pub loop_start : (a : StartAnswer) (new : L) (later : SchedState) → l.starts mid job role a new → HasMoment a
         → ((k : ℕ) (r : Role) → l.running new k r ≡ running_after_start (l.running mid) job role a k r)
-        → ((k : ℕ) → l.pending new k ≡ pending_after_start (l.pending mid) job.position role k) → Takes b (Start i role a) later
+        → ((k : ℕ) → l.pending new k ≡ pending_after_start (l.pending mid) job.position role k) → RecordsEvent b (Start i role a) later
         → Loop l s plan n old before later new after totals fault
     loop_start a new later w m u v z = record {
       fed = record fed { trace = Then fed.trace (Start i role a) };
@@ -137,7 +137,7 @@ module _ {L S : Type 0} {l : launcher.Ghosts L} {s : sink.Ghosts S} {plan : List
     pub loop_end : (new : L) (later : SchedState) → Implies sched (λ plan n fed. IsNext plan n fed next.Wait) → l.waits mid e new → IsMoment e.moment
         → ((k : ℕ) (r : Role) → l.running new k r ≡ running_after_end (l.running mid) e k r)
         → ((k : ℕ) → l.pending new k ≡ pending_after_end (l.running mid) (l.pending mid) e k)
-        → Takes b (End e) later → Loop l s plan n old before later new after totals fault
+        → RecordsEvent b (End e) later → Loop l s plan n old before later new after totals fault
     loop_end new later wait v m u o z = let ran = while_runs e.role (history e.position T) one.0 in let x = wait plan n fed k.stands in record {
       fed = record fed { trace = Then fed.trace (End e) };
       stands = z.stands plan n fed (y plan n fed k.stands);
@@ -182,9 +182,9 @@ module _ {L S : Type 0} {l : launcher.Ghosts L} {s : sink.Ghosts S} {plan : List
 
         pub loop_put : (more : Totals) → more ≡ counted totals e.verdict.kind → s.puts after e (Ok tt) new
             → ((put : List Entry) → s.entries after put → s.entries new (put ++ e ∷ []))
-            → Implies c (λ plan n fed. Stands plan n (after_put fed false) later) → Loop l s plan n old before later mid new more fault
+            → Implies c (λ plan n fed. Stands plan n (responses_after_put fed false) later) → Loop l s plan n old before later mid new more fault
         loop_put more m u o z = let g = k.gained in record {
-          fed = after_put fed false;
+          fed = responses_after_put fed false;
           stands = z plan n fed now;
           going = k.going;
           until = k.until;
@@ -208,10 +208,10 @@ module _ {L S : Type 0} {l : launcher.Ghosts L} {s : sink.Ghosts S} {plan : List
 
         -- The invariant holds after a put that failed.
         pub loop_failed : (cause : SinkFault) → s.puts after e (Err cause) new → ((put : List Entry) → s.entries after put → s.entries new put)
-            → Implies c (λ plan n fed. Stands plan n (after_put fed true) later)
+            → Implies c (λ plan n fed. Stands plan n (responses_after_put fed true) later)
             → Loop l s plan n old before later mid new totals (Some cause)
         loop_failed cause u o z = let g = k.gained in record {
-          fed = after_put fed true;
+          fed = responses_after_put fed true;
           stands = z plan n fed now;
           going = k.going;
           until = until_now plan n fed.stopped T x.0 k.until;

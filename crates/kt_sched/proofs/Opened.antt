@@ -1,5 +1,5 @@
 -- A decided case becomes ready, and the response to a put.
-use Rattle.kt_sched.proofs.Common.{◌==◌, ◌<◌, nat_lt, nat_tests, if◌then◌else◌, not, get_or, slice_get, Option, Some, None, filter, is_some, ◌≡◌, ℕ, ◌+◌, after_put, Bool, true, false, List, ◌∷◌, refl, sym, ◌∙◌, ap, subst, arith, inl, inr, append-nil, cases_eq, Judged, Job, Stage, Decided, Case, CaseRecord, of, active, turns, is_open, Fed, has_failed, SchedState, Stands, IsStage, HasRecord, HasTurn, AreGone, is_decided, is_undecided, decided_record, record_in, positions, opened, slice_get_within, ◌≤◌, ◌++◌, length, drop, recorded, option_to_list, option_map}
+use Rattle.kt_sched.proofs.Common.{◌==◌, ◌<◌, nat_lt, nat_tests, if◌then◌else◌, not, get_or, slice_get, Option, Some, None, filter, is_some, ◌≡◌, ℕ, ◌+◌, responses_after_put, Bool, true, false, List, ◌∷◌, refl, sym, ◌∙◌, ap, subst, arith, inl, inr, append-nil, cases_eq, Judged, Job, Stage, Decided, Case, CaseRecord, of, active, turns, is_open, Fed, has_failed, SchedState, Stands, IsStage, HasRecord, HasTurn, HaveBeenOpen, is_decided, is_undecided, decided_record, record_in, positions, opened, slice_get_within, ◌≤◌, ◌++◌, length, drop, recorded, option_to_list, option_map}
 use Rattle.kt_sched.specs.declared.next.Next.TheVariants as next
 use Rattle.kt_sched.proofs.Lists.{slice_get-drop, drop_at, take_filter}
 use Rattle.kt_sched.proofs.Located.{AtTurn, has_turn, turn_found, active_is, one_place, asked_as}
@@ -34,7 +34,7 @@ module _ {plan : List Job} {n : ℕ} {fed : Fed} {b : SchedState} {i : ℕ} (h :
       let t = record_there a.job.decided ripe.1 in
       (a.case, t.0, a.found, ap (record_in a.case.job) ripe.0 ∙ (ap (λ (j : Job). option_map decided_record j.decided) a.kept ∙ t.1))
 
-  gone_now : has_failed fed ≡ false → AreGone plan n fed.trace (b.turn + 1)
+  gone_now : has_failed fed ≡ false → HaveBeenOpen plan n fed.trace (b.turn + 1)
   gone_now f = record {
     gone = λ k job l g d. elim (cases_eq k b.turn) [
       | inl e ↦
@@ -81,7 +81,7 @@ module _ {plan : List Job} {n : ℕ} {fed : Fed} {b : SchedState} {i : ℕ} (h :
 
 -- The state after the response to a put represents the responses with this response.
 pub put : {plan : List Job} {n : ℕ} {fed : Fed} {b : SchedState} → Stands plan n fed b → (i : ℕ) → b.asked ≡ next.Put i → (failed : Bool)
-    → Stands plan n (after_put fed failed) (record b { ready = None; asked = next.Done; failed = failed })
+    → Stands plan n (responses_after_put fed failed) (record b { ready = None; asked = next.Done; failed = failed })
 put h i q true = record {
   cases = h.cases;
   turn = h.turn;

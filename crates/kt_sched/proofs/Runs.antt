@@ -1,5 +1,5 @@
 -- The running children and the owed cleanups after a trace, and the rules that a trace keeps.
-use Rattle.kt_sched.proofs.Common.{is_some, IfSome, append-nil, ◌≤◌, arith, nat_tests, MayStart, HasMoment, NoEvent, Leads, first, event_count, body_starts, body_start_of, Each, WidthAt, ExclusiveAt, PromptAt, BusyAt, Fed, FitsAt, has_failed, IsUpToDate, MayStartNow, pending_after_start, slice_get, Option, Some, None, if◌then◌else◌, ◌&&◌, ◌≡◌, ◌≢◌, ℕ, ◌==◌, Bool, true, false, List, [], ◌∷◌, ◌++◌, refl, sym, ◌∙◌, ap, subst, option_map, Role, Body, Cleanup, Job, StartAnswer, Ended, Child, child_of, same_role, running_after_start, running_after_end, pending_after_end, with_cleanup_declared, Event, Start, End, Trace, Then, position_of, Mark, BodyStarted, BodyEnded, CleanupStarted, mark_of, end_mark, history, owed, declares, is_owed, role_runs, runs}
+use Rattle.kt_sched.proofs.Common.{is_some, IfSome, append-nil, ◌≤◌, arith, nat_tests, MayStart, HasMoment, NoEvent, Leads, first, event_count, body_starts, body_start_of, Each, KeepsWidth, KeepsExclusive, StartsOwedCleanup, WaitsWhenBusy, Fed, FitsAt, has_failed, IsUpToDate, MayStartNow, pending_after_start, slice_get, Option, Some, None, if◌then◌else◌, ◌&&◌, ◌≡◌, ◌≢◌, ℕ, ◌==◌, Bool, true, false, List, [], ◌∷◌, ◌++◌, refl, sym, ◌∙◌, ap, subst, option_map, Role, Body, Cleanup, Job, StartAnswer, Ended, Child, child_of, same_role, running_after_start, running_after_end, pending_after_end, with_cleanup_declared, Event, Start, End, Trace, Then, position_of, EventKind, BodyStarted, BodyEnded, CleanupStarted, kind_of_event, end_kind, history, owed, declares, is_owed, role_runs, runs}
 use Rattle.kt_sched.specs.declared.job.StartAnswer.TheVariants as start
 use Rattle.kt_sched.specs.declared.launcher.Launcher as launcher
 use Rattle.kt_sched.proofs.Turns.{history_same, history_other}
@@ -14,32 +14,32 @@ abbrev pub running_of : List Job → Trace → ℕ → Role → Option Child
 running_of plan T k r = if runs k r T then child_at plan k else None
 
 -- `history_before role`: the history of a case before the start of its child in the role `role`.
-abbrev pub history_before : Role → List Mark
+abbrev pub history_before : Role → List EventKind
 history_before Body = []
 history_before Cleanup = BodyStarted ∷ BodyEnded ∷ []
 
-abbrev pub history_while : Role → List Mark
+abbrev pub history_while : Role → List EventKind
 history_while Body = BodyStarted ∷ []
 history_while Cleanup = BodyStarted ∷ BodyEnded ∷ CleanupStarted ∷ []
 
-pub while_runs : (role : Role) (w : List Mark) → role_runs role w ≡ true → w ≡ history_while role
+pub while_runs : (role : Role) (w : List EventKind) → role_runs role w ≡ true → w ≡ history_while role
 while_runs Body (BodyStarted ∷ []) h = refl
 while_runs Cleanup (BodyStarted ∷ BodyEnded ∷ CleanupStarted ∷ []) h = refl
 while_runs role w h = absurd (cc)
 
 -- `runs_by plan i r w`: the child of case `i` that runs in the role `r` after the history `w`, if
 -- any.
-abbrev runs_by : List Job → ℕ → Role → List Mark → Option Child
+abbrev runs_by : List Job → ℕ → Role → List EventKind → Option Child
 runs_by plan i r w = if role_runs r w then child_at plan i else None
 
 runs_other : (plan : List Job) (T : Trace) (e : Event) (k : ℕ) (r : Role) → k ≢ position_of e → running_of plan (Then T e) k r ≡ running_of plan T k r
 runs_other plan T e k r d = ap (runs_by plan k r) (history_other (position_of e) k T e refl d)
 
-runs_same : (plan : List Job) (T : Trace) (e : Event) (r : Role) (w : List Mark) → history (position_of e) T ≡ w
-    → running_of plan (Then T e) (position_of e) r ≡ runs_by plan (position_of e) r (w ++ mark_of e ∷ [])
-runs_same plan T e r w d = ap (runs_by plan (position_of e) r) (history_same (position_of e) T e refl ∙ ap (λ (v : List Mark). v ++ mark_of e ∷ []) d)
+runs_same : (plan : List Job) (T : Trace) (e : Event) (r : Role) (w : List EventKind) → history (position_of e) T ≡ w
+    → running_of plan (Then T e) (position_of e) r ≡ runs_by plan (position_of e) r (w ++ kind_of_event e ∷ [])
+runs_same plan T e r w d = ap (runs_by plan (position_of e) r) (history_same (position_of e) T e refl ∙ ap (λ (v : List EventKind). v ++ kind_of_event e ∷ []) d)
 
-pub runs_now : (plan : List Job) (T : Trace) (i : ℕ) (r : Role) (w : List Mark) → history i T ≡ w → running_of plan T i r ≡ runs_by plan i r w
+pub runs_now : (plan : List Job) (T : Trace) (i : ℕ) (r : Role) (w : List EventKind) → history i T ≡ w → running_of plan T i r ≡ runs_by plan i r w
 runs_now plan T i r w d = ap (runs_by plan i r) d
 
 -- A launcher that shows as running what runs by the trace.
@@ -58,7 +58,7 @@ module _ (plan : List Job) (T : Trace) (running : ℕ → Role → Option Child)
         ∙ sym (runs_same plan T (Start i role (start.Started m)) r (history_before role) w))
       where
         starts : (role r : Role) → running i r ≡ runs_by plan i r (history_before role)
-            → (if same_role r role then Some (child_of job) else running i r) ≡ runs_by plan i r (history_before role ++ mark_of (Start i role (start.Started m)) ∷ [])
+            → (if same_role r role then Some (child_of job) else running i r) ≡ runs_by plan i r (history_before role ++ kind_of_event (Start i role (start.Started m)) ∷ [])
         starts Body Body e = sym (ap (option_map child_of) g)
         starts Cleanup Cleanup e = sym (ap (option_map child_of) g)
         starts role r e = e
@@ -67,7 +67,7 @@ module _ (plan : List Job) (T : Trace) (running : ℕ → Role → Option Child)
         e : Event
         e = Start i role (start.Refused c)
 
-        starts_not : (role r : Role) → runs_by plan i r (history_before role) ≡ runs_by plan i r (history_before role ++ mark_of (Start i role (start.Refused c)) ∷ [])
+        starts_not : (role r : Role) → runs_by plan i r (history_before role) ≡ runs_by plan i r (history_before role ++ kind_of_event (Start i role (start.Refused c)) ∷ [])
         starts_not Body Body = refl
         starts_not Cleanup Cleanup = refl
         starts_not role r = refl
@@ -82,7 +82,7 @@ module _ (plan : List Job) (T : Trace) (running : ℕ → Role → Option Child)
         ∙ sym (runs_same plan T (End e) r (history_while e.role) w))
       where
         ends : (role r : Role) → running e.position r ≡ runs_by plan e.position r (history_while role)
-            → (if same_role r role then None else running e.position r) ≡ runs_by plan e.position r (history_while role ++ end_mark role ∷ [])
+            → (if same_role r role then None else running e.position r) ≡ runs_by plan e.position r (history_while role ++ end_kind role ∷ [])
         ends Body Body e = refl
         ends Cleanup Cleanup e = refl
         ends role r e = e
@@ -127,9 +127,9 @@ up_to (Some k) T = first k T
 -- `Fair plan n T e`: the event `e` keeps the rules for each event.
 pub record Fair (plan : List Job) (n : ℕ) (T : Trace) (e : Event) : Type 0 where
   pub fits : FitsAt plan T e
-  pub width : WidthAt plan n T e
-  pub exclusive : ExclusiveAt plan T e
-  pub prompt : PromptAt plan T e
+  pub width : KeepsWidth plan n T e
+  pub exclusive : KeepsExclusive plan T e
+  pub prompt : StartsOwedCleanup plan T e
 
 pub each_of : {P Q : Trace → Event → Type 0} (T : Trace) → ((U : Trace) (e : Event) → P U e → Q U e) → Each P T → Each Q T
 each_of NoEvent f h = tt
@@ -137,7 +137,7 @@ each_of (Then T e) f h = (each_of T f h.0, f T e h.1)
 
 -- `Until plan n stopped T`: the rules that hold up to a failed put. No body starts after that put.
 pub record Until (plan : List Job) (n : ℕ) (stopped : Option ℕ) (T : Trace) : Type 0 where
-  pub busy : Each (BusyAt plan n) (up_to stopped T)
+  pub busy : Each (WaitsWhenBusy plan n) (up_to stopped T)
   pub begun : body_starts T ≡ body_starts (up_to stopped T)
   pub passed : IfSome stopped (λ k. k ≤ event_count T)
 
@@ -149,20 +149,20 @@ first_all NoEvent = refl
 first_all (Then T e) = grind (arith, nat_tests)
 
 module _ (plan : List Job) (n : ℕ) where
-  pub until_more : (o : Option ℕ) (T : Trace) (e : Event) → Until plan n o T → (is_some o ≡ false → BusyAt plan n T e)
+  pub until_more : (o : Option ℕ) (T : Trace) (e : Event) → Until plan n o T → (is_some o ≡ false → WaitsWhenBusy plan n T e)
       → (is_some o ≡ true → body_start_of e ≡ []) → Until plan n o (Then T e)
   until_more None T e u f g = record { busy = (u.busy, f refl); begun = refl; passed = tt }
   until_more (Some k) T e u f g =
       let x = sym (first_past k T e u.passed) in
       record {
-        busy = subst (Each (BusyAt plan n)) x u.busy;
+        busy = subst (Each (WaitsWhenBusy plan n)) x u.busy;
         begun = ap (λ xs. body_starts T ++ xs) (g refl) ∙ (append-nil (body_starts T) ∙ (u.begun ∙ ap body_starts x));
         passed = omega (arith, u.passed);
       }
 
   pub until_now : (o : Option ℕ) (T : Trace) → is_some o ≡ false → Until plan n o T → Until plan n (Some (event_count T)) T
   until_now None T f u =
-      record { busy = subst (Each (BusyAt plan n)) (sym (first_all T)) u.busy; begun = ap body_starts (sym (first_all T)); passed = omega arith }
+      record { busy = subst (Each (WaitsWhenBusy plan n)) (sym (first_all T)) u.busy; begun = ap body_starts (sym (first_all T)); passed = omega arith }
   until_now (Some k) T f u = absurd (cc)
 
 -- `Going l plan n T old new`: the events `T` lead the launcher from `old` to `new`.

@@ -1,23 +1,23 @@
 -- The history that a stage represents, and the stage after an event.
-use Rattle.kt_sched.proofs.Common.{false_from_ne_true, and_right, not, None, is_none, is_some, map, not, ◌&&◌, ◌≡◌, ◌≢◌, ℕ, Bool, true, false, List, [], ◌∷◌, refl, sym, ◌∙◌, ap, list_any, Role, Body, Cleanup, Job, Stage, Waiting, Decided, Running, Owing, Cleaning, Finished, Taken, EndedBody, Event, Mark, BodyStarted, BodyEnded, CleanupStarted, mark_of, is_whole, is_body_started, role_runs, stage_runs, IsStage, is_over, is_active_stage, is_owing_stage, is_fresh, is_decided_stage, slice_get, Some, ◌<◌, ◌⊎◌, ◌-◌, ◌++◌, subst, arith, inl, inr, and_from, CleanupRefused, end_mark, CaseRecord, ended_body, Start, End, Trace, Then, position_of, body_start_of, no_output, IsEntry, ended, refused, uncleaned, cleaned, IsAfter, declares, owed, owing_at, entry_with, record_of, stage_work}
+use Rattle.kt_sched.proofs.Common.{false_from_ne_true, and_right, not, None, is_none, is_some, map, not, ◌&&◌, ◌≡◌, ◌≢◌, ℕ, Bool, true, false, List, [], ◌∷◌, refl, sym, ◌∙◌, ap, list_any, Role, Body, Cleanup, Job, Stage, Waiting, Decided, Running, Owing, Cleaning, Finished, Taken, EndedBody, Event, EventKind, BodyStarted, BodyEnded, CleanupStarted, kind_of_event, is_whole, is_body_started, role_runs, stage_runs, IsStage, is_over, is_active_stage, is_owing_stage, is_waiting_stage, is_decided_stage, slice_get, Some, ◌<◌, ◌⊎◌, ◌-◌, ◌++◌, subst, arith, inl, inr, and_from, CleanupRefused, end_kind, CaseRecord, ended_body, Start, End, Trace, Then, position_of, body_start_of, no_output, IsEntry, ended, refused, uncleaned, cleaned, IsAfter, declares, owed, owing_at, entry_with, record_of, stage_work}
 use Rattle.kt_sched.specs.declared.job.StartAnswer.TheVariants as start
 
-abbrev pub marks_active : Job → List Mark → Bool
+abbrev pub marks_active : Job → List EventKind → Bool
 marks_active job w = list_any is_body_started w && not (is_whole job w)
 
 -- `Says job stage w`: stage and history `w` agree on whether the case is over, is active or runs.
-pub record Says (job : Job) (stage : Stage) (w : List Mark) : Type 0 where
+pub record Says (job : Job) (stage : Stage) (w : List EventKind) : Type 0 where
   pub whole : is_whole job w ≡ is_over stage
   pub active : marks_active job w ≡ is_active_stage stage
   pub runs : (r : Role) → role_runs r w ≡ stage_runs r stage
 
-by_role : (w : List Mark) (stage : Stage) → role_runs Body w ≡ stage_runs Body stage → role_runs Cleanup w ≡ stage_runs Cleanup stage → (r : Role)
+by_role : (w : List EventKind) (stage : Stage) → role_runs Body w ≡ stage_runs Body stage → role_runs Cleanup w ≡ stage_runs Cleanup stage → (r : Role)
     → role_runs r w ≡ stage_runs r stage
 by_role w stage b c Body = b
 by_role w stage b c Cleanup = c
 
 -- No child of a case runs if the case's history is whole.
-pub whole_quiet : (job : Job) (role : Role) (w : List Mark) → is_whole job w ≡ true → role_runs role w ≡ false
+pub whole_quiet : (job : Job) (role : Role) (w : List EventKind) → is_whole job w ≡ true → role_runs role w ≡ false
 whole_quiet job Body (BodyStarted ∷ []) h = absurd (cc)
 whole_quiet job Cleanup (BodyStarted ∷ BodyEnded ∷ CleanupStarted ∷ []) h = absurd (cc)
 whole_quiet job role w h = refl
@@ -37,14 +37,14 @@ runs_active Body (Running m) e = refl
 runs_active Cleanup (Cleaning b) e = refl
 runs_active r stage e = absurd (cc)
 
-over_says : (job : Job) (stage : Stage) (w : List Mark) → is_whole job w ≡ true → is_over stage ≡ true → Says job stage w
+over_says : (job : Job) (stage : Stage) (w : List EventKind) → is_whole job w ≡ true → is_over stage ≡ true → Says job stage w
 over_says job stage w h o = record {
   whole = h ∙ sym o;
   active = and_right (list_any is_body_started w) (not (is_whole job w)) (ap not h) ∙ sym (over_inactive stage o);
   runs = λ r. whole_quiet job r w h ∙ sym (false_from_ne_true (stage_runs r stage) (λ v. cc (runs_active r stage v, over_inactive stage o)));
 }
 
-pub says : (i : ℕ) (job : Job) (stage : Stage) (es : List Event) → IsStage i job stage es → Says job stage (map mark_of es)
+pub says : (i : ℕ) (job : Job) (stage : Stage) (es : List Event) → IsStage i job stage es → Says job stage (map kind_of_event es)
 says i job Waiting es h = rw h.0 (record { whole = ap is_some h.1; active = refl; runs = by_role [] Waiting refl refl })
 says i job Decided es h = rw h.0 (over_says job Decided [] h.1 refl)
 says i job (Running m) es h = rw h.0 (record { whole = refl; active = refl; runs = by_role (BodyStarted ∷ []) (Running m) refl refl })
@@ -53,8 +53,8 @@ says i job (Owing b) es h =
     rw (h.1, h.2) (record { whole = w; active = ap not w; runs = by_role (BodyStarted ∷ BodyEnded ∷ []) (Owing b) refl refl })
 says i job (Cleaning b) es h =
     rw (h.2, h.3) (record { whole = refl; active = refl; runs = by_role (BodyStarted ∷ BodyEnded ∷ CleanupStarted ∷ []) (Cleaning b) refl refl })
-says i job (Finished t) es h = over_says job (Finished t) (map mark_of es) h.0 refl
-says i job Taken es h = over_says job Taken (map mark_of es) h refl
+says i job (Finished t) es h = over_says job (Finished t) (map kind_of_event es) h.0 refl
+says i job Taken es h = over_says job Taken (map kind_of_event es) h refl
 
 -- A case that isn't over is undecided.
 pub undecided_stage : (i : ℕ) (job : Job) (stage : Stage) (es : List Event) → IsStage i job stage es → is_over stage ≡ false → job.decided ≡ None
@@ -66,12 +66,12 @@ undecided_stage i job stage es h o = absurd (cc)
 
 -- A case that waits isn't active.
 
-pub fresh_inactive : (stage : Stage) → is_fresh stage ≡ true → is_active_stage stage ≡ false
+pub fresh_inactive : (stage : Stage) → is_waiting_stage stage ≡ true → is_active_stage stage ≡ false
 fresh_inactive Waiting e = refl
 fresh_inactive Decided e = refl
 fresh_inactive stage e = absurd (cc)
 
-pub waiting_stage : (stage : Stage) → is_fresh stage ≡ true → is_decided_stage stage ≡ false → stage ≡ Waiting
+pub waiting_stage : (stage : Stage) → is_waiting_stage stage ≡ true → is_decided_stage stage ≡ false → stage ≡ Waiting
 waiting_stage Waiting e f = refl
 waiting_stage stage e f = absurd (cc)
 
@@ -96,9 +96,9 @@ owing_stage stage e = absurd (cc)
 pub record Moves (was : Stage) (e : Event) (now : Stage) : Type 0 where
   pub fresh : is_over was ≡ false
   pub works : stage_work now < stage_work was
-  pub begins : is_fresh now ≡ false
+  pub begins : is_waiting_stage now ≡ false
   pub has_record : is_over now ≡ true → (t : CaseRecord) × (now ≡ Finished t)
-  pub kind : ((is_fresh was ≡ true) × (body_start_of e ≡ position_of e ∷ [])) ⊎ ((is_active_stage was ≡ true) × (body_start_of e ≡ []))
+  pub kind : ((is_waiting_stage was ≡ true) × (body_start_of e ≡ position_of e ∷ [])) ⊎ ((is_active_stage was ≡ true) × (body_start_of e ≡ []))
 
 pub moves : (cleanup : Bool) (was : Stage) (e : Event) (now : Stage) → IsAfter cleanup was e now → Moves was e now
 moves c Waiting (Start i Body (start.Started m)) (Running k) h =
@@ -154,7 +154,7 @@ stage_moves job (Owing b) (Start i Cleanup (start.Refused c)) (Finished t) es s 
     let of_end = λ (x : EndedBody). record_of t.verdict (record { started = b.started; ended = x.ended; verdict = x.verdict; output = x.output })
     x.ended no_output in
     rw s.1 (
-      ap (λ x. is_whole job (BodyStarted ∷ end_mark x ∷ CleanupRefused ∷ [])) s.2 ∙ and_from _ _ (ap is_none s.6) s.3,
+      ap (λ x. is_whole job (BodyStarted ∷ end_kind x ∷ CleanupRefused ∷ [])) s.2 ∙ and_from _ _ (ap is_none s.6) s.3,
       entry_as (h.1 ∙ ap of_end s.5) (uncleaned i b.started s.0 i c b.verdict t.verdict s.4 h.0),
     )
 stage_moves job (Running m) (End e) (Owing b) es s h =
@@ -163,15 +163,15 @@ stage_moves job (Running m) (End e) (Owing b) es s h =
     (e, ends, body_runs e.role m h.0, h.1, h.2, h.3 ∙ ap (λ y. ended_body b.verdict y e) same, s.1)
 stage_moves job (Running m) (End e) (Finished t) es s h =
     rw s.0 (
-      ap (λ x. is_whole job (BodyStarted ∷ end_mark x ∷ [])) (body_runs e.role m h.0) ∙ and_from _ _ (ap is_none s.1) (ap not h.1),
+      ap (λ x. is_whole job (BodyStarted ∷ end_kind x ∷ [])) (body_runs e.role m h.0) ∙ and_from _ _ (ap is_none s.1) (ap not h.1),
       entry_as h.3 (ended e.position m e t.verdict h.2),
     )
 stage_moves job (Cleaning b) (End f) (Finished t) es s h =
     let of_end : EndedBody → CaseRecord =
     λ y. record { verdict = t.verdict; started = b.started; millis = f.moment - b.started; body = y.output; cleanup = f.output } in
     rw s.2 (
-      ap (λ y. is_whole job (BodyStarted ∷ end_mark y ∷ CleanupStarted ∷ end_mark f.role ∷ [])) s.3
-          ∙ ap (λ y. is_whole job (BodyStarted ∷ BodyEnded ∷ CleanupStarted ∷ end_mark y ∷ [])) (cleanup_runs f.role b h.0)
+      ap (λ y. is_whole job (BodyStarted ∷ end_kind y ∷ CleanupStarted ∷ end_kind f.role ∷ [])) s.3
+          ∙ ap (λ y. is_whole job (BodyStarted ∷ BodyEnded ∷ CleanupStarted ∷ end_kind y ∷ [])) (cleanup_runs f.role b h.0)
           ∙ and_from _ _ (ap is_none s.7) s.4,
       entry_as (h.2 ∙ ap of_end s.6) (cleaned f.position b.started s.0 f.position s.1 f b.verdict t.verdict s.5 h.1),
     )

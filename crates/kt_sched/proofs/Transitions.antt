@@ -1,5 +1,5 @@
 -- The responses of a launcher, each of which leads to a new state.
-use Rattle.kt_sched.proofs.Common.{ne_eqb, ◌≢◌, get_or, slice_get, slice_get_read, slice_set, length, Option, Some, None, ◌≡◌, ℕ, ◌+◌, ◌<◌, Bool, true, cond, List, refl, sym, ◌∙◌, ap, subst, arith, slice_get_within, Next, Role, Body, Cleanup, Ended, StartAnswer, Stage, Waiting, Owing, Case, same_role, Event, Start, End, Job, Fed, body_start_of, stage_runs, SchedState, Stands, IsAfter, IsStanding, Takes, can_start, owing_at, ready_at, is_active_stage, is_over, is_owed}
+use Rattle.kt_sched.proofs.Common.{ne_eqb, ◌≢◌, get_or, slice_get, slice_get_read, slice_set, length, Option, Some, None, ◌≡◌, ℕ, ◌+◌, ◌<◌, Bool, true, cond, List, refl, sym, ◌∙◌, ap, subst, arith, slice_get_within, Next, Role, Body, Cleanup, Ended, StartAnswer, Stage, Waiting, Owing, Case, same_role, Event, Start, End, Job, Fed, body_start_of, stage_runs, SchedState, Stands, IsAfter, IsReachable, RecordsEvent, can_start, owing_at, ready_at, is_active_stage, is_over, is_owed}
 use Rattle.kt_sched.specs.declared.next.Next.TheVariants as next
 use denote.Enum.Bare.{sameb}
 use Rattle.kt_base.specs.contracts.child.Role.{the_type}
@@ -56,11 +56,11 @@ takes_turn i Body x = omega arith
 takes_turn i Cleanup x = refl
 
 -- The state before an event, as the code reads it.
-module _ {b seen : SchedState} (view : b ≡ seen) (standing : IsStanding b) where
+module _ {b seen : SchedState} (view : b ≡ seen) (standing : IsReachable b) where
   -- An event leads to a new state that represents the responses with that event.
   steps : {e : Event} {later : SchedState} → ((plan : List Job) (n : ℕ) (fed : Fed) → Stands plan n fed b → After plan n fed b e later)
-      → later.asked ≡ next.Done → Takes seen e later
-  steps {e} {later} f a = subst (λ (x : SchedState). Takes x e later) view
+      → later.asked ≡ next.Done → RecordsEvent seen e later
+  steps {e} {later} f a = subst (λ (x : SchedState). RecordsEvent x e later) view
       (record { stands = λ plan n fed h. (f plan n fed h).stands; less = (f standing.0 standing.1 standing.2 standing.3).less; asked = a })
 
   was_asked : {q : Next} → seen.asked ≡ q → b.asked ≡ q
@@ -83,7 +83,7 @@ module _ {b seen : SchedState} (view : b ≡ seen) (standing : IsStanding b) whe
       → seen.asked ≡ next.Start i role → case ≡ get_or b.cases i case → was ≡ case.stage
       → ((cleanup : Bool) → IsAfter cleanup was (Start i role x) now) → t ≡ b.turn + cond (same_role role Body) 1 0
       → u ≡ same_role role Cleanup → a + cond u 1 0 ≡ b.active + cond (is_active_stage now) 1 0 → p ≡ owing_at now i → r ≡ ready_at now b.failed i
-      → Takes seen (Start i role x) (after_event b (slice_set b.cases i (record { job = case.job; stage = now })) t a p r)
+      → RecordsEvent seen (Start i role x) (after_event b (slice_set b.cases i (record { job = case.job; stage = now })) t a p r)
   started i role x {case} now {a = a} q at s f y u z p r = rw (p, r) (steps (λ plan n fed h.
       let g = found_at b.cases i case (start_at i role q) at in
       let l = located h i case.job case.stage g in
@@ -100,7 +100,7 @@ module _ {b seen : SchedState} (view : b ≡ seen) (standing : IsStanding b) whe
       → ((c : Case) × (slice_get seen.cases e.position ≡ Some c) × (stage_runs e.role c.stage ≡ true))
       → case ≡ get_or b.cases e.position case → was ≡ case.stage → IsAfter case.job.cleanup was (End e) now
       → a + 1 ≡ b.active + cond (is_active_stage now) 1 0 → p ≡ owing_at now e.position → r ≡ ready_at now b.failed e.position
-      → Takes seen (End e) (after_event b (slice_set b.cases e.position (record { job = case.job; stage = now })) b.turn a p r)
+      → RecordsEvent seen (End e) (after_event b (slice_set b.cases e.position (record { job = case.job; stage = now })) b.turn a p r)
   ended e {case} now q w at s f z p r = rw (p, r) (steps (λ plan n fed h.
       let there = ap (λ (x : SchedState). slice_get x.cases e.position) view ∙ w.1 in
       let g = found_at b.cases e.position case (slice_get_within b.cases e.position w.0 there) at in

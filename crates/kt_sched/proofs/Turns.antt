@@ -1,5 +1,5 @@
 -- The turn order, which has each case once and exclusive cases last, and one more event.
-use Rattle.kt_sched.proofs.Common.{ne_eqb, nat_tests, ◌⊎◌, slice_get, count_by, filter, Some, not, ◌==◌, ◌≡◌, ◌≢◌, ℕ, ◌+◌, ◌<◌, ◌≤◌, Bool, true, false, cond, List, length, refl, ◌∙◌, ap, arith, inl, inr, false_from_ne_true, sum_by-filter_both, cases_eq, slice_get_within, Job, turns, None, is_none, map, ◌&&◌, [], ◌∷◌, ◌++◌, sym, map-append, Event, Trace, Then, position_of, of, event_count, mark_of, history, is_whole, has_whole_history, Due, dues, put_at, finished_by, is_open, was_open, recorded, IsPlan, positions}
+use Rattle.kt_sched.proofs.Common.{ne_eqb, nat_tests, ◌⊎◌, slice_get, count_by, filter, Some, not, ◌==◌, ◌≡◌, ◌≢◌, ℕ, ◌+◌, ◌<◌, ◌≤◌, Bool, true, false, cond, List, length, refl, ◌∙◌, ap, arith, inl, inr, false_from_ne_true, sum_by-filter_both, cases_eq, slice_get_within, Job, turns, None, is_none, map, ◌&&◌, [], ◌∷◌, ◌++◌, sym, map-append, Event, Trace, Then, position_of, of, event_count, kind_of_event, history, is_whole, has_whole_history, Due, dues, puts_scheduled_at, finished_by, is_open, was_open, recorded, IsPlan, positions}
 use Rattle.kt_sched.proofs.Lists.{counted_one, counted_some, count_by-append, counted_only, counted_two, filter_in, in_append, pick, filter_only}
 use Rattle.kt_base.proofs.Lists.{same_number}
 
@@ -70,13 +70,13 @@ pub of_other : (i k : ℕ) (T : Trace) (e : Event) → position_of e ≡ i → k
 of_other i k T e h n = rw (h, ne_eqb i k (λ q. n (sym q))) refl
 
 -- An event is added to the history of its case, and to no other history.
-pub history_same : (i : ℕ) (T : Trace) (e : Event) → position_of e ≡ i → history i (Then T e) ≡ history i T ++ mark_of e ∷ []
-history_same i T e h = ap (map mark_of) (of_same i T e h) ∙ map-append mark_of (of i T) (e ∷ [])
+pub history_same : (i : ℕ) (T : Trace) (e : Event) → position_of e ≡ i → history i (Then T e) ≡ history i T ++ kind_of_event e ∷ []
+history_same i T e h = ap (map kind_of_event) (of_same i T e h) ∙ map-append kind_of_event (of i T) (e ∷ [])
 
 pub history_other : (i k : ℕ) (T : Trace) (e : Event) → position_of e ≡ i → k ≢ i → history k (Then T e) ≡ history k T
-history_other i k T e h n = ap (map mark_of) (of_other i k T e h n)
+history_other i k T e h n = ap (map kind_of_event) (of_other i k T e h n)
 
-pub put_at_positions : (k : ℕ) (jobs : List Job) → map (λ (p : Due). p.position) (put_at k jobs) ≡ positions jobs
+pub put_at_positions : (k : ℕ) (jobs : List Job) → map (λ (p : Due). p.position) (puts_scheduled_at k jobs) ≡ positions jobs
 put_at_positions k [] = refl
 put_at_positions k (job ∷ jobs) = ap (λ xs. job.position ∷ xs) (put_at_positions k jobs)
 
@@ -96,9 +96,9 @@ recorded_more plan n T e =
     let xs = finished_by plan T e in
     let ys = filter (opens_now plan n T e) (turns plan) in
     let f = λ (p : Due). p.position in
-    map-append f (dues plan n T) (put_at k xs ++ put_at k ys)
-    ∙ ap (λ zs. recorded plan n T ++ zs) (map-append f (put_at k xs) (put_at k ys)
-    ∙ (ap (λ zs. zs ++ map f (put_at k ys)) (put_at_positions k xs) ∙ ap (λ zs. positions xs ++ zs) (put_at_positions k ys)))
+    map-append f (dues plan n T) (puts_scheduled_at k xs ++ puts_scheduled_at k ys)
+    ∙ ap (λ zs. recorded plan n T ++ zs) (map-append f (puts_scheduled_at k xs) (puts_scheduled_at k ys)
+    ∙ (ap (λ zs. zs ++ map f (puts_scheduled_at k ys)) (put_at_positions k xs) ∙ ap (λ zs. positions xs ++ zs) (put_at_positions k ys)))
 
 -- An event finishes its undecided case if it makes the history of that case whole.
 pub finished_is : {plan : List Job} (T : Trace) (e : Event) {job : Job} (b : Bool) → IsPlan plan → job.decided ≡ None

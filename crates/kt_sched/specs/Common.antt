@@ -2,14 +2,14 @@
 pub use Rattle.kt_base.specs.declared.child.Role.{Role}
 pub use Rattle.kt_sched.specs.Children.{IsIdle, same_role}
 pub use Rattle.kt_sched.specs.EntryOf.{IsEntryOf, no_output}
-pub use Rattle.kt_sched.specs.Fed.{Fed, fed_after, nothing_fed}
-pub use Rattle.kt_sched.specs.Inner.Answers.{CanCount, after_put, counted}
-pub use Rattle.kt_sched.specs.Inner.Cases.{IsAfter, TookEntry, can_start, first_case, is_over, owing_at, positions_where, ready_at, stage_runs}
+pub use Rattle.kt_sched.specs.Fed.{Fed, responses_after, no_responses}
+pub use Rattle.kt_sched.specs.Inner.Answers.{CanCount, responses_after_put, counted}
+pub use Rattle.kt_sched.specs.Inner.Cases.{IsAfter, TakesEntry, can_start, first_case, is_over, owing_at, positions_where, ready_at, stage_runs}
 pub use Rattle.kt_sched.specs.Inner.Choice.{IsChosen, IsTurn}
 pub use Rattle.kt_sched.specs.Next.{Follows, IsNext}
 pub use Rattle.kt_sched.specs.Plan.{IsPlan, IsWidth}
 pub use Rattle.kt_sched.specs.Run.{Ran}
-pub use Rattle.kt_sched.specs.SchedState.{CanLend, HasRecord, Implies, IsAnswer, IsSettled, SchedState, Stands, Takes, Works, decided_record, is_active_stage, positions, work}
+pub use Rattle.kt_sched.specs.SchedState.{CanLend, HasRecord, Implies, IsAnswer, IsSettled, SchedState, Stands, RecordsEvent, ReducesWork, decided_record, is_active_stage, positions, work}
 pub use Rattle.kt_sched.specs.Trace.{End, Start}
 pub use Rattle.kt_sched.specs.TurnOrder.{turns}
 pub use Rattle.kt_sched.specs.declared.stage.Case.{Case}

@@ -3,7 +3,7 @@ use Rattle.std.specs.Prelude.{ℕ, true, List, [], ◌∷◌, ◌≡◌, ◌-◌
 use Rattle.kt_sched.specs.Types.{Body, Cleanup, Ended, Entry, Job, Judged, Output, Refused, SinkFault, Started}
 use Rattle.kt_base.specs.declared.failed_start.Refused.{Refused as Cause}
 use Rattle.kt_status.specs.declared.cleanup_end.CleanupEnd.TheVariants as cleanup
-use Rattle.kt_status.specs.Tables.{IsVerdict, IsVerdictOfRefusal, IsVerdictAfter}
+use Rattle.kt_status.specs.Tables.{IsVerdict, IsVerdictOfRefusal, IsVerdictAfterCleanup}
 use Rattle.kt_sched.specs.Trace.{Event, Start, End, Trace, of}
 use Rattle.kt_sched.specs.History.{history, is_whole}
 
@@ -34,10 +34,10 @@ pub data IsEntry (job : Job) : List Event → Entry → Type 0 where
   ended : (i m : ℕ) (e : Ended) (v : Judged) → IsVerdict e.evidence e.outcome v
       → IsEntry job (Start i Body (Started m) ∷ End e ∷ []) (entry job v m (e.moment - m) e.output no_output)
   uncleaned : (i m : ℕ) (e : Ended) (j : ℕ) (cause : Cause) (body v : Judged)
-      → IsVerdict e.evidence e.outcome body → IsVerdictAfter body cleanup.Refused v
+      → IsVerdict e.evidence e.outcome body → IsVerdictAfterCleanup body cleanup.Refused v
       → IsEntry job (Start i Body (Started m) ∷ End e ∷ Start j Cleanup (Refused cause) ∷ []) (entry job v m (e.moment - m) e.output no_output)
   cleaned : (i m : ℕ) (e : Ended) (j k : ℕ) (f : Ended) (body v : Judged)
-      → IsVerdict e.evidence e.outcome body → IsVerdictAfter body (cleanup.Ended f.outcome) v
+      → IsVerdict e.evidence e.outcome body → IsVerdictAfterCleanup body (cleanup.Ended f.outcome) v
       → IsEntry job (Start i Body (Started m) ∷ End e ∷ Start j Cleanup (Started k) ∷ End f ∷ []) (entry job v m (f.moment - m) e.output f.output)
 
 -- `Gains puts entries old new`: successful puts of `entries` lead a sink from `old` to `new`, each

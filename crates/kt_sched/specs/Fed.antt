@@ -4,7 +4,7 @@ use Rattle.kt_sched.specs.Types.{Answer, Body, Cleanup, Next, Refused, Role, Sta
 use Rattle.kt_sched.specs.declared.next.Next.TheVariants as next
 use Rattle.kt_sched.specs.declared.next.Answer.TheVariants as answer
 use Rattle.kt_sched.specs.Trace.{Start, End, Trace, NoEvent, Then, event_count}
-use Rattle.kt_sched.specs.History.{Mark, BodyStarted, BodyEnded, CleanupStarted, history}
+use Rattle.kt_sched.specs.History.{EventKind, BodyStarted, BodyEnded, CleanupStarted, history}
 
 -- `Fed`: the responses so far: the trace of the launcher, and the number of stored entries. If a
 -- put failed, `stopped` is the number of events before this put.
@@ -13,26 +13,26 @@ pub record Fed : Type 0 where
   pub stored : ℕ
   pub stopped : Option ℕ
 
--- `nothing_fed`: no response so far.
-abbrev pub nothing_fed : Fed
-nothing_fed = record { trace = NoEvent; stored = 0; stopped = None }
+-- `no_responses`: no response so far.
+abbrev pub no_responses : Fed
+no_responses = record { trace = NoEvent; stored = 0; stopped = None }
 
 -- `has_failed fed`: one of the responses `fed` is a failed put.
 abbrev pub has_failed : Fed → Bool
 has_failed fed = is_some fed.stopped
 
--- `fed_after fed asked answer`: the responses `fed` with the response `answer` to the step `asked`.
-abbrev pub fed_after : Fed → Next → Answer → Fed
-fed_after fed (next.Start i role) (answer.Started moment) = record fed { trace = Then fed.trace (Start i role (Started moment)) }
-fed_after fed (next.Start i role) (answer.Refused cause) = record fed { trace = Then fed.trace (Start i role (Refused cause)) }
-fed_after fed next.Wait (answer.Ended ended) = record fed { trace = Then fed.trace (End ended) }
-fed_after fed (next.Put i) answer.Stored = record fed { stored = fed.stored + 1 }
-fed_after fed (next.Put i) answer.StoreFailed = record fed { stopped = Some (event_count fed.trace) }
-fed_after fed asked other = fed
+-- `responses_after fed asked answer`: the responses `fed` with the response `answer` to the step `asked`.
+abbrev pub responses_after : Fed → Next → Answer → Fed
+responses_after fed (next.Start i role) (answer.Started moment) = record fed { trace = Then fed.trace (Start i role (Started moment)) }
+responses_after fed (next.Start i role) (answer.Refused cause) = record fed { trace = Then fed.trace (Start i role (Refused cause)) }
+responses_after fed next.Wait (answer.Ended ended) = record fed { trace = Then fed.trace (End ended) }
+responses_after fed (next.Put i) answer.Stored = record fed { stored = fed.stored + 1 }
+responses_after fed (next.Put i) answer.StoreFailed = record fed { stopped = Some (event_count fed.trace) }
+responses_after fed asked other = fed
 
 -- `role_runs role history`: the child of a case in the role `role` runs after the history
 -- `history`.
-abbrev pub role_runs : Role → List Mark → Bool
+abbrev pub role_runs : Role → List EventKind → Bool
 role_runs Body (BodyStarted ∷ []) = true
 role_runs Cleanup (BodyStarted ∷ BodyEnded ∷ CleanupStarted ∷ []) = true
 role_runs role other = false

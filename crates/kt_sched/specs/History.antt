@@ -4,36 +4,36 @@ use Rattle.std.specs.List.{list_any}
 use Rattle.kt_sched.specs.Types.{Body, Cleanup, Job, Refused, Role, Started}
 use Rattle.kt_sched.specs.Trace.{Event, Start, End, Trace, of}
 
--- `Mark`: the kind of an event of a case: a start, a refused start or an end, of its body or its
+-- `EventKind`: the kind of an event of a case: a start, a refused start or an end, of its body or its
 -- cleanup.
-pub data Mark : Type 0 where
-  BodyStarted : Mark
-  BodyRefused : Mark
-  BodyEnded : Mark
-  CleanupStarted : Mark
-  CleanupRefused : Mark
-  CleanupEnded : Mark
+pub data EventKind : Type 0 where
+  BodyStarted : EventKind
+  BodyRefused : EventKind
+  BodyEnded : EventKind
+  CleanupStarted : EventKind
+  CleanupRefused : EventKind
+  CleanupEnded : EventKind
 
--- `end_mark role`: the kind of the end of a child in the role `role`.
-abbrev pub end_mark : Role → Mark
-end_mark Body = BodyEnded
-end_mark Cleanup = CleanupEnded
+-- `end_kind role`: the kind of the end of a child in the role `role`.
+abbrev pub end_kind : Role → EventKind
+end_kind Body = BodyEnded
+end_kind Cleanup = CleanupEnded
 
--- `mark_of event`: the kind of `event`.
-abbrev pub mark_of : Event → Mark
-mark_of (Start i Body (Started moment)) = BodyStarted
-mark_of (Start i Body (Refused cause)) = BodyRefused
-mark_of (Start i Cleanup (Started moment)) = CleanupStarted
-mark_of (Start i Cleanup (Refused cause)) = CleanupRefused
-mark_of (End ended) = end_mark ended.role
+-- `kind_of_event event`: the kind of `event`.
+abbrev pub kind_of_event : Event → EventKind
+kind_of_event (Start i Body (Started moment)) = BodyStarted
+kind_of_event (Start i Body (Refused cause)) = BodyRefused
+kind_of_event (Start i Cleanup (Started moment)) = CleanupStarted
+kind_of_event (Start i Cleanup (Refused cause)) = CleanupRefused
+kind_of_event (End ended) = end_kind ended.role
 
 -- `history i T`: the kinds of the events of case `i` in the trace `T`, in order.
-abbrev pub history : ℕ → Trace → List Mark
-history i T = map mark_of (of i T)
+abbrev pub history : ℕ → Trace → List EventKind
+history i T = map kind_of_event (of i T)
 
 -- `is_whole job history`: `history` is a whole history of the job's case: no more events of the
 -- case follow.
-abbrev pub is_whole : Job → List Mark → Bool
+abbrev pub is_whole : Job → List EventKind → Bool
 is_whole job [] = is_some job.decided
 is_whole job (BodyRefused ∷ []) = is_none job.decided
 is_whole job (BodyStarted ∷ BodyEnded ∷ []) = is_none job.decided && not job.cleanup
@@ -42,7 +42,7 @@ is_whole job (BodyStarted ∷ BodyEnded ∷ CleanupStarted ∷ CleanupEnded ∷ 
 is_whole job other = false
 
 -- `is_body_started mark`: `mark` is the start of a body.
-abbrev pub is_body_started : Mark → Bool
+abbrev pub is_body_started : EventKind → Bool
 is_body_started BodyStarted = true
 is_body_started other = false
 

@@ -1,14 +1,14 @@
 -- Plans: lists of one job for each case, each job at its position.
 use Rattle.std.specs.Prelude.{ℕ, List, true, ◌≡◌, ◌≤◌, Some, slice_get}
 use Rattle.kt_sched.specs.Types.{Job}
-use Rattle.kt_base.specs.Limits.{longest_timeout, largest_width}
+use Rattle.kt_base.specs.Limits.{longest_timeout_seconds, largest_width}
 use Rattle.kt_base.specs.declared.child.Interface.TheVariants.{Atf}
 
 -- `IsFit job`: `job` can be started: its timeout is 1 to 1,000,000 seconds, and only an ATF case
 -- declares a cleanup.
 pub record IsFit (job : Job) : Type 0 where
   pub timed : 1 ≤ job.timeout
-  pub limited : job.timeout ≤ longest_timeout
+  pub limited : job.timeout ≤ longest_timeout_seconds
   pub cleanup : job.cleanup ≡ true → job.interface ≡ Atf
 
 -- `IsPlan plan`: each job of `plan` is at its position and can be started.

@@ -41,17 +41,17 @@ abbrev pub finished_by : List Job → Trace → Event → List Job
 finished_by plan T e =
     filter (λ job. job.position == position_of e && (is_none job.decided && (has_whole_history (Then T e) job && not (has_whole_history T job)))) plan
 
--- `put_at k jobs`: the puts of the entries of `jobs`, scheduled after `k` events.
-abbrev pub put_at : ℕ → List Job → List Due
-put_at k jobs = map (λ job. record { position = job.position; after = k }) jobs
+-- `puts_scheduled_at k jobs`: the puts of the entries of `jobs`, scheduled after `k` events.
+abbrev pub puts_scheduled_at : ℕ → List Job → List Due
+puts_scheduled_at k jobs = map (λ job. record { position = job.position; after = k }) jobs
 
 -- `dues plan n T`: the puts that are scheduled after the events `T` with the width `n`, in order.
 -- Each event schedules the case that it finished, then decided cases in turn order.
 abbrev pub dues : List Job → ℕ → Trace → List Due
-dues plan n NoEvent = put_at 0 (filter (is_open plan n NoEvent) (turns plan))
+dues plan n NoEvent = puts_scheduled_at 0 (filter (is_open plan n NoEvent) (turns plan))
 dues plan n (Then T e) =
-    dues plan n T ++ (put_at (event_count (Then T e)) (finished_by plan T e)
-    ++ put_at (event_count (Then T e)) (filter (λ job. is_open plan n (Then T e) job && not (was_open plan n T job)) (turns plan)))
+    dues plan n T ++ (puts_scheduled_at (event_count (Then T e)) (finished_by plan T e)
+    ++ puts_scheduled_at (event_count (Then T e)) (filter (λ job. is_open plan n (Then T e) job && not (was_open plan n T job)) (turns plan)))
 
 -- `recorded plan n T`: the record order: the positions of `dues plan n T`, in order.
 abbrev pub recorded : List Job → ℕ → Trace → List ℕ

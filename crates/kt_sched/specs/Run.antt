@@ -30,9 +30,9 @@ pub record NamesEachOnce (plan : List Job) (positions : List ℕ) : Type 0 where
   pub all : length positions ≡ length plan
   pub once : (i : ℕ) → i < length plan → count_by (λ p. p == i) positions ≡ 1
 
--- `RanNot T gained before after`: the trace `T` has no event, `gained` has no entry, and the sink
+-- `StartsNothing T gained before after`: the trace `T` has no event, `gained` has no entry, and the sink
 -- is unchanged.
-pub record RanNot {S : Type 0} (T : Trace) (gained : List Entry) (before after : S) : Type 0 where
+pub record StartsNothing {S : Type 0} (T : Trace) (gained : List Entry) (before after : S) : Type 0 where
   pub events : T ≡ NoEvent
   pub entries : gained ≡ []
   pub same : after ≡ before
@@ -50,27 +50,27 @@ module _ {S : Type 0} (puts : S → Entry → Result (Unit {0}) SinkFault → S 
     pub gains : Gains puts gained before mid
     pub fails : puts mid refused (Err fault) after
 
-  -- `RanWell plan n T gained before after totals`: no put failed, the trace `T` is legal, and the
+  -- `CompletesRun plan n T gained before after totals`: no put failed, the trace `T` is legal, and the
   -- sink gained the entry of each case in record order. `totals` are the numbers of these entries.
-  pub record RanWell (plan : List Job) (n : ℕ) (T : Trace) (gained : List Entry) (before after : S) (totals : Totals) : Type 0 where
+  pub record CompletesRun (plan : List Job) (n : ℕ) (T : Trace) (gained : List Entry) (before after : S) (totals : Totals) : Type 0 where
     pub legal : Legal plan n T
     pub once : NamesEachOnce plan (recorded plan n T)
     pub all : length gained ≡ length plan
     pub gains : Gains puts gained before after
     pub counts : Counts gained totals
 
-  -- `RanShort plan n T gained before after fault`: the last put failed with `fault`, and the puts
+  -- `FailsAtPut plan n T gained before after fault`: the last put failed with `fault`, and the puts
   -- of `gained` before it succeeded. After this put, no body was started.
-  pub record RanShort (plan : List Job) (n : ℕ) (T : Trace) (gained : List Entry) (before after : S) (fault : SinkFault) : Type 0 where
+  pub record FailsAtPut (plan : List Job) (n : ℕ) (T : Trace) (gained : List Entry) (before after : S) (fault : SinkFault) : Type 0 where
     pub failed : FailedPut plan n T gained fault before after
     pub stopped : Stopped plan n T failed.next.after
 
-  -- `EndsAs plan n T gained before after result`: `RanWell` holds if `result` has totals,
-  -- `RanShort` if a put failed, and `RanNot` if an allocation failed.
+  -- `EndsAs plan n T gained before after result`: `CompletesRun` holds if `result` has totals,
+  -- `FailsAtPut` if a put failed, and `StartsNothing` if an allocation failed.
   abbrev pub EndsAs : List Job → ℕ → Trace → List Entry → S → S → Result Totals RunFault → Type 0
-  EndsAs plan n T gained before after (Ok totals) = RanWell plan n T gained before after totals
-  EndsAs plan n T gained before after (Err (SinkFailed fault)) = RanShort plan n T gained before after fault
-  EndsAs plan n T gained before after (Err (NoMemory refusal)) = RanNot T gained before after
+  EndsAs plan n T gained before after (Ok totals) = CompletesRun plan n T gained before after totals
+  EndsAs plan n T gained before after (Err (SinkFailed fault)) = FailsAtPut plan n T gained before after fault
+  EndsAs plan n T gained before after (Err (NoMemory refusal)) = StartsNothing T gained before after
 
 module _ {L S : Type 0} (l : launcher.Ghosts L) (s : sink.Ghosts S) where
   -- `Ran plan n old new before after result`: the run of `plan` with the width `n` had the result

@@ -5,7 +5,7 @@ use Rattle.kt_sched.specs.Types.{Answer, Body, Case, CaseRecord, Cleaning, Clean
 use Rattle.kt_sched.specs.declared.next.Next.TheVariants as next
 use Rattle.kt_status.specs.Tables.{IsVerdict}
 use Rattle.kt_sched.specs.Trace.{Event, Start, End, Trace, Then, of}
-use Rattle.kt_sched.specs.History.{mark_of, is_whole}
+use Rattle.kt_sched.specs.History.{kind_of_event, is_whole}
 use Rattle.kt_sched.specs.TurnOrder.{body_starts, turns}
 use Rattle.kt_sched.specs.ScheduleRules.{owed}
 use Rattle.kt_sched.specs.RecordOrder.{is_open, was_open, recorded}
@@ -25,11 +25,11 @@ pub record SchedState : Type 0 where
   pub asked : Next
   pub failed : Bool
 
--- `is_fresh stage`: a case in the stage `stage` waits for its turn.
-abbrev pub is_fresh : Stage → Bool
-is_fresh Waiting = true
-is_fresh Decided = true
-is_fresh _ = false
+-- `is_waiting_stage stage`: a case in the stage `stage` waits for its turn.
+abbrev pub is_waiting_stage : Stage → Bool
+is_waiting_stage Waiting = true
+is_waiting_stage Decided = true
+is_waiting_stage _ = false
 
 -- `is_active_stage stage`: a case in the stage `stage` is active.
 abbrev pub is_active_stage : Stage → Bool
@@ -52,13 +52,13 @@ stage_work Taken = 0
 abbrev pub work : List Case → ℕ
 work cases = sum_by (λ c. stage_work c.stage) cases
 
--- `Works next old new`: the response to the step `next` changes the work left from `old` to `new`.
+-- `ReducesWork next old new`: the response to the step `next` changes the work left from `old` to `new`.
 -- The response to a put keeps it, and each other response reduces it.
-abbrev pub Works : Next → ℕ → ℕ → Type 0
-Works (next.Put i) old new = new ≡ old
-Works (next.Start i role) old new = new < old
-Works next.Wait old new = new < old
-Works next.Done old new = ⊤
+abbrev pub ReducesWork : Next → ℕ → ℕ → Type 0
+ReducesWork (next.Put i) old new = new ≡ old
+ReducesWork (next.Start i role) old new = new < old
+ReducesWork next.Wait old new = new < old
+ReducesWork next.Done old new = ⊤
 
 -- `decided_record verdict`: the record of a case with the verdict `verdict` that was not started.
 abbrev pub decided_record : Judged → CaseRecord
@@ -91,12 +91,12 @@ IsStage i job (Owing b) es =
 IsStage i job (Cleaning b) es =
     (e : Ended) × (m : ℕ) × (es ≡ Start i Body (Started b.started) ∷ End e ∷ Start i Cleanup (Started m) ∷ []) × (e.role ≡ Body) × (job.cleanup ≡ true)
     × IsVerdict e.evidence e.outcome b.verdict × (b ≡ ended_body b.verdict b.started e) × (job.decided ≡ None)
-IsStage i job (Finished t) es = (is_whole job (map mark_of es) ≡ true) × IsEntry job es (entry_with job t)
-IsStage i job Taken es = is_whole job (map mark_of es) ≡ true
+IsStage i job (Finished t) es = (is_whole job (map kind_of_event es) ≡ true) × IsEntry job es (entry_with job t)
+IsStage i job Taken es = is_whole job (map kind_of_event es) ≡ true
 
--- `CaseStands T i job cases`: the element `i` of `cases` has the stage of case `i` after the events
+-- `RepresentsCase T i job cases`: the element `i` of `cases` has the stage of case `i` after the events
 -- `T`, and the job `job` unless its entry was taken.
-pub record CaseStands (T : Trace) (i : ℕ) (job : Job) (cases : List Case) : Type 0 where
+pub record RepresentsCase (T : Trace) (i : ℕ) (job : Job) (cases : List Case) : Type 0 where
   pub case : Case
   pub found : slice_get cases i ≡ Some case
   pub stage : IsStage i job case.stage (of i T)
@@ -160,10 +160,10 @@ opened plan n T turn = filter (is_open plan n T) (drop turn (turns plan))
 abbrev pub positions : List Job → List ℕ
 positions jobs = map (λ (job : Job). job.position) jobs
 
--- `AreGone plan n T turn`: the entry of each decided case before the turn could be put by now
+-- `HaveBeenOpen plan n T turn`: the entry of each decided case before the turn could be put by now
 -- (`was_open`). The entry of a case from the turn on could be put only if it can be put now
 -- (`is_open`).
-pub record AreGone (plan : List Job) (n : ℕ) (T : Trace) (turn : ℕ) : Type 0 where
+pub record HaveBeenOpen (plan : List Job) (n : ℕ) (T : Trace) (turn : ℕ) : Type 0 where
   pub gone : (k : ℕ) (job : Job) → k < turn → slice_get (turns plan) k ≡ Some job → is_decided job ≡ true → was_open plan n T job ≡ true
   pub due : (k : ℕ) (job : Job) → turn ≤ k → slice_get (turns plan) k ≡ Some job → was_open plan n T job ≡ is_open plan n T job
 
@@ -177,16 +177,16 @@ abbrev pub is_owed : Option ℕ → ℕ → Bool
 is_owed None k = false
 is_owed (Some i) k = k == i
 
--- `CasesStand plan n T cases a width pending`: `cases` are the plan's cases after the events `T`.
+-- `RepresentCases plan n T cases a width pending`: `cases` are the plan's cases after the events `T`.
 -- `pending` owes its cleanup. `a` cases are active, at most the width, and only one if an exclusive
 -- case is active.
-pub record CasesStand (plan : List Job) (n : ℕ) (T : Trace) (cases : List Case) (a width : ℕ) (pending : Option ℕ) : Type 0 where
+pub record RepresentCases (plan : List Job) (n : ℕ) (T : Trace) (cases : List Case) (a width : ℕ) (pending : Option ℕ) : Type 0 where
   pub is_plan : IsPlan plan
   pub room : 0 < n
   pub width_is : width ≡ n
   pub pending_is : pending ≡ owed plan T
   pub count : length cases ≡ length plan
-  pub each : (i : ℕ) (job : Job) → slice_get plan i ≡ Some job → CaseStands T i job cases
+  pub each : (i : ℕ) (job : Job) → slice_get plan i ≡ Some job → RepresentsCase T i job cases
   pub beyond : (i : ℕ) → length plan ≤ i → of i T ≡ []
   pub active : a ≡ count_by (λ c. is_active_stage c.stage) cases
   pub most : a ≤ n
@@ -194,31 +194,31 @@ pub record CasesStand (plan : List Job) (n : ℕ) (T : Trace) (cases : List Case
   pub owing : (k : ℕ) (c : Case) → slice_get cases k ≡ Some c → is_owing_stage c.stage ≡ is_owed pending k
   pub owed_within : (k : ℕ) → pending ≡ Some k → k < length cases
 
--- `TurnStands plan T cases order turn`: `turn` is the turn after the events `T`: exactly the
+-- `RepresentsTurn plan T cases order turn`: `turn` is the turn after the events `T`: exactly the
 -- undecided cases before it in the turn order `order` were started.
-pub record TurnStands (plan : List Job) (T : Trace) (cases : List Case) (order : List ℕ) (turn : ℕ) : Type 0 where
+pub record RepresentsTurn (plan : List Job) (T : Trace) (cases : List Case) (order : List ℕ) (turn : ℕ) : Type 0 where
   pub walk : order ≡ positions (turns plan)
   pub within : turn ≤ length order
   pub starts : body_starts T ≡ positions (filter is_undecided (take turn (turns plan)))
   pub met : (k i : ℕ) (c : Case) → slice_get order k ≡ Some i → slice_get cases i ≡ Some c
-      → (turn ≤ k → is_fresh c.stage ≡ true) × (k < turn → c.stage ≢ Waiting)
+      → (turn ≤ k → is_waiting_stage c.stage ≡ true) × (k < turn → c.stage ≢ Waiting)
 
--- `PutsStand plan n fed order turn next stop`: the puts left after `fed` are the put of the ready
+-- `RepresentPuts plan n fed order turn next stop`: the puts left after `fed` are the put of the ready
 -- case `next`, if any, and of the open cases from the turn on. `stop` is true if a put failed.
-pub record PutsStand (plan : List Job) (n : ℕ) (fed : Fed) (order : List ℕ) (turn : ℕ) (next : Option ℕ) (stop : Bool) : Type 0 where
+pub record RepresentPuts (plan : List Job) (n : ℕ) (fed : Fed) (order : List ℕ) (turn : ℕ) (next : Option ℕ) (stop : Bool) : Type 0 where
   pub failed : stop ≡ has_failed fed
   pub stopped : stop ≡ true → next ≡ None
   pub stored : fed.stored ≤ length (recorded plan n fed.trace)
-  pub gone : has_failed fed ≡ false → AreGone plan n fed.trace turn
+  pub gone : has_failed fed ≡ false → HaveBeenOpen plan n fed.trace turn
   pub ready : has_failed fed ≡ false → drop fed.stored (recorded plan n fed.trace) ≡ option_to_list next ++ positions (opened plan n fed.trace turn)
   pub ripe : (i m : ℕ) → next ≡ Some i → slice_get order m ≡ Some i → m < turn
 
 -- `Stands plan n fed b`: `b` is the state of the scheduler of `plan` with the width `n` after the
 -- responses `fed`.
 pub record Stands (plan : List Job) (n : ℕ) (fed : Fed) (b : SchedState) : Type 0 where
-  pub cases : CasesStand plan n fed.trace b.cases b.active b.width b.pending
-  pub turn : TurnStands plan fed.trace b.cases b.order b.turn
-  pub puts : PutsStand plan n fed b.order b.turn b.ready b.failed
+  pub cases : RepresentCases plan n fed.trace b.cases b.active b.width b.pending
+  pub turn : RepresentsTurn plan fed.trace b.cases b.order b.turn
+  pub puts : RepresentPuts plan n fed b.order b.turn b.ready b.failed
   pub has_record : (i : ℕ) → b.ready ≡ Some i → b.asked ≡ next.Done → HasRecord b.cases i
   pub asked : IsAsked b b.asked
 
@@ -226,18 +226,18 @@ pub record Stands (plan : List Job) (n : ℕ) (fed : Fed) (b : SchedState) : Typ
 abbrev pub Implies : SchedState → (List Job → ℕ → Fed → Type 0) → Type 0
 Implies b P = (plan : List Job) (n : ℕ) (fed : Fed) → Stands plan n fed b → P plan n fed
 
--- `IsStanding b`: `b` is the state of a scheduler, for some plan, width and responses.
-abbrev pub IsStanding : SchedState → Type 0
-IsStanding b = (plan : List Job) × (n : ℕ) × (fed : Fed) × Stands plan n fed b
+-- `IsReachable b`: `b` is the state of a scheduler, for some plan, width and responses.
+abbrev pub IsReachable : SchedState → Type 0
+IsReachable b = (plan : List Job) × (n : ℕ) × (fed : Fed) × Stands plan n fed b
 
 -- `IsAnswer b answer`: `answer` is a possible response to the step that was requested last in the
 -- state `b`.
 abbrev pub IsAnswer : SchedState → Answer → Type 0
 IsAnswer b answer = (plan : List Job) × (n : ℕ) × (fed : Fed) × Stands plan n fed b × IsAnswerTo fed.trace b.asked answer
 
--- `Takes old event new`: `event` leads the scheduler from the state `old` to the state `new`, which
+-- `RecordsEvent old event new`: `event` leads the scheduler from the state `old` to the state `new`, which
 -- represents one more event and has less work left.
-pub record Takes (old : SchedState) (e : Event) (new : SchedState) : Type 0 where
+pub record RecordsEvent (old : SchedState) (e : Event) (new : SchedState) : Type 0 where
   pub stands : Implies old (λ plan n fed. Stands plan n (record fed { trace = Then fed.trace e }) new)
   pub less : work new.cases < work old.cases
   pub asked : new.asked ≡ next.Done

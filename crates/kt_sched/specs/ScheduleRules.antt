@@ -16,11 +16,11 @@ Each P (Then T e) = Each P T × P T e
 abbrev pub Order : List Job → Trace → Type 0
 Order plan T = body_starts T ≡ map (λ job. job.position) (take (length (body_starts T)) (undecided_turns plan))
 
--- `WidthAt plan n T event`: if `event` starts a body, fewer than `n` cases are active after the
+-- `KeepsWidth plan n T event`: if `event` starts a body, fewer than `n` cases are active after the
 -- events `T`.
-abbrev pub WidthAt : List Job → ℕ → Trace → Event → Type 0
-WidthAt plan n T (Start i Body answer) = active plan T < n
-WidthAt plan n T other = ⊤
+abbrev pub KeepsWidth : List Job → ℕ → Trace → Event → Type 0
+KeepsWidth plan n T (Start i Body answer) = active plan T < n
+KeepsWidth plan n T other = ⊤
 
 -- `IsQuiet plan T`: after the events `T`, no case is active, and the history of each ordinary case
 -- is whole.
@@ -34,10 +34,10 @@ pub record IsExclusiveAtStart (plan : List Job) (T : Trace) (i : ℕ) (role : Ro
   pub quiet : (job : Job) → slice_get plan i ≡ Some job → job.exclusive ≡ true → role ≡ Body → IsQuiet plan T
   pub own : (job : Job) (k : ℕ) → slice_get plan k ≡ Some job → job.exclusive ≡ true → is_active T job ≡ true → (k ≡ i) × (role ≡ Cleanup)
 
--- `ExclusiveAt plan T event`: if `event` is a start, exclusiveness allows it after the events `T`.
-abbrev pub ExclusiveAt : List Job → Trace → Event → Type 0
-ExclusiveAt plan T (Start i role answer) = IsExclusiveAtStart plan T i role
-ExclusiveAt plan T (End ended) = ⊤
+-- `KeepsExclusive plan T event`: if `event` is a start, exclusiveness allows it after the events `T`.
+abbrev pub KeepsExclusive : List Job → Trace → Event → Type 0
+KeepsExclusive plan T (Start i role answer) = IsExclusiveAtStart plan T i role
+KeepsExclusive plan T (End ended) = ⊤
 
 -- `declares plan i`: case `i` declares a cleanup.
 abbrev pub declares : List Job → ℕ → Bool
@@ -55,10 +55,10 @@ abbrev pub IsCleanupStart : Event → ℕ → Type 0
 IsCleanupStart (Start i role answer) owing = (i ≡ owing) × (role ≡ Cleanup)
 IsCleanupStart (End ended) owing = ⊥
 
--- `PromptAt plan T event`: if the last event of `T` ended a body with a declared cleanup, `event`
+-- `StartsOwedCleanup plan T event`: if the last event of `T` ended a body with a declared cleanup, `event`
 -- is the start of this cleanup.
-abbrev pub PromptAt : List Job → Trace → Event → Type 0
-PromptAt plan T e = IfSome (owed plan T) (IsCleanupStart e)
+abbrev pub StartsOwedCleanup : List Job → Trace → Event → Type 0
+StartsOwedCleanup plan T e = IfSome (owed plan T) (IsCleanupStart e)
 
 -- `IsBusy plan n T`: no body may be started after the events `T`. Either `n` cases are active, no
 -- body is left, or the next body is exclusive and a case is active.
@@ -66,21 +66,21 @@ abbrev pub IsBusy : List Job → ℕ → Trace → Type 0
 IsBusy plan n T =
     (active plan T ≡ n) ⊎ MatchOption (next_to_start plan T) ⊤ (λ job. (job.exclusive ≡ true) × (0 < active plan T))
 
--- `BusyAt plan n T event`: if `event` is an end, no body may be started after the events `T`, so
+-- `WaitsWhenBusy plan n T event`: if `event` is an end, no body may be started after the events `T`, so
 -- the scheduler waits.
-abbrev pub BusyAt : List Job → ℕ → Trace → Event → Type 0
-BusyAt plan n T (Start i role answer) = ⊤
-BusyAt plan n T (End ended) = IsBusy plan n T
+abbrev pub WaitsWhenBusy : List Job → ℕ → Trace → Event → Type 0
+WaitsWhenBusy plan n T (Start i role answer) = ⊤
+WaitsWhenBusy plan n T (End ended) = IsBusy plan n T
 
 -- `Legal plan n T`: `T` is the trace of a run without a failed put. Each case has a whole history.
 -- The rules of order, width, exclusiveness, cleanups and waits hold.
 pub record Legal (plan : List Job) (n : ℕ) (T : Trace) : Type 0 where
   pub whole : list_all (has_whole_history T) plan ≡ true
   pub order : Order plan T
-  pub width : Each (WidthAt plan n) T
-  pub exclusive : Each (ExclusiveAt plan) T
-  pub prompt : Each (PromptAt plan) T
-  pub busy : Each (BusyAt plan n) T
+  pub width : Each (KeepsWidth plan n) T
+  pub exclusive : Each (KeepsExclusive plan) T
+  pub prompt : Each (StartsOwedCleanup plan) T
+  pub busy : Each (WaitsWhenBusy plan n) T
 
 -- `Stopped plan n T k`: `T` is the trace of a run whose put failed after `k` events. No body starts
 -- after these, each case that has an event has a whole history, and the rules of `Legal` hold. The
@@ -89,7 +89,7 @@ pub record Stopped (plan : List Job) (n : ℕ) (T : Trace) (k : ℕ) : Type 0 wh
   pub starts : body_starts T ≡ body_starts (first k T)
   pub whole : (job : Job) (i : ℕ) → slice_get plan i ≡ Some job → (of i T ≡ []) ⊎ (has_whole_history T job ≡ true)
   pub order : Order plan T
-  pub width : Each (WidthAt plan n) T
-  pub exclusive : Each (ExclusiveAt plan) T
-  pub prompt : Each (PromptAt plan) T
-  pub busy : Each (BusyAt plan n) (first k T)
+  pub width : Each (KeepsWidth plan n) T
+  pub exclusive : Each (KeepsExclusive plan) T
+  pub prompt : Each (StartsOwedCleanup plan) T
+  pub busy : Each (WaitsWhenBusy plan n) (first k T)

@@ -1,4 +1,4 @@
-ghost use Rattle.kt_sched.specs.Common.{HasRecord, TookEntry};
+ghost use Rattle.kt_sched.specs.Common.{HasRecord, TakesEntry};
 
 use crate::case_records::decided_record;
 use crate::stage::{Case, Stage};
@@ -12,7 +12,7 @@ use std::mem;
 /// Names, reason and outputs are moved, not copied.
 pub fn take_entry(alloc: Global, cases: &mut Vec<Case>, i: u32) -> Entry
     requires { HasRecord cases.old.items i }
-    ensures { TookEntry cases.old.items cases.new.items i result }
+    ensures { TakesEntry cases.old.items cases.new.items i result }
 {
     let case = &mut cases[i as usize];
     let stage = mem::replace(&mut case.stage, Stage::Taken);

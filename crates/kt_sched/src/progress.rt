@@ -106,7 +106,7 @@ pub fn turn_after(turn: usize, cases: usize, role: Role) -> usize
 ///
 /// The entry is to be put if the case is over and no put failed. An event leaves no case in the
 /// stage `Decided` or `Taken`.
-pub fn owing_and_ready(stage: &Stage, failed: bool, i: u32) -> (Option<u32>, Option<u32>)
+pub fn pending_and_ready(stage: &Stage, failed: bool, i: u32) -> (Option<u32>, Option<u32>)
     ensures owing { result.0 ≡ owing_at stage.now i }
     ensures ready { result.1 ≡ ready_at stage.now failed i }
 {

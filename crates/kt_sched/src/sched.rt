@@ -1,6 +1,6 @@
 use crate::entries::take_entry;
-use crate::progress::{active_after, after_end, after_start, owing_and_ready, turn_after};
-use crate::setup::{first_cases, turn_order};
+use crate::progress::{active_after, after_end, after_start, pending_and_ready, turn_after};
+use crate::setup::{turn_order, waiting_cases};
 use crate::stage::{Case, Stage};
 use crate::{Answer, Ended, Job, Next, StartAnswer};
 use kt_base::{Entry, Items, NoMemory, Role};
@@ -35,7 +35,7 @@ pub struct Sched {
 }
 
 impl Model for Sched {
-    ghost use Rattle.kt_sched.specs.SchedState.{SchedState, IsStanding};
+    ghost use Rattle.kt_sched.specs.SchedState.{SchedState, IsReachable};
 
     ghost Value = { SchedState };
 
@@ -53,7 +53,7 @@ impl Model for Sched {
           s.failed;
     } };
 
-    ghost invariant = { λ s. IsStanding (record {
+    ghost invariant = { λ s. IsReachable (record {
       cases = s.cases.items;
       order = s.order.items;
       turn
@@ -70,7 +70,7 @@ impl Model for Sched {
 
 impl Sched {
     ghost use Rattle.std.specs.Prelude.{◌≡◌, ℕ, length, ◌^◌, Some, slice_get, IfOk, ◌<◌, ◌+◌, true, false};
-    ghost use Rattle.kt_sched.specs.Common.{Next, Start, End, Case, Role, IsPlan, IsWidth, after_put, fed_after, nothing_fed, IsNext, Follows, IsEntryOf, IsChosen, IsTurn, stage_runs, Implies, SchedState, Stands, IsAnswer, IsSettled, HasRecord, CanLend, Takes, work, Works};
+    ghost use Rattle.kt_sched.specs.Common.{Next, Start, End, Case, Role, IsPlan, IsWidth, responses_after_put, responses_after, no_responses, IsNext, Follows, IsEntryOf, IsChosen, IsTurn, stage_runs, Implies, SchedState, Stands, IsAnswer, IsSettled, HasRecord, CanLend, RecordsEvent, work, ReducesWork};
 
     /// Creates a scheduler of `plan` that has no response yet.
     ///
@@ -82,13 +82,13 @@ impl Sched {
     pub fn new(alloc: Global, plan: Items<Job>, width: u32) -> Result<Sched, NoMemory>
         requires plan { IsPlan plan }
         requires width { IsWidth width }
-        ensures stands { IfOk result (λ s. Stands plan width nothing_fed s) }
+        ensures stands { IfOk result (λ s. Stands plan width no_responses s) }
         ensures asked { IfOk result (λ s. s.asked ≡ Next.Done) }
         ensures room { IfOk result (λ s. length plan < 2 ^ 64) }
     {
         let jobs = plan.into_vec();
         let order = turn_order(alloc, &jobs)?;
-        let cases = first_cases(alloc, jobs)?;
+        let cases = waiting_cases(alloc, jobs)?;
         Ok(Sched {
             alloc,
             cases,
@@ -134,10 +134,10 @@ impl Sched {
     /// and has the effect of `started`, `ended` or `put`.
     pub fn feed(&mut self, answer: Answer)
         requires { IsAnswer self.old answer }
-        ensures works { Works self.old.asked (work self.old.cases) (work self.new.cases) }
+        ensures works { ReducesWork self.old.asked (work self.old.cases) (work self.new.cases) }
         ensures asked { self.new.asked ≡ Next.Done }
         ensures stands { Implies self.old
-            (λ plan n fed. Stands plan n (fed_after fed self.old.asked answer) self.new) }
+            (λ plan n fed. Stands plan n (responses_after fed self.old.asked answer) self.new) }
     {
         match (self.asked, answer) {
             (Next::Start(i, role), Answer::Started(moment)) => {
@@ -156,14 +156,14 @@ impl Sched {
     /// Records the response `answer` to the start of case `i`, which `next` returned last.
     pub(crate) fn started(&mut self, i: u32, role: Role, answer: StartAnswer)
         requires { self.old.asked ≡ Next.Start i role }
-        ensures { Takes self.old (Start i role answer) self.new }
+        ensures { RecordsEvent self.old (Start i role answer) self.new }
     {
         let case = &mut self.cases[i as usize];
         let was = mem::replace(&mut case.stage, Stage::Taken);
         case.stage = after_start(self.alloc, was, role, answer);
         self.turn = turn_after(self.turn, self.order.len(), role);
         self.active = active_after(self.active, self.width, role == Role::Cleanup, &case.stage);
-        (self.pending, self.ready) = owing_and_ready(&case.stage, self.failed, i);
+        (self.pending, self.ready) = pending_and_ready(&case.stage, self.failed, i);
         self.asked = Next::Done;
     }
 
@@ -172,14 +172,14 @@ impl Sched {
         requires asked { self.old.asked ≡ Next.Wait }
         requires runs { (c : Case) × (slice_get self.old.cases ended.position ≡ Some c)
             × (stage_runs ended.role c.stage ≡ true) }
-        ensures { Takes self.old (End ended) self.new }
+        ensures { RecordsEvent self.old (End ended) self.new }
     {
         let i = ended.position;
         let case = &mut self.cases[i as usize];
         let was = mem::replace(&mut case.stage, Stage::Taken);
         case.stage = after_end(self.alloc, was, case.job.cleanup, ended);
         self.active = active_after(self.active, self.width, true, &case.stage);
-        (self.pending, self.ready) = owing_and_ready(&case.stage, self.failed, i);
+        (self.pending, self.ready) = pending_and_ready(&case.stage, self.failed, i);
         self.asked = Next::Done;
     }
 
@@ -200,7 +200,7 @@ impl Sched {
         ensures has_record { self.old.asked ≡ Next.Done → (i : ℕ) → result ≡ Next.Put i
             → HasRecord self.new.cases i }
     {
-        self.open_decided();
+        self.mark_decided_ready();
         let next = self.choice();
         self.asked = next;
         next
@@ -210,7 +210,7 @@ impl Sched {
     ///
     /// Does nothing if another case is ready, if the case at the turn is not decided, or if there
     /// is no free slot for it.
-    fn open_decided(&mut self)
+    fn mark_decided_ready(&mut self)
         ensures stands { Implies self.old (λ plan n fed. Stands plan n fed self.new) }
         ensures same { self.new.cases ≡ self.old.cases }
         ensures settled { IsSettled self.new }
@@ -220,7 +220,7 @@ impl Sched {
         let None = self.ready else {
             return;
         };
-        let Some(i) = self.turn_with_room() else {
+        let Some(i) = self.startable_at_turn() else {
             return;
         };
         let Stage::Decided = &self.cases[i as usize].stage else {
@@ -239,7 +239,7 @@ impl Sched {
             Next::Put(i)
         } else if let Some(i) = self.pending {
             Next::Start(i, Role::Cleanup)
-        } else if let Some(i) = self.turn_with_room() {
+        } else if let Some(i) = self.startable_at_turn() {
             Next::Start(i, Role::Body)
         } else if self.active > 0 {
             Next::Wait
@@ -254,7 +254,7 @@ impl Sched {
     /// There is a free slot if fewer than `width` cases are active. An exclusive case needs a time
     /// at which no case is active. A case is active until its cleanup is over. Exclusive cases have
     /// the last turns, so none of them is active at the turn of an ordinary case.
-    fn turn_with_room(&self) -> Option<u32>
+    fn startable_at_turn(&self) -> Option<u32>
         ensures { IsTurn self.now result }
     {
         if self.failed || self.turn >= self.order.len() || self.active >= self.width {
@@ -278,7 +278,7 @@ impl Sched {
         ensures same { self.new.cases ≡ self.old.cases }
         ensures asked { self.new.asked ≡ Next.Done }
         ensures stands { Implies self.old
-            (λ plan n fed. Stands plan n (after_put fed failed) self.new) }
+            (λ plan n fed. Stands plan n (responses_after_put fed failed) self.new) }
     {
         self.ready = None;
         self.failed = failed;

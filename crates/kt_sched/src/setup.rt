@@ -22,7 +22,7 @@ fn first_case(job: Job) -> Case
 /// # Errors
 ///
 /// - `NoMemory`: an allocation fails.
-pub fn first_cases(alloc: Global, plan: Vec<Job>) -> Result<Vec<Case>, NoMemory>
+pub fn waiting_cases(alloc: Global, plan: Vec<Job>) -> Result<Vec<Case>, NoMemory>
     ensures { IfOk result (λ cases. cases.items ≡ map first_case plan.items) }
 {
     let cases = plan.into_iter().map(|job| first_case(job)).collect(alloc)?;

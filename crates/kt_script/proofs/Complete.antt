@@ -1,6 +1,6 @@
 -- The parser accepts each script and returns its statements.
 use Rattle.std.proofs.Common.{arith, ◌≡◌, ℕ, true, false, List, [], ◌∷◌, ◌++◌, Option, Some, None, refl, ap, sym, ◌∙◌, append_assoc, option_map, option_and_then}
-use Rattle.kt_script.proofs.Common.{append-nil, Token, TokenKind, Name, Quoted, OpenParen, CloseParen, OpenBrace, CloseBrace, Equals, Semicolon, ScriptState, Start, Whole, Within, Pair, Stmt, Literal, Action, Call, Assign, Table, Named, Pairs, Paired, Path, Step, To, Ends, token_of, pair, Key, by_name, by_text, Separator, comma, semicolon, no_pairs, last_pair, pair_and, Parts, no_parts, named_part, quoted_part, Statement, call, call_table, call_text, bare_table, assign, kinds, placed, Script, no_stmts, stmt_and, ended_and, value_of, closed, with_pair, step, next, landed, option_to_list, run, IsResting}
+use Rattle.kt_script.proofs.Common.{append-nil, Token, TokenKind, Name, Quoted, OpenParen, CloseParen, OpenBrace, CloseBrace, Equals, Semicolon, ScriptState, Start, Whole, Within, Pair, Stmt, Literal, Action, Call, Assign, Table, Named, Pairs, Paired, Path, Step, To, Ends, token_of, pair, Key, by_name, by_text, Separator, comma, semicolon, no_pairs, last_pair, pair_and, Parts, no_parts, named_part, quoted_part, Statement, call, call_table, call_text, bare_table, assign, kinds, placed, Script, no_stmts, stmt_and, ended_and, value_of, closed, with_pair, step, next, landed, option_to_list, run, IsBetweenStatements}
 use Rattle.kt_script.specs.declared.syntax.Literal.TheVariants as literal
 use Rattle.kt_script.specs.declared.syntax.Arg.TheVariants as arg
 use Rattle.kt_script.specs.Grammar as grammar
@@ -128,18 +128,18 @@ run-append (t ∷ xs) p q ys ss e =
 
 -- ---- scripts
 
-name_from_resting : (p : ScriptState) (t : Token) (n : List ℕ) → IsResting p → t.kind ≡ Name n → next p t ≡ Some (Within t.line (Named n), None)
+name_from_resting : (p : ScriptState) (t : Token) (n : List ℕ) → IsBetweenStatements p → t.kind ≡ Name n → next p t ≡ Some (Within t.line (Named n), None)
 name_from_resting Start t n r e = rw e refl
 name_from_resting Whole t n r e = rw e refl
 name_from_resting (Within line q) t n r e = elim r [ ]
 
 -- `run` over a statement's name and the tokens after it reaches the step of `walk`
-pub named_runs : (t : Token) (ts : List Token) (p : ScriptState) (n : List ℕ) (s : Step) → IsResting p → t.kind ≡ Name n
+pub named_runs : (t : Token) (ts : List Token) (p : ScriptState) (n : List ℕ) (s : Step) → IsBetweenStatements p → t.kind ≡ Name n
     → walk (To (Named n)) (kinds ts) ≡ Some s
     → run p (t ∷ ts) ≡ Some (reached t.line s)
 named_runs t ts p n s r first leads = rw (name_from_resting p t n r first) (steps_run ts t.line (To (Named n)) s leads)
 
-phrase_runs : (phrase : List Token) (p : ScriptState) (a : Action) → IsResting p → Statement (kinds phrase) a → run p phrase ≡ Some (Whole, placed phrase a ∷ [])
+phrase_runs : (phrase : List Token) (p : ScriptState) (a : Action) → IsBetweenStatements p → Statement (kinds phrase) a → run p phrase ≡ Some (Whole, placed phrase a ∷ [])
 phrase_runs [] p a r st = let w = statement_walks [] a st in let e = w.parts in absurd cc
 phrase_runs (t ∷ ts) p a r st =
     let w = statement_walks (kinds (t ∷ ts)) a st in
@@ -150,13 +150,13 @@ phrase_runs (t ∷ ts) p a r st =
 -- `Rests p ts stmts`: the script `ts` leads from `p` to a position between statements, with `stmts`
 pub record Rests (p : ScriptState) (ts : List Token) (stmts : List Stmt) : Type 0 where
   pub place : ScriptState
-  pub rests : IsResting place
+  pub rests : IsBetweenStatements place
   pub runs : run p ts ≡ Some (place, stmts)
 
 semicolon_after : (t : Token) → t.kind ≡ Semicolon → next Whole t ≡ Some (Start, None)
 semicolon_after t e = rw e refl
 
-pub script_runs : (ts : List Token) (stmts : List Stmt) → Script ts stmts → (p : ScriptState) → IsResting p → Rests p ts stmts
+pub script_runs : (ts : List Token) (stmts : List Stmt) → Script ts stmts → (p : ScriptState) → IsBetweenStatements p → Rests p ts stmts
 script_runs ts stmts no_stmts p r = record { place = p; rests = r; runs = refl }
 script_runs ts stmts (stmt_and phrase {rest = rest} {a = a} {stmts = others} st more) p r =
     let later = script_runs rest others more Whole tt in

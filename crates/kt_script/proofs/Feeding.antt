@@ -1,6 +1,6 @@
 -- The tokens that a parser has read after another token.
 use Rattle.std.proofs.Common.{◌≡◌, ℕ, List, [], ◌∷◌, ◌++◌, Option, Some, None, refl, ap, sym, ◌∙◌}
-use Rattle.kt_script.proofs.Common.{Token, ScriptState, Parser, Stmt, after_bracket, open_lines, next, option_to_list, place_of, ended_by, HasRead}
+use Rattle.kt_script.proofs.Common.{Token, ScriptState, Parser, Stmt, after_bracket, open_lines, next, option_to_list, position_after, completed_statements, HasRead}
 use Rattle.kt_script.proofs.Sound.{run-push}
 use Rattle.std.proofs.lemmas.Option.{same_Some}
 
@@ -15,11 +15,11 @@ reads_on old new place after read t to h step leads statements brackets = record
   brackets = brackets ∙ ap (λ (lines : List ℕ). after_bracket lines t.line t.kind) h.brackets ∙ sym (open_lines-push [] read t);
 }
 
-pub fed : (old new : Parser) (place after : ScriptState) (t : Token) (o : Option (ScriptState × Option Stmt)) → next place t ≡ o → Some after ≡ place_of o → new.statements ≡ old.statements ++ ended_by o
+pub fed : (old new : Parser) (place after : ScriptState) (t : Token) (o : Option (ScriptState × Option Stmt)) → next place t ≡ o → Some after ≡ position_after o → new.statements ≡ old.statements ++ completed_statements o
     → new.brackets.items ≡ after_bracket old.brackets.items t.line t.kind → (read : List Token) → HasRead place old read → HasRead after new (read ++ t ∷ [])
 fed old new place after t None step leads statements brackets read h = absurd cc
 fed old new place after t (Some to) step leads statements brackets read h = reads_on old new place after read t to h step (sym (same_Some after to.0 leads)) statements brackets
 
-pub unfit : (o : Option (ScriptState × Option Stmt)) → None ≡ place_of o → o ≡ None
+pub unfit : (o : Option (ScriptState × Option Stmt)) → None ≡ position_after o → o ≡ None
 unfit None e = refl
 unfit (Some to) e = absurd cc

@@ -1,6 +1,6 @@
 -- The tokens that were read, and the rest of the text.
 use Rattle.std.proofs.Common.{◌≡◌, ℕ, ◌+◌, ◌<◌, ◌≤◌, List, [], ◌∷◌, ◌++◌, length, take, drop, Option, Some, None, Result, Ok, Err, refl, ap, sym, ◌∙◌, subst, append_assoc, arith, length-take, length-drop, IfOk, IfErr}
-use Rattle.kt_script.proofs.Common.{append-nil, ScriptFault, NoMemory, Token, TokenKind, Lexeme, ScriptState, Start, Whole, Within, Parser, State, Stmt, Script, run, IsResting, IfFault, IsFaultOf, last, open_lines, end_fault, HasRead, IsMisfit, piece_at, tokens, tokens_in, line_past}
+use Rattle.kt_script.proofs.Common.{append-nil, ScriptFault, NoMemory, Token, TokenKind, Lexeme, ScriptState, Start, Whole, Within, Parser, State, Stmt, Script, run, IsBetweenStatements, IfFault, IsFaultOf, last, open_lines, end_fault, HasRead, IsUnexpectedToken, lexeme_at, tokens, tokens_in, line_past}
 use Rattle.kt_script.specs.Inner.Automaton.{IsWithin}
 use Rattle.kt_script.proofs.Sound.{accepted, misfit, unfinished}
 use Rattle.kt_script.proofs.PieceTokens.{tokens-piece, tokens-end}
@@ -16,7 +16,7 @@ pub record GoesOn (place : ScriptState) (parser : Parser) (line : ℕ) (rest tex
 pub begins : (place : ScriptState) (parser : Parser) (text : List ℕ) → HasRead place parser [] → GoesOn place parser 1 text text
 begins place parser text h = record { read = []; has_read = h; all = refl; lines = omega arith }
 
-pub goes_on : (place to : ScriptState) (parser after : Parser) (line next : ℕ) (rest left text : List ℕ) (piece : Lexeme) → GoesOn place parser line rest text → piece ≡ piece_at rest
+pub goes_on : (place to : ScriptState) (parser after : Parser) (line next : ℕ) (rest left text : List ℕ) (piece : Lexeme) → GoesOn place parser line rest text → piece ≡ lexeme_at rest
     → 0 < piece.length → piece.length ≤ length rest
     → ((read : List Token) → HasRead place parser read → HasRead to after (read ++ tokens_in line piece.kind))
     → left ≡ drop piece.length rest → next ≡ line_past line (take piece.length rest) → next ≤ line + length (take piece.length rest)
@@ -35,7 +35,7 @@ some_fault T (NoMemory refusal) P h = tt
 some_fault T fault P h = h
 
 misfit_at : (place : ScriptState) (parser : Parser) (line : ℕ) (rest text : List ℕ) (piece : Lexeme) (kind : Option TokenKind) (f : ScriptFault) → kind ≡ piece.kind → GoesOn place parser line rest text
-    → piece ≡ piece_at rest → 0 < piece.length → piece.length ≤ length rest → IsMisfit place line kind f → IsFaultOf (tokens 1 0 text) f
+    → piece ≡ lexeme_at rest → 0 < piece.length → piece.length ≤ length rest → IsUnexpectedToken place line kind f → IsFaultOf (tokens 1 0 text) f
 misfit_at place parser line rest text piece None f same h is some fits m = elim m [ ]
 misfit_at place parser line rest text piece (Some kind) f same h is some fits m =
     let token : Token = record { line = line; kind = kind } in
@@ -47,8 +47,8 @@ misfit_at place parser line rest text piece (Some kind) f same h is some fits m 
 
 -- a token that the grammar does not allow gives the fault of the text
 pub stops : (T U : Type 0) (f : ScriptFault) (place : ScriptState) (parser : Parser) (line : ℕ) (rest text : List ℕ) (piece : Lexeme) → GoesOn place parser line rest text
-    → piece ≡ piece_at rest → 0 < piece.length → piece.length ≤ length rest
-    → IfFault {T = T} (Err f) (λ f. IsMisfit place line piece.kind f) → IfFault {T = U} (Err f) (λ f. IsFaultOf (tokens 1 0 text) f)
+    → piece ≡ lexeme_at rest → 0 < piece.length → piece.length ≤ length rest
+    → IfFault {T = T} (Err f) (λ f. IsUnexpectedToken place line piece.kind f) → IfFault {T = U} (Err f) (λ f. IsFaultOf (tokens 1 0 text) f)
 stops T U (NoMemory refusal) place parser line rest text piece h is some fits m = tt
 stops T U f place parser line rest text piece h is some fits m = misfit_at place parser line rest text piece piece.kind f refl h is some fits m
 
@@ -61,7 +61,7 @@ all_read place parser line rest text h none =
     subst (λ (ts : List Token). HasRead place parser ts) all h.has_read
 
 pub ends_ok : (r : Result (List Stmt) ScriptFault) (place : ScriptState) (parser : Parser) (line : ℕ) (rest text : List ℕ) → GoesOn place parser line rest text → rest ≡ []
-    → IfOk r (λ stmts. IsResting place × (stmts ≡ parser.statements)) → IfOk r (λ stmts. Script (tokens 1 0 text) stmts)
+    → IfOk r (λ stmts. IsBetweenStatements place × (stmts ≡ parser.statements)) → IfOk r (λ stmts. Script (tokens 1 0 text) stmts)
 ends_ok (Ok stmts) place parser line rest text h none given =
     rw given.1 (accepted (tokens 1 0 text) place parser.statements (all_read place parser line rest text h none).runs given.0)
 ends_ok (Err f) place parser line rest text h none given = tt

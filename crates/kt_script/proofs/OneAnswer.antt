@@ -1,6 +1,6 @@
 -- Each text has exactly one result: its statements or its fault.
 use Rattle.std.proofs.Common.{◌≡◌, ℕ, ◌≤◌, List, [], ◌∷◌, ◌++◌, length, Option, Some, None, Result, Ok, Err, refl, ap, sym, ◌∙◌, subst, append_assoc, arith, inl, inr, IfOk, IsUtf8}
-use Rattle.kt_script.proofs.Common.{is_utf8, tokens, cases_lt, cases_Bool, false≢true, append-nil, IsUtf8-from_is_utf8, is_utf8-from_IsUtf8, ScriptFault, NoMemory, NotUtf8, TooLong, Token, ScriptState, Start, Whole, Within, Stmt, Script, IfFault, IsFaultOf, fault_of, next, option_to_list, run, limit, Spells, IsDue, Refuses, IsAnswer}
+use Rattle.kt_script.proofs.Common.{is_utf8, tokens, cases_lt, cases_Bool, false≢true, append-nil, IsUtf8-from_is_utf8, is_utf8-from_IsUtf8, ScriptFault, NoMemory, NotUtf8, TooLong, Token, ScriptState, Start, Whole, Within, Stmt, Script, IfFault, IsFaultOf, fault_of, next, option_to_list, run, limit, Spells, IsDue, Refuses, IsResultOf}
 use Rattle.kt_script.proofs.Sound.{accepted, misfit, unfinished, one_script, run-push}
 use Rattle.kt_script.proofs.OneFault.{one_fault}
 use Rattle.kt_script.proofs.OneReading.{same_tokens}
@@ -26,7 +26,7 @@ not_both text stmts f s (inr (inl x)) = x.1 s.utf8
 not_both text stmts f s (inr (inr x)) =
     x.4.no_script stmts (subst (λ (ts : List Token). Script ts stmts) (same_tokens text s.tokens x.2 s.read x.3) s.script)
 
-pub one_answer : (text : List ℕ) (a b : Result (List Stmt) ScriptFault) → IsAnswer text a → IsAnswer text b → a ≡ b
+pub one_answer : (text : List ℕ) (a b : Result (List Stmt) ScriptFault) → IsResultOf text a → IsResultOf text b → a ≡ b
 one_answer text (Ok x) (Ok y) p q =
     ap Ok (one_script p.tokens x y p.script (subst (λ (ts : List Token). Script ts y) (same_tokens text q.tokens p.tokens q.read p.read) q.script))
 one_answer text (Ok x) (Err g) p q = absurd (not_both text x g p q)
@@ -67,12 +67,12 @@ goes_through (t ∷ ts) front p ss e = at_token t ts front p ss e (λ q rs h. go
         let h = later to.0 (ss ++ option_to_list to.1) (run-push front t p ss to e step) in
         (h.0, subst (λ (xs : List Token). TokensGive xs h.0) (append_assoc front (t ∷ []) ts) h.1)
 
-answer_of_tokens : (text : List ℕ) → length text ≤ limit → IsUtf8 text → (a : Result (List Stmt) ScriptFault) → TokensGive (tokens 1 0 text) a → IsAnswer text a
+answer_of_tokens : (text : List ℕ) → length text ≤ limit → IsUtf8 text → (a : Result (List Stmt) ScriptFault) → TokensGive (tokens 1 0 text) a → IsResultOf text a
 unfolding TokensGive
 answer_of_tokens text short utf8 (Ok stmts) h = record { short = short; utf8 = utf8; tokens = tokens 1 0 text; read = some_reading 1 text; script = h }
 answer_of_tokens text short utf8 (Err f) h = inr (inr (short, utf8, tokens 1 0 text, some_reading 1 text, h))
 
-pub some_answer : (text : List ℕ) → (a : Result (List Stmt) ScriptFault) × IsAnswer text a
+pub some_answer : (text : List ℕ) → (a : Result (List Stmt) ScriptFault) × IsResultOf text a
 some_answer text =
     elim (cases_lt limit (length text)) [
       | inl long ↦ (Err TooLong, inl (long, refl))

@@ -1,6 +1,6 @@
 -- Tokens that are not a script have exactly one fault.
 use Rattle.std.proofs.Common.{◌≡◌, ℕ, List, [], ◌∷◌, ◌++◌, Option, Some, refl, ap, sym, ◌∙◌, subst, append_assoc, ◌⊎◌, inl, inr, option_map}
-use Rattle.kt_script.proofs.Common.{append-nil, ScriptFault, Token, TokenKind, ScriptState, Start, Within, Stmt, Action, State, Named, Step, To, Ends, Statement, kinds, first_line, placed, Script, Begins, fault_of, last, open_lines, end_fault, Misfit, Unfinished, IsFaultOf, step, run, IsResting}
+use Rattle.kt_script.proofs.Common.{append-nil, ScriptFault, Token, TokenKind, ScriptState, Start, Within, Stmt, Action, State, Named, Step, To, Ends, Statement, kinds, first_line, placed, Script, Begins, fault_of, last, open_lines, end_fault, UnexpectedToken, Unfinished, IsFaultOf, step, run, IsBetweenStatements}
 use Rattle.kt_script.proofs.Complete.{walk, bind_some, joined, run-append, named_runs, statement_walks, script_runs}
 use Rattle.kt_script.proofs.Standing.{Script-append, one_stmt, begins_from, kinds-append}
 
@@ -26,11 +26,11 @@ begins_less front t m b =
     let e : (front ++ t ∷ m) ++ b.0 ≡ (front ++ t ∷ []) ++ (m ++ b.0) = simp append_assoc in
     (m ++ b.0, b.1, subst (λ (xs : List Token). Script xs b.1) e b.2)
 
--- no script begins with the tokens up to and including the token of a `Misfit`
-no_further : (ts : List Token) (f : ScriptFault) (m : Misfit ts f) (more : List Token) → Begins (m.front ++ m.token ∷ more) → ⊥
+-- no script begins with the tokens up to and including the token of a `UnexpectedToken`
+no_further : (ts : List Token) (f : ScriptFault) (m : UnexpectedToken ts f) (more : List Token) → Begins (m.front ++ m.token ∷ more) → ⊥
 no_further ts f m more b = m.unfit (begins_less m.front m.token more b)
 
-two_misfits : (ts : List Token) (f g : ScriptFault) → Misfit ts f → Misfit ts g → f ≡ g
+two_misfits : (ts : List Token) (f g : ScriptFault) → UnexpectedToken ts f → UnexpectedToken ts g → f ≡ g
 two_misfits ts f g m n =
     elim (splits m.front n.front m.token n.token m.rest n.rest (sym m.parts ∙ n.parts)) [
       | inl same ↦ m.is ∙ ap fault_of same.1 ∙ sym n.is
@@ -38,7 +38,7 @@ two_misfits ts f g m n =
       | inr (inr after) ↦ absurd (no_further ts g n after.0 (subst Begins after.1 m.begins))
     ]
 
-misfit_unfinished : (ts : List Token) (f g : ScriptFault) → Misfit ts f → Unfinished ts g → ⊥
+misfit_unfinished : (ts : List Token) (f g : ScriptFault) → UnexpectedToken ts f → Unfinished ts g → ⊥
 misfit_unfinished ts f g m u = no_further ts f m m.rest (subst Begins m.parts (begins_from u.whole u.begun ts u.more u.stmts u.action u.parts u.script u.statement))
 
 -- ---- the end within a statement
@@ -63,7 +63,7 @@ pub record Leads (ts : List Token) (line : ℕ) : Type 0 where
   pub runs : run Start ts ≡ Some (Within line state, done)
 
 -- the first tokens of a statement lead to a position within it
-phrase_leads : (t : Token) (b : List Token) (m : Token) (ms : List Token) (p : ScriptState) (a : Action) → IsResting p → Statement (kinds ((t ∷ b) ++ m ∷ ms)) a
+phrase_leads : (t : Token) (b : List Token) (m : Token) (ms : List Token) (p : ScriptState) (a : Action) → IsBetweenStatements p → Statement (kinds ((t ∷ b) ++ m ∷ ms)) a
     → (r : State) × (run p (t ∷ b) ≡ Some (Within t.line r, []))
 phrase_leads t b m ms p a rests st =
     let w = statement_walks (kinds ((t ∷ b) ++ m ∷ ms)) a st in

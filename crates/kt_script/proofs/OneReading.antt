@@ -1,16 +1,16 @@
 -- The tokens of a text by the rules are the tokens that the lexer returns.
 use Rattle.std.proofs.Common.{◌≡◌, ℕ, suc, ◌+◌, ◌-◌, ◌<◌, Bool, true, false, cond, List, [], ◌∷◌, ◌++◌, length, drop, Option, Some, None, refl, ap, sym, subst, ◌∙◌, arith, length-append, IfSome}
-use Rattle.kt_script.proofs.Common.{prefix_len, take-append_seam, drop-append_seam, append-nil, Flaw, TokenKind, Token, is_space, token, broken, begins_with_letter, decimal_from, mark_of, line_after, line_past, Blank, space, line_comment, long_comment, HasFlaw, large_number, lettered_number, endless_string, bad_escape, endless_comment, leveled_comment, lone_dash, strange, Word, a_name, a_number, a_string, a_mark, no_word, IsTokens, the_end, blank_and, word_and, piece_at, tokens, tokens_in}
+use Rattle.kt_script.proofs.Common.{prefix_len, take-append_seam, drop-append_seam, append-nil, Flaw, TokenKind, Token, is_space, token, broken, begins_with_letter, decimal_from, mark_of, line_after, line_past, Blank, space, line_comment, long_comment, HasFlaw, large_number, lettered_number, endless_string, bad_escape, endless_comment, leveled_comment, lone_dash, strange, IsToken, name_token, number_token, string_token, punctuation_token, broken_token, IsTokens, no_text, blank_first, token_first, lexeme_at, tokens, tokens_in}
 use Rattle.kt_script.proofs.PieceTokens.{tokens-end, tokens-piece}
 use Rattle.kt_script.proofs.ReadWords.{at_strange, every_mark, name_is, digits_are, number_is, large_is, lettered_is}
 use Rattle.kt_script.proofs.ReadStrings.{string_is, endless_is, bad_escape_is, long_is, endless_comment_is, leveled_is, line_is, dash_is}
 
 -- `IsRead bytes after kind`: the lexer reads `bytes`, followed by `after`, as one lexeme of `kind`
 pub record IsRead (bytes after : List ℕ) (kind : Option TokenKind) : Type 0 where
-  pub piece : piece_at (bytes ++ after) ≡ record { length = length bytes; kind = kind }
+  pub piece : lexeme_at (bytes ++ after) ≡ record { length = length bytes; kind = kind }
   pub some : 0 < length bytes
 
-flaw_read : (text : List ℕ) (flaw : Flaw) → HasFlaw text flaw → (piece_at text ≡ broken text flaw) × (0 < length text)
+flaw_read : (text : List ℕ) (flaw : Flaw) → HasFlaw text flaw → (lexeme_at text ≡ broken text flaw) × (0 < length text)
 flaw_read text flaw (large_number c cs after each stop large) =
     (digits_are c cs after each stop ∙ large_is ((c ∷ cs) ++ after) (length (c ∷ cs)) (begins_with_letter after) (decimal_from 0 (c ∷ cs)) large, omega arith)
 flaw_read text flaw (lettered_number c d cs after each letter) = (lettered_is c d cs after each letter, omega arith)
@@ -21,19 +21,19 @@ flaw_read text flaw (leveled_comment {text = t} long level) = (leveled_is t long
 flaw_read text flaw (lone_dash {text = t} other) = (dash_is t other, omega arith)
 flaw_read text flaw (strange {c = c} {cs = cs} is) = (at_strange c cs is, omega arith)
 
-mark_read : (c : ℕ) (after : List ℕ) → IfSome (mark_of c) (λ kind. piece_at (c ∷ after) ≡ token 1 kind)
-unfolding piece_at
-mark_read c after = every_mark (λ c kind. piece_at (c ∷ after) ≡ token 1 kind) refl refl refl refl refl refl refl refl refl refl c
+mark_read : (c : ℕ) (after : List ℕ) → IfSome (mark_of c) (λ kind. lexeme_at (c ∷ after) ≡ token 1 kind)
+unfolding lexeme_at
+mark_read c after = every_mark (λ c kind. lexeme_at (c ∷ after) ≡ token 1 kind) refl refl refl refl refl refl refl refl refl refl c
 
-pub word_read : (bytes after : List ℕ) (kind : TokenKind) → Word bytes after kind → IsRead bytes after (Some kind)
-word_read bytes after kind (a_name {c = c} {cs = cs} {after = rest} letter each stop) = record { piece = name_is c cs rest letter each stop; some = omega arith }
-word_read bytes after kind (a_number {c = c} {cs = cs} {after = rest} each stop small) = record { piece = number_is c cs rest each stop small; some = omega arith }
-word_read bytes after kind (a_string {quote = q} {words = w} {bytes = b} {after = rest} quote inside) = record { piece = string_is q w b rest quote inside; some = omega arith }
-word_read bytes after kind (a_mark {c = c} {kind = k} {after = rest} is) =
-    record { piece = subst (λ (o : Option TokenKind). IfSome o (λ x. piece_at (c ∷ rest) ≡ token 1 x)) is (mark_read c rest); some = omega arith }
-word_read bytes after kind (no_word {text = t} {flaw = f} flaw) =
+pub word_read : (bytes after : List ℕ) (kind : TokenKind) → IsToken bytes after kind → IsRead bytes after (Some kind)
+word_read bytes after kind (name_token {c = c} {cs = cs} {after = rest} letter each stop) = record { piece = name_is c cs rest letter each stop; some = omega arith }
+word_read bytes after kind (number_token {c = c} {cs = cs} {after = rest} each stop small) = record { piece = number_is c cs rest each stop small; some = omega arith }
+word_read bytes after kind (string_token {quote = q} {words = w} {bytes = b} {after = rest} quote inside) = record { piece = string_is q w b rest quote inside; some = omega arith }
+word_read bytes after kind (punctuation_token {c = c} {kind = k} {after = rest} is) =
+    record { piece = subst (λ (o : Option TokenKind). IfSome o (λ x. lexeme_at (c ∷ rest) ≡ token 1 x)) is (mark_read c rest); some = omega arith }
+word_read bytes after kind (broken_token {text = t} {flaw = f} flaw) =
     let r = flaw_read t f flaw in
-    record { piece = ap piece_at (append-nil t) ∙ r.0; some = r.1 }
+    record { piece = ap lexeme_at (append-nil t) ∙ r.0; some = r.1 }
 
 -- ---- tokens
 
@@ -44,7 +44,7 @@ read_step line bytes after kind r =
     ∙ ap (λ (xs : List ℕ). tokens_in line kind ++ tokens (line_past line bytes) 0 xs) (drop-append_seam bytes after)
 
 spaces_step : (line : ℕ) (cs : List ℕ) → tokens line (prefix_len is_space cs) cs ≡ tokens line 0 cs
-unfolding tokens piece_at
+unfolding tokens lexeme_at
 spaces_step line [] = refl
 spaces_step line (c ∷ cs) = by_space line c cs (is_space c) refl
   where
@@ -56,7 +56,7 @@ spaces_step line (c ∷ cs) = by_space line c cs (is_space c) refl
         ap (λ (n : ℕ). tokens line n (c ∷ cs)) m ∙ sym (rw (e, less) refl)
 
 pub space_step : (line c : ℕ) (cs : List ℕ) → is_space c ≡ true → tokens line 0 (c ∷ cs) ≡ tokens (line_after line c) 0 cs
-unfolding tokens piece_at
+unfolding tokens lexeme_at
 space_step line c cs e =
     let less : (1 + prefix_len is_space cs) - 1 ≡ prefix_len is_space cs = omega arith in
     let here : tokens line 0 (c ∷ cs) ≡ tokens (line_after line c) (prefix_len is_space cs) cs = rw (e, less) refl in
@@ -68,9 +68,9 @@ blank_step line bytes after (line_comment {words = w} {after = rest} long level 
 blank_step line bytes after (long_comment {words = w} {after = rest} closes) = read_step line (45 ∷ 45 ∷ 91 ∷ 91 ∷ w) rest None (record { piece = long_is w rest closes; some = omega arith })
 
 pub one_reading : (line : ℕ) (text : List ℕ) (ts : List Token) → IsTokens line text ts → ts ≡ tokens line 0 text
-one_reading line text ts the_end = sym (tokens-end line)
-one_reading line text ts (blank_and {blank = b} {rest = rest} {ts = us} is more) = one_reading (line_past line b) rest us more ∙ sym (blank_step line b rest is)
-one_reading line text ts (word_and {bytes = w} {rest = rest} {kind = k} {ts = us} is more) =
+one_reading line text ts no_text = sym (tokens-end line)
+one_reading line text ts (blank_first {blank = b} {rest = rest} {ts = us} is more) = one_reading (line_past line b) rest us more ∙ sym (blank_step line b rest is)
+one_reading line text ts (token_first {bytes = w} {rest = rest} {kind = k} {ts = us} is more) =
     ap (λ (xs : List Token). record { line = line; kind = k } ∷ xs) (one_reading (line_past line w) rest us more) ∙ sym (read_step line w rest (Some k) (word_read w rest k is))
 
 -- a text has at most one list of tokens

@@ -1,7 +1,7 @@
 -- A lexeme is not empty and ends at a character boundary: ASCII precedes or follows its end, or the
 -- text ends there.
 use Rattle.std.proofs.Common.{◌≡◌, ℕ, ◌+◌, ◌<◌, Bool, true, false, eqb, ◌||◌, List, [], ◌∷◌, ◌++◌, length, get_or, Option, Some, None, refl, ap, sym, subst, ◌∙◌, arith, append_assoc, length-append, inl, inr, IsUtf8}
-use Rattle.kt_script.proofs.Common.{nat_tests, append-nil, IsCharBoundary, prefix_len, eqb-true, not-false, IsCharBoundary-end, IsCharBoundary-after_ascii, IsCharBoundary-from_rest, TokenKind, Lexeme, is_space, is_word, is_digit, mark_of, piece_at, Each, StopsAt, in_line, Closes, not_yet, Blank, space, line_comment, long_comment, Word, a_name, a_number, a_string, a_mark, no_word}
+use Rattle.kt_script.proofs.Common.{nat_tests, append-nil, IsCharBoundary, prefix_len, eqb-true, not-false, IsCharBoundary-end, IsCharBoundary-after_ascii, IsCharBoundary-from_rest, TokenKind, Lexeme, is_space, is_word, is_digit, mark_of, lexeme_at, Each, StopsAt, is_not_newline, Closes, not_yet, Blank, space, line_comment, long_comment, IsToken, name_token, number_token, string_token, punctuation_token, broken_token}
 use Rattle.std.proofs.lemmas.List.{get_or_at}
 use Rattle.kt_script.specs.TokenRules.{closed}
 use Rattle.kt_script.proofs.Cuts.{passing_cut, stopping_cut, space_small, digit_small, word_small}
@@ -34,15 +34,15 @@ last_cut xs c after small u =
 mark_small : (c : ℕ) (kind : TokenKind) → mark_of c ≡ Some kind → c < 128
 mark_small c kind is = grind (arith, nat_tests, is)
 
-word_cut : (bytes after : List ℕ) (kind : TokenKind) → Word bytes after kind → IsUtf8 (bytes ++ after) → IsCharBoundary (bytes ++ after) (length bytes)
-word_cut bytes after kind (a_name {c = c} {cs = cs} {after = rest} letter each stop) u =
+word_cut : (bytes after : List ℕ) (kind : TokenKind) → IsToken bytes after kind → IsUtf8 (bytes ++ after) → IsCharBoundary (bytes ++ after) (length bytes)
+word_cut bytes after kind (name_token {c = c} {cs = cs} {after = rest} letter each stop) u =
     run_cut is_word word_small (c ∷ cs) rest (ap (λ (b : Bool). b || is_digit c) letter, each) stop u
-word_cut bytes after kind (a_number {c = c} {cs = cs} {after = rest} each stop small) u =
+word_cut bytes after kind (number_token {c = c} {cs = cs} {after = rest} each stop small) u =
     run_cut is_digit digit_small (c ∷ cs) rest each (stops_digits rest stop).0 u
-word_cut bytes after kind (a_string {quote = q} {words = w} {after = rest} quote inside) u =
+word_cut bytes after kind (string_token {quote = q} {words = w} {after = rest} quote inside) u =
     last_cut (q ∷ w) q rest (omega (arith, (quote_range q quote).1)) u
-word_cut bytes after kind (a_mark {c = c} {kind = k} {after = rest} is) u = last_cut [] c rest (mark_small c k is) u
-word_cut bytes after kind (no_word {text = t} flaw) u =
+word_cut bytes after kind (punctuation_token {c = c} {kind = k} {after = rest} is) u = last_cut [] c rest (mark_small c k is) u
+word_cut bytes after kind (broken_token {text = t} flaw) u =
     subst (λ (xs : List ℕ). IsCharBoundary xs (length t)) (sym (append-nil t)) (IsCharBoundary-end t)
 
 -- ---- blanks
@@ -53,13 +53,13 @@ closes_last words after closed = (93 ∷ [], refl)
 closes_last words after (not_yet {c = c} {cs = cs} {after = rest} none more) =
     let last = closes_last cs rest more in (c ∷ last.0, ap (λ (xs : List ℕ). c ∷ xs) last.1)
 
-newline_small : (c : ℕ) → in_line c ≡ false → c < 128
+newline_small : (c : ℕ) → is_not_newline c ≡ false → c < 128
 newline_small c e = omega (arith, eqb-true c 10 (not-false (eqb c 10) e))
 
-line_cut : (words after : List ℕ) → Each in_line words → StopsAt in_line after
+line_cut : (words after : List ℕ) → Each is_not_newline words → StopsAt is_not_newline after
     → IsCharBoundary (45 ∷ 45 ∷ (words ++ after)) (length (45 ∷ 45 ∷ words))
 line_cut words after each stop =
-    let here = subst (IsCharBoundary (words ++ after)) (each_run in_line words after each stop) (stopping_cut in_line newline_small (words ++ after)) in
+    let here = subst (IsCharBoundary (words ++ after)) (each_run is_not_newline words after each stop) (stopping_cut is_not_newline newline_small (words ++ after)) in
     let len : 2 + length words ≡ length (45 ∷ 45 ∷ words) = omega arith in
     subst (IsCharBoundary (45 ∷ 45 ∷ (words ++ after))) len (IsCharBoundary-from_rest (45 ∷ 45 ∷ (words ++ after)) 2 (length words) (omega arith) here)
 
@@ -76,14 +76,14 @@ long_cut words after closes u =
 -- ---- lexemes
 
 read_cut : (bytes after : List ℕ) (kind : Option TokenKind) → IsRead bytes after kind → IsCharBoundary (bytes ++ after) (length bytes)
-    → IsCut (bytes ++ after) (piece_at (bytes ++ after)).length
+    → IsCut (bytes ++ after) (lexeme_at (bytes ++ after)).length
 read_cut bytes after kind read boundary =
-    let e : length bytes ≡ (piece_at (bytes ++ after)).length = ap (λ (p : Lexeme). p.length) (sym read.piece) in
+    let e : length bytes ≡ (lexeme_at (bytes ++ after)).length = ap (λ (p : Lexeme). p.length) (sym read.piece) in
     record { some = subst (λ (n : ℕ). 0 < n) e read.some; boundary = subst (IsCharBoundary (bytes ++ after)) e boundary }
 
 -- the lexeme at white space or a comment ends at a character boundary
-blank_cut : (bytes after : List ℕ) → Blank bytes after → IsUtf8 (bytes ++ after) → IsCut (bytes ++ after) (piece_at (bytes ++ after)).length
-unfolding piece_at
+blank_cut : (bytes after : List ℕ) → Blank bytes after → IsUtf8 (bytes ++ after) → IsCut (bytes ++ after) (lexeme_at (bytes ++ after)).length
+unfolding lexeme_at
 blank_cut bytes after (space {c = c} {after = rest} is) u =
     let run : IsCharBoundary (c ∷ rest) (1 + prefix_len is_space rest) = rw is at (passing_cut is_space space_small (c ∷ rest) u) in
     rw is (record { some = omega arith; boundary = run })
@@ -92,15 +92,15 @@ blank_cut bytes after (line_comment {words = w} {after = rest} long level each s
 blank_cut bytes after (long_comment {words = w} {after = rest} closes) u =
     read_cut (45 ∷ 45 ∷ 91 ∷ 91 ∷ w) rest None (record { piece = long_is w rest closes; some = omega arith }) (long_cut w rest closes u)
 
-some_cut : (text : List ℕ) → IsUtf8 text → 0 < length text → IsCut text (piece_at text).length
+some_cut : (text : List ℕ) → IsUtf8 text → 0 < length text → IsCut text (lexeme_at text).length
 some_cut [] u some = absurd (omega arith)
 some_cut (c ∷ cs) u some =
     elim (something_first c cs) [
-      | inl b ↦ subst (λ (xs : List ℕ). IsCut xs (piece_at xs).length) (sym b.parts) (blank_cut b.front b.rest b.is (subst IsUtf8 b.parts u))
+      | inl b ↦ subst (λ (xs : List ℕ). IsCut xs (lexeme_at xs).length) (sym b.parts) (blank_cut b.front b.rest b.is (subst IsUtf8 b.parts u))
       | inr w ↦
           let cut = read_cut w.front w.rest (Some w.kind) (word_read w.front w.rest w.kind w.is) (word_cut w.front w.rest w.kind w.is (subst IsUtf8 w.parts u)) in
-          subst (λ (xs : List ℕ). IsCut xs (piece_at xs).length) (sym w.parts) cut
+          subst (λ (xs : List ℕ). IsCut xs (lexeme_at xs).length) (sym w.parts) cut
     ]
 
-pub piece_cut : (piece : Lexeme) (text : List ℕ) → IsUtf8 text → 0 < length text → piece ≡ piece_at text → IsCut text piece.length
+pub piece_cut : (piece : Lexeme) (text : List ℕ) → IsUtf8 text → 0 < length text → piece ≡ lexeme_at text → IsCut text piece.length
 piece_cut piece text u some is = subst (λ (p : Lexeme). IsCut text p.length) (sym is) (some_cut text u some)

@@ -1,6 +1,6 @@
 -- The tokens of a text, lexeme by lexeme.
 use Rattle.std.proofs.Common.{◌≡◌, ℕ, zero, suc, ◌-◌, ◌<◌, ◌≤◌, List, [], ◌∷◌, ◌++◌, length, take, drop, refl, ap, sym, ◌∙◌, arith}
-use Rattle.kt_script.proofs.Common.{Lexeme, Token, piece_at, tokens, tokens_in, line_after, line_past}
+use Rattle.kt_script.proofs.Common.{Lexeme, Token, lexeme_at, tokens, tokens_in, line_after, line_past}
 
 -- `tokens` skips the remaining `n` bytes of a lexeme: the tokens are those of the text after them
 past_piece : (n line : ℕ) (cs : List ℕ) → n ≤ length cs → tokens line n cs ≡ tokens (line_past line (take n cs)) 0 (drop n cs)
@@ -9,7 +9,7 @@ past_piece zero line cs le = refl
 past_piece (suc n) line [] le = absurd (omega arith)
 past_piece (suc n) line (c ∷ cs) le = past_piece n (line_after line c) cs (omega arith)
 
-pub tokens-piece : (line : ℕ) (text : List ℕ) (piece : Lexeme) → piece ≡ piece_at text → 0 < piece.length → piece.length ≤ length text
+pub tokens-piece : (line : ℕ) (text : List ℕ) (piece : Lexeme) → piece ≡ lexeme_at text → 0 < piece.length → piece.length ≤ length text
     → tokens line 0 text ≡ tokens_in line piece.kind ++ tokens (line_past line (take piece.length text)) 0 (drop piece.length text)
 unfolding tokens
 tokens-piece line [] piece is some fits = absurd (omega arith)

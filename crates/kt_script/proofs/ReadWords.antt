@@ -1,6 +1,6 @@
--- `piece_at` returns the name or number at the beginning of a text.
+-- `lexeme_at` returns the name or number at the beginning of a text.
 use Rattle.std.proofs.Common.{◌≡◌, ℕ, ◌+◌, ◌<◌, ◌≤◌, ◌^◌, Bool, true, false, cond, eqb, ◌||◌, List, [], ◌∷◌, ◌++◌, length, take, Option, Some, None, refl, ap, sym, subst, ◌∙◌, arith, IfSome}
-use Rattle.kt_script.proofs.Common.{nat_tests, or_parts, prefix_len, take-append_seam, drop-append_seam, eqb-true, Bad, TokenKind, Number, OpenParen, CloseParen, OpenBrace, CloseBrace, OpenBracket, CloseBracket, Equals, Comma, Semicolon, Dot, mark_of, is_space, is_letter, is_word, is_digit, decimal_from, fits, token, broken, word, Each, StopsAt, is_quote, IsStrange, name_at, number, number_at, begins_with_letter, quoted_at, comment_at, piece_at}
+use Rattle.kt_script.proofs.Common.{nat_tests, or_parts, prefix_len, take-append_seam, drop-append_seam, eqb-true, Bad, TokenKind, Number, OpenParen, CloseParen, OpenBrace, CloseBrace, OpenBracket, CloseBracket, Equals, Comma, Semicolon, Dot, mark_of, is_space, is_letter, is_word, is_digit, decimal_from, fits, token, broken, word, Each, StopsAt, is_quote, IsInvalidFirstByte, name_at, number, number_at, begins_with_letter, quoted_at, comment_at, lexeme_at}
 
 -- ---- classes
 
@@ -32,45 +32,45 @@ each_run p (x ∷ xs) after h stop = grind (arith, h.0, each_run p xs after h.1 
 
 -- ---- the lexeme that begins with a byte
 
-pub at_letter : (c : ℕ) (cs : List ℕ) → is_letter c ≡ true → piece_at (c ∷ cs) ≡ name_at (c ∷ cs)
-unfolding piece_at
+pub at_letter : (c : ℕ) (cs : List ℕ) → is_letter c ≡ true → lexeme_at (c ∷ cs) ≡ name_at (c ∷ cs)
+unfolding lexeme_at
 at_letter c cs e = let no_space : is_space c ≡ false = grind (arith, nat_tests, e) in rw (no_space, e) refl
 
-pub at_digit : (c : ℕ) (cs : List ℕ) → is_digit c ≡ true → piece_at (c ∷ cs) ≡ number_at (c ∷ cs)
-unfolding piece_at
+pub at_digit : (c : ℕ) (cs : List ℕ) → is_digit c ≡ true → lexeme_at (c ∷ cs) ≡ number_at (c ∷ cs)
+unfolding lexeme_at
 at_digit c cs e =
     let no_space : is_space c ≡ false = grind (arith, nat_tests, e) in
     let no_letter : is_letter c ≡ false = grind (arith, nat_tests, e) in
     rw (no_space, no_letter, e) refl
 
-pub at_quote : (c : ℕ) (cs : List ℕ) → is_quote c ≡ true → piece_at (c ∷ cs) ≡ quoted_at c (c ∷ cs)
-unfolding piece_at
+pub at_quote : (c : ℕ) (cs : List ℕ) → is_quote c ≡ true → lexeme_at (c ∷ cs) ≡ quoted_at c (c ∷ cs)
+unfolding lexeme_at
 at_quote c cs e =
     let no_space : is_space c ≡ false = grind (arith, nat_tests, e) in
     let no_letter : is_letter c ≡ false = grind (arith, nat_tests, e) in
     let no_digit : is_digit c ≡ false = grind (arith, nat_tests, e) in
     rw (no_space, no_letter, no_digit, e) refl
 
-pub at_dash : (cs : List ℕ) → piece_at (45 ∷ cs) ≡ comment_at (45 ∷ cs)
-unfolding piece_at
+pub at_dash : (cs : List ℕ) → lexeme_at (45 ∷ cs) ≡ comment_at (45 ∷ cs)
+unfolding lexeme_at
 at_dash cs = refl
 
-pub at_strange : (c : ℕ) (cs : List ℕ) → IsStrange c → piece_at (c ∷ cs) ≡ broken (c ∷ cs) Bad
-unfolding piece_at
+pub at_strange : (c : ℕ) (cs : List ℕ) → IsInvalidFirstByte c → lexeme_at (c ∷ cs) ≡ broken (c ∷ cs) Bad
+unfolding lexeme_at
 at_strange c cs s =
     let a = s.no_space in let b = s.no_letter in let d = s.no_digit in let q = s.no_quote in let m = s.no_dash in let n = s.no_mark in
     rw (a, b, d, q, m, n) refl
 
 -- ---- names and numbers
 
-pub name_is : (c : ℕ) (cs after : List ℕ) → is_letter c ≡ true → Each is_word cs → StopsAt is_word after → piece_at ((c ∷ cs) ++ after) ≡ token (length (c ∷ cs)) (word (c ∷ cs))
+pub name_is : (c : ℕ) (cs after : List ℕ) → is_letter c ≡ true → Each is_word cs → StopsAt is_word after → lexeme_at ((c ∷ cs) ++ after) ≡ token (length (c ∷ cs)) (word (c ∷ cs))
 name_is c cs after e each stop =
     let first : is_word c ≡ true = ap (λ (b : Bool). b || is_digit c) e in
     at_letter c (cs ++ after) e ∙ ap (λ (n : ℕ). token n (word (take n ((c ∷ cs) ++ after)))) (each_run is_word (c ∷ cs) after (first, each) stop)
     ∙ ap (λ (letters : List ℕ). token (length (c ∷ cs)) (word letters)) (take-append_seam (c ∷ cs) after)
 
 pub digits_are : (c : ℕ) (cs after : List ℕ) → Each is_digit (c ∷ cs) → StopsAt is_digit after
-    → piece_at ((c ∷ cs) ++ after) ≡ number ((c ∷ cs) ++ after) (length (c ∷ cs)) (begins_with_letter after) (fits (decimal_from 0 (c ∷ cs)))
+    → lexeme_at ((c ∷ cs) ++ after) ≡ number ((c ∷ cs) ++ after) (length (c ∷ cs)) (begins_with_letter after) (fits (decimal_from 0 (c ∷ cs)))
 digits_are c cs after each stop =
     at_digit c (cs ++ after) each.0
     ∙ rw (each_run is_digit (c ∷ cs) after each stop, drop-append_seam (c ∷ cs) after, take-append_seam (c ∷ cs) after) refl
@@ -81,7 +81,7 @@ stops_digits (c ∷ cs) stop =
     let parts = or_parts (is_letter c) (is_digit c) stop in
     (parts.1, parts.0)
 
-pub number_is : (c : ℕ) (cs after : List ℕ) → Each is_digit (c ∷ cs) → StopsAt is_word after → decimal_from 0 (c ∷ cs) < 2 ^ 64 → piece_at ((c ∷ cs) ++ after) ≡ token (length (c ∷ cs)) (Number (decimal_from 0 (c ∷ cs)))
+pub number_is : (c : ℕ) (cs after : List ℕ) → Each is_digit (c ∷ cs) → StopsAt is_word after → decimal_from 0 (c ∷ cs) < 2 ^ 64 → lexeme_at ((c ∷ cs) ++ after) ≡ token (length (c ∷ cs)) (Number (decimal_from 0 (c ∷ cs)))
 number_is c cs after each stop small =
     let s = stops_digits after stop in
     let no_letter = s.1 in
@@ -93,6 +93,6 @@ large_is text n b v large = grind (arith, nat_tests)
 letter_no_digit : (d : ℕ) → is_letter d ≡ true → is_digit d ≡ false
 letter_no_digit d e = grind (arith, nat_tests, e)
 
-pub lettered_is : (c d : ℕ) (cs after : List ℕ) → Each is_digit (c ∷ cs) → is_letter d ≡ true → piece_at ((c ∷ cs) ++ d ∷ after) ≡ broken ((c ∷ cs) ++ d ∷ after) Bad
+pub lettered_is : (c d : ℕ) (cs after : List ℕ) → Each is_digit (c ∷ cs) → is_letter d ≡ true → lexeme_at ((c ∷ cs) ++ d ∷ after) ≡ broken ((c ∷ cs) ++ d ∷ after) Bad
 lettered_is c d cs after each letter =
     digits_are c cs (d ∷ after) each (letter_no_digit d letter) ∙ ap (λ (b : Bool). number ((c ∷ cs) ++ d ∷ after) (length (c ∷ cs)) b (fits (decimal_from 0 (c ∷ cs)))) letter

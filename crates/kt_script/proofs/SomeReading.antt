@@ -1,6 +1,6 @@
 -- Each text has tokens by the rules, and the lexer returns these tokens.
 use Rattle.std.proofs.Common.{◌≡◌, ℕ, zero, suc, ◌≤◌, Bool, true, false, eqb, ◌&&◌, List, [], ◌∷◌, ◌++◌, length, drop, Option, Some, None, refl, ap, sym, subst, ◌∙◌, arith, length-append, ◌⊎◌, inl, inr, nat_eq, codes}
-use Rattle.kt_script.proofs.Common.{starts_with, cases_Bool, eqb-true, Bad, Leveled, Endless, TokenKind, Token, is_space, is_letter, is_digit, mark_of, line_past, is_quote, in_line, Closes, not_yet, NeverCloses, opens_long, opens_level, space, line_comment, long_comment, endless_comment, leveled_comment, lone_dash, strange, a_mark, IsTokens, the_end, blank_and, word_and, tokens}
+use Rattle.kt_script.proofs.Common.{starts_with, cases_Bool, eqb-true, Bad, Leveled, Endless, TokenKind, Token, is_space, is_letter, is_digit, mark_of, line_past, is_quote, is_not_newline, Closes, not_yet, HasNoCommentEnd, opens_long_comment, opens_leveled_comment, space, line_comment, long_comment, endless_comment, leveled_comment, lone_dash, strange, punctuation_token, IsTokens, no_text, blank_first, token_first, tokens}
 use Rattle.kt_script.specs.TokenRules.{closed}
 use Rattle.std.proofs.lemmas.Bool.Decides.{Decides-eqb}
 use Rattle.std.proofs.lemmas.Slice.Eq.{starts_is}
@@ -20,7 +20,7 @@ record Closing (text : List ℕ) : Type 0 where
   pub parts : text ≡ front ++ rest
   pub is : Closes front rest
 
-closing : (text : List ℕ) → Closing text ⊎ NeverCloses text
+closing : (text : List ℕ) → Closing text ⊎ HasNoCommentEnd text
 closing [] = inr tt
 closing (c ∷ cs) =
     elim (cases_Bool (starts_with nat_eq (c ∷ cs) (codes "]]"))) [
@@ -36,23 +36,23 @@ closing (c ∷ cs) =
 -- a text that begins with `--` begins with a comment or a broken token
 comment_first : (text : List ℕ) → BlankFirst (45 ∷ 45 ∷ text) ⊎ WordFirst (45 ∷ 45 ∷ text)
 comment_first text =
-    elim (cases_Bool (opens_long text)) [
+    elim (cases_Bool (opens_long_comment text)) [
       | inl long ↦
           let parts : 45 ∷ 45 ∷ text ≡ 45 ∷ 45 ∷ 91 ∷ 91 ∷ drop 2 text = ap (λ (xs : List ℕ). 45 ∷ 45 ∷ xs) (begins_with text (codes "[[") long) in
           elim (closing (drop 2 text)) [
             | inl h ↦ inl (record { front = 45 ∷ 45 ∷ 91 ∷ 91 ∷ h.front; rest = h.rest; parts = parts ∙ ap (λ (xs : List ℕ). 45 ∷ 45 ∷ 91 ∷ 91 ∷ xs) h.parts; some = omega arith; is = long_comment h.is })
             | inr never ↦ inr (flawed (45 ∷ 45 ∷ text) (45 ∷ 45 ∷ 91 ∷ 91 ∷ drop 2 text) Endless parts (omega arith) (endless_comment never))
           ]
-      | inr short ↦ elim (cases_Bool (opens_level text)) [
+      | inr short ↦ elim (cases_Bool (opens_leveled_comment text)) [
         | inl level ↦ inr (flawed (45 ∷ 45 ∷ text) (45 ∷ 45 ∷ text) Leveled refl (omega arith) (leveled_comment short level))
         | inr plain ↦
-            let r = run in_line text in
+            let r = run is_not_newline text in
             inl (record {
               front = 45 ∷ 45 ∷ r.front;
               rest = r.rest;
               parts = ap (λ (xs : List ℕ). 45 ∷ 45 ∷ xs) r.parts;
               some = omega arith;
-              is = line_comment (ap opens_long (sym r.parts) ∙ short) (ap opens_level (sym r.parts) ∙ plain) r.each r.stop;
+              is = line_comment (ap opens_long_comment (sym r.parts) ∙ short) (ap opens_leveled_comment (sym r.parts) ∙ plain) r.each r.stop;
             })
       ]
     ]
@@ -69,7 +69,7 @@ dash_first (c ∷ cs) = by_dash c cs (eqb 45 c) refl
 
 mark_first : (c : ℕ) (cs : List ℕ) (o : Option TokenKind) → mark_of c ≡ o → is_space c ≡ false → is_letter c ≡ false → is_digit c ≡ false → is_quote c ≡ false → eqb c 45 ≡ false → WordFirst (c ∷ cs)
 mark_first c cs None m s l d q h = flawed (c ∷ cs) (c ∷ cs) Bad refl (omega arith) (strange (record { no_space = s; no_letter = l; no_digit = d; no_quote = q; no_dash = h; no_mark = m }))
-mark_first c cs (Some k) m s l d q h = record { front = c ∷ []; rest = cs; parts = refl; some = omega arith; kind = k; is = a_mark m }
+mark_first c cs (Some k) m s l d q h = record { front = c ∷ []; rest = cs; parts = refl; some = omega arith; kind = k; is = punctuation_token m }
 
 pub something_first : (c : ℕ) (cs : List ℕ) → BlankFirst (c ∷ cs) ⊎ WordFirst (c ∷ cs)
 something_first c cs =
@@ -98,17 +98,17 @@ record Reading (line : ℕ) (text : List ℕ) : Type 0 where
   pub are : IsTokens line text tokens
 
 reading : (n line : ℕ) (text : List ℕ) → length text ≤ n → Reading line text
-reading n line [] le = record { tokens = []; are = the_end }
+reading n line [] le = record { tokens = []; are = no_text }
 reading zero line (c ∷ cs) le = absurd (omega arith)
 reading (suc n) line (c ∷ cs) le =
     elim (something_first c cs) [
       | inl b ↦
           let r = reading n (line_past line b.front) b.rest (omega (arith, le, b.some, ap length b.parts, length-append b.front b.rest)) in
-          record { tokens = r.tokens; are = subst (λ (xs : List ℕ). IsTokens line xs r.tokens) (sym b.parts) (blank_and b.is r.are) }
+          record { tokens = r.tokens; are = subst (λ (xs : List ℕ). IsTokens line xs r.tokens) (sym b.parts) (blank_first b.is r.are) }
       | inr w ↦
           let r = reading n (line_past line w.front) w.rest (omega (arith, le, w.some, ap length w.parts, length-append w.front w.rest)) in
           let ts : List Token = record { line = line; kind = w.kind } ∷ r.tokens in
-          record { tokens = ts; are = subst (λ (xs : List ℕ). IsTokens line xs ts) (sym w.parts) (word_and w.is r.are) }
+          record { tokens = ts; are = subst (λ (xs : List ℕ). IsTokens line xs ts) (sym w.parts) (token_first w.is r.are) }
     ]
 
 pub some_reading : (line : ℕ) (text : List ℕ) → IsTokens line text (tokens line 0 text)

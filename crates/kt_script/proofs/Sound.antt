@@ -1,28 +1,28 @@
 -- The parser is sound: accepted tokens are a script, and no script continues with a rejected token.
 use Rattle.std.proofs.Common.{◌≡◌, ℕ, List, [], ◌∷◌, ◌++◌, Option, Some, None, refl, ap, sym, ◌∙◌, subst, append_assoc, inl, inr, option_map}
-use Rattle.kt_script.proofs.Common.{append-nil, Token, ScriptState, Start, Whole, Within, Stmt, State, Script, fault_of, last, open_lines, end_fault, IsFaultOf, step, next, option_to_list, run, IsResting}
+use Rattle.kt_script.proofs.Common.{append-nil, Token, ScriptState, Start, Whole, Within, Stmt, State, Script, fault_of, last, open_lines, end_fault, IsFaultOf, step, next, option_to_list, run, IsBetweenStatements}
 use Rattle.kt_script.proofs.Complete.{joined, run-append, script_runs}
 use Rattle.kt_script.proofs.Standing.{Stands, whole_script, from_start, finished, stands_begins}
 use Rattle.std.proofs.lemmas.Option.{same_Some}
 
 -- ---- theorems
 
-resting_script : (p : ScriptState) (ss : List Stmt) (ts : List Token) → IsResting p → Stands p ss ts → Script ts ss
+resting_script : (p : ScriptState) (ss : List Stmt) (ts : List Token) → IsBetweenStatements p → Stands p ss ts → Script ts ss
 resting_script Start ss ts r h = h
 resting_script Whole ss ts r h = whole_script ss ts h
 resting_script (Within line q) ss ts r h = elim r [ ]
 
 -- tokens that lead to a position between statements are a script of the collected statements
-pub accepted : (ts : List Token) (p : ScriptState) (ss : List Stmt) → run Start ts ≡ Some (p, ss) → IsResting p → Script ts ss
+pub accepted : (ts : List Token) (p : ScriptState) (ss : List Stmt) → run Start ts ≡ Some (p, ss) → IsBetweenStatements p → Script ts ss
 accepted ts p ss e r = resting_script p ss ts r (from_start ts p ss e)
 
 -- the tokens of a script lead to a position between statements, with its statements
-pub only : (ts : List Token) (p : ScriptState) (ss rs : List Stmt) → run Start ts ≡ Some (p, ss) → Script ts rs → IsResting p × (rs ≡ ss)
+pub only : (ts : List Token) (p : ScriptState) (ss rs : List Stmt) → run Start ts ≡ Some (p, ss) → Script ts rs → IsBetweenStatements p × (rs ≡ ss)
 only ts p ss rs e script =
     let s = script_runs ts rs script Start tt in
     let same : (s.place, rs) ≡ (p, ss) = same_Some (s.place, rs) (p, ss) (sym s.runs ∙ e) in
     let place : s.place ≡ p = ap (λ (x : ScriptState × List Stmt). x.0) same in
-    (subst IsResting place s.rests, ap (λ (x : ScriptState × List Stmt). x.1) same)
+    (subst IsBetweenStatements place s.rests, ap (λ (x : ScriptState × List Stmt). x.1) same)
 
 -- tokens are a script of at most one list of statements
 pub one_script : (ts : List Token) (ss rs : List Stmt) → Script ts ss → Script ts rs → ss ≡ rs

@@ -1,6 +1,6 @@
 -- A string as runs of plain bytes with stops between them.
 use Rattle.std.proofs.Common.{◌≡◌, ℕ, suc, ◌+◌, Bool, true, false, eqb, List, [], ◌∷◌, ◌++◌, take, drop, Option, Some, None, Result, Ok, Err, refl, ap, sym, ◌∙◌, append_assoc, arith, inl, inr}
-use Rattle.kt_script.proofs.Common.{nat_tests, prefix_len, cases_Bool, Flaw, StringStop, Quote, Escape, Flawed, with_front, escaped, escape_stop, escape_at, stop_at, string_at, escape_of, is_plain}
+use Rattle.kt_script.proofs.Common.{nat_tests, prefix_len, cases_Bool, Flaw, StringEnd, Quote, Escape, Flawed, with_front, escaped, escape_end, escape_at, string_end_at, string_at, escape_of, is_plain}
 
 pub with_front_twice : (xs ys : List ℕ) (n m : ℕ) (r : Result (List ℕ × ℕ) Flaw) → with_front xs n (with_front ys m r) ≡ with_front (xs ++ ys) (n + m) r
 with_front_twice xs ys n m r = grind (arith, append_assoc {A = ℕ})
@@ -46,12 +46,12 @@ no_more p (c ∷ cs) =
 -- ---- the stop after plain bytes
 
 -- `after_stop quote text stop`: the string from `stop` on, at the beginning of `text`
-abbrev pub after_stop : ℕ → List ℕ → StringStop → Result (List ℕ × ℕ) Flaw
+abbrev pub after_stop : ℕ → List ℕ → StringEnd → Result (List ℕ × ℕ) Flaw
 after_stop quote text Quote = Ok ([], 1)
 after_stop quote text (Flawed flaw) = Err flaw
 after_stop quote text (Escape c) = with_front (c ∷ []) 2 (string_at quote false (drop 2 text))
 
-escape_follows : (quote c d : ℕ) (ds : List ℕ) (o : Option ℕ) → with_front [] 1 (escaped o (string_at quote false ds)) ≡ after_stop quote (c ∷ d ∷ ds) (escape_stop o)
+escape_follows : (quote c d : ℕ) (ds : List ℕ) (o : Option ℕ) → with_front [] 1 (escaped o (string_at quote false ds)) ≡ after_stop quote (c ∷ d ∷ ds) (escape_end o)
 escape_follows quote c d ds None = refl
 escape_follows quote c d ds (Some e) = with_front_twice [] (e ∷ []) 1 1 (string_at quote false ds)
 
@@ -59,6 +59,6 @@ slash_follows : (quote c : ℕ) (cs : List ℕ) → with_front [] 1 (string_at q
 slash_follows quote c [] = refl
 slash_follows quote c (d ∷ ds) = escape_follows quote c d ds (escape_of d)
 
-pub stops : (quote : ℕ) (text : List ℕ) → prefix_len (is_plain quote) text ≡ 0 → string_at quote false text ≡ after_stop quote text (stop_at quote text)
+pub stops : (quote : ℕ) (text : List ℕ) → prefix_len (is_plain quote) text ≡ 0 → string_at quote false text ≡ after_stop quote text (string_end_at quote text)
 stops quote [] none = refl
 stops quote (c ∷ cs) none = grind (arith, nat_tests, slash_follows quote c cs, none)

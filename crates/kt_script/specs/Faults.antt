@@ -14,19 +14,19 @@ IfFault (Err fault) P = P fault
 abbrev pub Begins : List Token → Type 0
 Begins ts = (more : List Token) × (stmts : List Stmt) × Script (ts ++ more) stmts
 
--- `own_fault line kind`: the fault of a token of `kind` on `line` that no script allows.
-abbrev pub own_fault : ℕ → TokenKind → ScriptFault
-own_fault line (Broken Bad) = BadToken line
-own_fault line (Broken Endless) = Unclosed line
-own_fault line _ = NotLiteral line
+-- `token_kind_fault line kind`: the fault of a token of `kind` on `line` that no script allows.
+abbrev pub token_kind_fault : ℕ → TokenKind → ScriptFault
+token_kind_fault line (Broken Bad) = BadToken line
+token_kind_fault line (Broken Endless) = Unclosed line
+token_kind_fault line _ = NotLiteral line
 
 -- `fault_of t`: the fault of the token `t` if no script allows it.
 abbrev pub fault_of : Token → ScriptFault
-fault_of t = own_fault t.line t.kind
+fault_of t = token_kind_fault t.line t.kind
 
--- `Misfit ts fault`: the grammar does not allow one of the tokens `ts` after the tokens before it,
+-- `UnexpectedToken ts fault`: the grammar does not allow one of the tokens `ts` after the tokens before it,
 -- and `fault` is the fault of the first such token.
-pub record Misfit (ts : List Token) (fault : ScriptFault) : Type 0 where
+pub record UnexpectedToken (ts : List Token) (fault : ScriptFault) : Type 0 where
   pub front : List Token
   pub token : Token
   pub rest : List Token
@@ -81,4 +81,4 @@ pub record Unfinished (ts : List Token) (fault : ScriptFault) : Type 0 where
 -- `IsFaultOf ts fault`: the tokens `ts` are not a script, and `fault` is their fault.
 pub record IsFaultOf (ts : List Token) (fault : ScriptFault) : Type 0 where
   pub no_script : (stmts : List Stmt) → Script ts stmts → ⊥
-  pub is : Misfit ts fault ⊎ Unfinished ts fault
+  pub is : UnexpectedToken ts fault ⊎ Unfinished ts fault

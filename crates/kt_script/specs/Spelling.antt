@@ -37,7 +37,7 @@ Refuses (Ok stmts) fault = ⊥
 Refuses (Err (NoMemory refusal)) fault = Unit {0}
 Refuses (Err found) fault = found ≡ fault
 
--- `IsAnswer text result`: `result` is the statements of `text`, or its fault.
-abbrev pub IsAnswer : List ℕ → Result (List Stmt) ScriptFault → Type 0
-IsAnswer text (Ok stmts) = Spells text stmts
-IsAnswer text (Err fault) = IsDue text fault
+-- `IsResultOf text result`: `result` is the statements of `text`, or its fault.
+abbrev pub IsResultOf : List ℕ → Result (List Stmt) ScriptFault → Type 0
+IsResultOf text (Ok stmts) = Spells text stmts
+IsResultOf text (Err fault) = IsDue text fault

@@ -48,16 +48,16 @@ StopsAt p (c ∷ cs) = p c ≡ false
 abbrev pub is_quote : ℕ → Bool
 is_quote c = c == 34 || c == 39
 
--- `in_line c`: `c` is not a newline.
-abbrev pub in_line : ℕ → Bool
-in_line c = not (c == 10)
+-- `is_not_newline c`: `c` is not a newline.
+abbrev pub is_not_newline : ℕ → Bool
+is_not_newline c = not (c == 10)
 
--- `Inside quote text bytes`: between two bytes `quote`, the bytes `text` of a script are a string
+-- `IsStringContent quote text bytes`: between two bytes `quote`, the bytes `text` of a script are a string
 -- with the value `bytes`.
-pub data Inside (quote : ℕ) : List ℕ → List ℕ → Type 0 where
-  nothing : Inside quote [] []
-  itself : {c : ℕ} {cs bytes : List ℕ} → is_plain quote c ≡ true → Inside quote cs bytes → Inside quote (c ∷ cs) (c ∷ bytes)
-  escape : {c d : ℕ} {cs bytes : List ℕ} → escape_of c ≡ Some d → Inside quote cs bytes → Inside quote (92 ∷ c ∷ cs) (d ∷ bytes)
+pub data IsStringContent (quote : ℕ) : List ℕ → List ℕ → Type 0 where
+  nothing : IsStringContent quote [] []
+  itself : {c : ℕ} {cs bytes : List ℕ} → is_plain quote c ≡ true → IsStringContent quote cs bytes → IsStringContent quote (c ∷ cs) (c ∷ bytes)
+  escape : {c d : ℕ} {cs bytes : List ℕ} → escape_of c ≡ Some d → IsStringContent quote cs bytes → IsStringContent quote (92 ∷ c ∷ cs) (d ∷ bytes)
 
 -- `NoEscape bytes`: a backslash followed by `bytes` is not an escape of this profile.
 abbrev pub NoEscape : List ℕ → Type 0
@@ -69,28 +69,28 @@ pub data Closes : List ℕ → List ℕ → Type 0 where
   closed : {after : List ℕ} → Closes (93 ∷ 93 ∷ []) after
   not_yet : {c : ℕ} {cs after : List ℕ} → starts_with nat_eq ((c ∷ cs) ++ after) (codes "]]") ≡ false → Closes cs after → Closes (c ∷ cs) after
 
--- `NeverCloses text`: `text` does not contain `]]`.
-abbrev pub NeverCloses : List ℕ → Type 0
-NeverCloses [] = Unit {0}
-NeverCloses (c ∷ cs) = (starts_with nat_eq (c ∷ cs) (codes "]]") ≡ false) × NeverCloses cs
+-- `HasNoCommentEnd text`: `text` does not contain `]]`.
+abbrev pub HasNoCommentEnd : List ℕ → Type 0
+HasNoCommentEnd [] = Unit {0}
+HasNoCommentEnd (c ∷ cs) = (starts_with nat_eq (c ∷ cs) (codes "]]") ≡ false) × HasNoCommentEnd cs
 
--- `opens_long text`: `text`, which follows `--`, begins with `[[`, so a long comment begins.
-abbrev pub opens_long : List ℕ → Bool
-opens_long text = starts_with nat_eq text (codes "[[")
+-- `opens_long_comment text`: `text`, which follows `--`, begins with `[[`, so a long comment begins.
+abbrev pub opens_long_comment : List ℕ → Bool
+opens_long_comment text = starts_with nat_eq text (codes "[[")
 
--- `opens_level text`: `text`, which follows `--`, begins with `[`, one or more `=`, and `[`.
-abbrev pub opens_level : List ℕ → Bool
-opens_level text = starts_with nat_eq text (codes "[") && is_level (drop 1 text)
+-- `opens_leveled_comment text`: `text`, which follows `--`, begins with `[`, one or more `=`, and `[`.
+abbrev pub opens_leveled_comment : List ℕ → Bool
+opens_leveled_comment text = starts_with nat_eq text (codes "[") && is_level (drop 1 text)
 
 -- `Blank bytes after`: `bytes`, which are followed by `after`, are a byte of white space or a
 -- comment.
 pub data Blank : List ℕ → List ℕ → Type 0 where
   space : {c : ℕ} {after : List ℕ} → is_space c ≡ true → Blank (c ∷ []) after
-  line_comment : {words after : List ℕ} → opens_long (words ++ after) ≡ false → opens_level (words ++ after) ≡ false → Each in_line words → StopsAt in_line after → Blank (45 ∷ 45 ∷ words) after
+  line_comment : {words after : List ℕ} → opens_long_comment (words ++ after) ≡ false → opens_leveled_comment (words ++ after) ≡ false → Each is_not_newline words → StopsAt is_not_newline after → Blank (45 ∷ 45 ∷ words) after
   long_comment : {words after : List ℕ} → Closes words after → Blank (45 ∷ 45 ∷ 91 ∷ 91 ∷ words) after
 
--- `IsStrange c`: the byte `c` does not begin a token, a comment or white space.
-pub record IsStrange (c : ℕ) : Type 0 where
+-- `IsInvalidFirstByte c`: the byte `c` does not begin a token, a comment or white space.
+pub record IsInvalidFirstByte (c : ℕ) : Type 0 where
   pub no_space : is_space c ≡ false
   pub no_letter : is_letter c ≡ false
   pub no_digit : is_digit c ≡ false
@@ -102,25 +102,25 @@ pub record IsStrange (c : ℕ) : Type 0 where
 pub data HasFlaw : List ℕ → Flaw → Type 0 where
   large_number : (c : ℕ) (cs after : List ℕ) → Each is_digit (c ∷ cs) → StopsAt is_digit after → 2 ^ 64 ≤ decimal_from 0 (c ∷ cs) → HasFlaw ((c ∷ cs) ++ after) Bad
   lettered_number : (c d : ℕ) (cs after : List ℕ) → Each is_digit (c ∷ cs) → is_letter d ≡ true → HasFlaw ((c ∷ cs) ++ d ∷ after) Bad
-  endless_string : {quote : ℕ} {words bytes : List ℕ} (after : List ℕ) → is_quote quote ≡ true → Inside quote words bytes → StopsAt in_line after → HasFlaw (quote ∷ words ++ after) Endless
-  bad_escape : {quote : ℕ} {words bytes : List ℕ} (after : List ℕ) → is_quote quote ≡ true → Inside quote words bytes → NoEscape after → HasFlaw (quote ∷ words ++ 92 ∷ after) Bad
-  endless_comment : {text : List ℕ} → NeverCloses text → HasFlaw (45 ∷ 45 ∷ 91 ∷ 91 ∷ text) Endless
-  leveled_comment : {text : List ℕ} → opens_long text ≡ false → opens_level text ≡ true → HasFlaw (45 ∷ 45 ∷ text) Leveled
+  endless_string : {quote : ℕ} {words bytes : List ℕ} (after : List ℕ) → is_quote quote ≡ true → IsStringContent quote words bytes → StopsAt is_not_newline after → HasFlaw (quote ∷ words ++ after) Endless
+  bad_escape : {quote : ℕ} {words bytes : List ℕ} (after : List ℕ) → is_quote quote ≡ true → IsStringContent quote words bytes → NoEscape after → HasFlaw (quote ∷ words ++ 92 ∷ after) Bad
+  endless_comment : {text : List ℕ} → HasNoCommentEnd text → HasFlaw (45 ∷ 45 ∷ 91 ∷ 91 ∷ text) Endless
+  leveled_comment : {text : List ℕ} → opens_long_comment text ≡ false → opens_leveled_comment text ≡ true → HasFlaw (45 ∷ 45 ∷ text) Leveled
   lone_dash : {text : List ℕ} → starts_with nat_eq text (codes "-") ≡ false → HasFlaw (45 ∷ text) Bad
-  strange : {c : ℕ} {cs : List ℕ} → IsStrange c → HasFlaw (c ∷ cs) Bad
+  strange : {c : ℕ} {cs : List ℕ} → IsInvalidFirstByte c → HasFlaw (c ∷ cs) Bad
 
--- `Word bytes after kind`: `bytes`, which are followed by `after`, are a token of `kind`.
-pub data Word : List ℕ → List ℕ → TokenKind → Type 0 where
-  a_name : {c : ℕ} {cs after : List ℕ} → is_letter c ≡ true → Each is_word cs → StopsAt is_word after → Word (c ∷ cs) after (word (c ∷ cs))
-  a_number : {c : ℕ} {cs after : List ℕ} → Each is_digit (c ∷ cs) → StopsAt is_word after → decimal_from 0 (c ∷ cs) < 2 ^ 64 → Word (c ∷ cs) after (Number (decimal_from 0 (c ∷ cs)))
-  a_string : {quote : ℕ} {words bytes after : List ℕ} → is_quote quote ≡ true → Inside quote words bytes → Word (quote ∷ words ++ quote ∷ []) after (Quoted (chars bytes))
-  a_mark : {c : ℕ} {kind : TokenKind} {after : List ℕ} → mark_of c ≡ Some kind → Word (c ∷ []) after kind
-  no_word : {text : List ℕ} {flaw : Flaw} → HasFlaw text flaw → Word text [] (Broken flaw)
+-- `IsToken bytes after kind`: `bytes`, which are followed by `after`, are a token of `kind`.
+pub data IsToken : List ℕ → List ℕ → TokenKind → Type 0 where
+  name_token : {c : ℕ} {cs after : List ℕ} → is_letter c ≡ true → Each is_word cs → StopsAt is_word after → IsToken (c ∷ cs) after (word (c ∷ cs))
+  number_token : {c : ℕ} {cs after : List ℕ} → Each is_digit (c ∷ cs) → StopsAt is_word after → decimal_from 0 (c ∷ cs) < 2 ^ 64 → IsToken (c ∷ cs) after (Number (decimal_from 0 (c ∷ cs)))
+  string_token : {quote : ℕ} {words bytes after : List ℕ} → is_quote quote ≡ true → IsStringContent quote words bytes → IsToken (quote ∷ words ++ quote ∷ []) after (Quoted (chars bytes))
+  punctuation_token : {c : ℕ} {kind : TokenKind} {after : List ℕ} → mark_of c ≡ Some kind → IsToken (c ∷ []) after kind
+  broken_token : {text : List ℕ} {flaw : Flaw} → HasFlaw text flaw → IsToken text [] (Broken flaw)
 
 -- `IsTokens line text ts`: `text`, which begins on `line`, consists of the tokens `ts` with white
 -- space and comments between them.
 pub data IsTokens : ℕ → List ℕ → List Token → Type 0 where
-  the_end : {line : ℕ} → IsTokens line [] []
-  blank_and : {line : ℕ} {blank rest : List ℕ} {ts : List Token} → Blank blank rest → IsTokens (line_past line blank) rest ts → IsTokens line (blank ++ rest) ts
-  word_and : {line : ℕ} {bytes rest : List ℕ} {kind : TokenKind} {ts : List Token} → Word bytes rest kind → IsTokens (line_past line bytes) rest ts
+  no_text : {line : ℕ} → IsTokens line [] []
+  blank_first : {line : ℕ} {blank rest : List ℕ} {ts : List Token} → Blank blank rest → IsTokens (line_past line blank) rest ts → IsTokens line (blank ++ rest) ts
+  token_first : {line : ℕ} {bytes rest : List ℕ} {kind : TokenKind} {ts : List Token} → IsToken bytes rest kind → IsTokens (line_past line bytes) rest ts
       → IsTokens line (bytes ++ rest) (record { line = line; kind = kind } ∷ ts)

@@ -26,13 +26,13 @@ pub enum ScriptFault {
 }
 
 impl ScriptFault {
-    ghost use Rattle.kt_script.specs.FaultWords.{script_words};
+    ghost use Rattle.kt_script.specs.FaultWords.{script_message};
 
     /// Returns the message of the fault, without its line number (this profile).
     ///
     /// `Display` prints this message. The caller prints the line number.
     pub fn words(&self) -> &'static str
-        ensures { result.now ≡ script_words self.now }
+        ensures { result.now ≡ script_message self.now }
     {
         match self {
             ScriptFault::NoMemory(_) => OUT_OF_MEMORY,

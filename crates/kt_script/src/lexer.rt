@@ -1,7 +1,7 @@
 //! The lexer: it splits a text into white space, comments and tokens.
 
 ghost use Rattle.std.specs.Prelude.{◌≡◌, ℕ, ◌≤◌, length, IfOk, ◌+◌, ◌==◌, IfSome};
-ghost use Rattle.kt_script.specs.Common.{prefix_len, is_space, mark_of, piece_at, closes_at, comment_at, is_level, number_at};
+ghost use Rattle.kt_script.specs.Common.{prefix_len, is_space, mark_of, lexeme_at, long_comment_end, comment_at, is_level, number_at};
 
 use crate::quotation::quoted;
 use crate::token::{Flaw, Lexeme, TokenKind};
@@ -11,7 +11,7 @@ use std::alloc::Global;
 
 /// Returns the number of bytes in `text` up to the end of its first `]]`, or `None` without `]]`.
 fn closes(text: &[u8]) -> Option<usize>
-    ensures value { result ≡ closes_at text.now }
+    ensures value { result ≡ long_comment_end text.now }
     ensures within { IfSome result (λ end. end ≤ length text.now) }
 {
     let mut length = 0;
@@ -114,9 +114,9 @@ fn number(text: &[u8]) -> Lexeme
 /// # Errors
 ///
 /// - `NoMemory`: an allocation fails.
-#[tactic(auto, unfolding(crate::specs::Inner::Tokens::piece_at))]
-pub fn next_piece(alloc: Global, text: &str) -> Result<Lexeme, NoMemory>
-    ensures { IfOk result (λ piece. piece ≡ piece_at text.now) }
+#[tactic(auto, unfolding(crate::specs::Inner::Tokens::lexeme_at))]
+pub fn next_lexeme(alloc: Global, text: &str) -> Result<Lexeme, NoMemory>
+    ensures { IfOk result (λ piece. piece ≡ lexeme_at text.now) }
 {
     let bytes = text.as_bytes();
     let Some((c, _)) = bytes.split_first() else {

@@ -13,5 +13,5 @@ mod token;
 mod words;
 
 pub use fault::ScriptFault;
-pub use script::{parse, theorem_of_one_answer, theorem_of_tokens};
+pub use script::{parse, theorem_of_one_result, theorem_of_one_token_list};
 pub use syntax::{Action, Arg, Literal, Pair, Stmt};

@@ -1,7 +1,7 @@
 //! The parser: it reads tokens and collects statements.
 
 ghost use Rattle.std.specs.Prelude.{◌≡◌, ℕ, List, [], ◌++◌, IfOk, OnOk, IfErr};
-ghost use Rattle.kt_script.specs.Inner.Automaton.{IsResting};
+ghost use Rattle.kt_script.specs.Inner.Automaton.{IsBetweenStatements};
 ghost use Rattle.kt_script.specs.Faults.{IfFault, last, after_bracket, end_fault};
 
 use crate::script_state::ScriptState;
@@ -40,7 +40,7 @@ pub struct Parser {
 }
 
 impl Parser {
-    ghost use Rattle.kt_script.specs.Common.{HasRead, IsMisfit, IsWithin, Start, Token, tokens_in};
+    ghost use Rattle.kt_script.specs.Common.{HasRead, IsUnexpectedToken, IsWithin, Start, Token, tokens_in};
 
     /// Creates a parser that has read no token.
     pub fn new(alloc: Global) -> Self
@@ -69,7 +69,7 @@ impl Parser {
     ) -> Result<ScriptState, ScriptFault>
         ensures ok { IfOk result (λ after. (read : List Token) → HasRead place self.old read
             → HasRead after self.new (read ++ tokens_in line kind)) }
-        ensures fault { IfFault result (λ fault. IsMisfit place line kind fault) }
+        ensures fault { IfFault result (λ fault. IsUnexpectedToken place line kind fault) }
     {
         let Some(kind) = kind else {
             return Ok(place);
@@ -90,7 +90,7 @@ impl Parser {
     /// - `Unclosed`: `place` is within a statement, and a bracket is open.
     /// - `NotLiteral`: `place` is within a statement, and no bracket is open.
     pub fn finish(self, place: &ScriptState) -> Result<Items<Stmt>, ScriptFault>
-        ensures ok { IfOk result (λ statements. IsResting place.now
+        ensures ok { IfOk result (λ statements. IsBetweenStatements place.now
             × (statements ≡ self.statements)) }
         ensures fault { IfErr result (λ fault. (line : ℕ) × IsWithin place.now line
             × (fault ≡ end_fault (last self.brackets.items) line)) }

@@ -1,9 +1,9 @@
 //! String literals.
 
 ghost use Rattle.std.specs.Prelude.{◌≡◌, ℕ, ◌+◌, ◌<◌, ◌≤◌, ◌∷◌, false, length, drop, IfOk};
-ghost use Rattle.kt_script.specs.Common.{IsCharBoundary, prefix_len, is_plain, escape_of, stop_at, escape_at, string_at, decoded, quoted_at};
+ghost use Rattle.kt_script.specs.Common.{IsCharBoundary, prefix_len, is_plain, escape_of, string_end_at, escape_at, string_at, decoded, quoted_at};
 
-use crate::token::{Flaw, Lexeme, StringStop, TokenKind};
+use crate::token::{Flaw, Lexeme, StringEnd, TokenKind};
 use kt_base::{NoMemory, Text};
 use std::alloc::Global;
 
@@ -32,21 +32,21 @@ fn plain_length(quote: u8, text: &[u8]) -> usize
 /// Returns the kind of end that a string's plain bytes have: the last quote, an escape or a flaw.
 ///
 /// `text` is the text after the plain bytes, and `quote` the byte that closes the string.
-fn next_stop(quote: u8, text: &[u8]) -> StringStop
-    ensures { result ≡ stop_at quote text.now }
+fn string_end(quote: u8, text: &[u8]) -> StringEnd
+    ensures { result ≡ string_end_at quote text.now }
 {
     let Some((c, after)) = text.split_first() else {
-        return StringStop::Flawed(Flaw::Endless);
+        return StringEnd::Flawed(Flaw::Endless);
     };
     if *c == quote {
-        return StringStop::Quote;
+        return StringEnd::Quote;
     }
     if *c != b'\\' {
-        return StringStop::Flawed(Flaw::Endless);
+        return StringEnd::Flawed(Flaw::Endless);
     }
     match after.first().and_then(|c| escape(*c)) {
-        None => StringStop::Flawed(Flaw::Bad),
-        Some(c) => StringStop::Escape(c),
+        None => StringEnd::Flawed(Flaw::Bad),
+        Some(c) => StringEnd::Escape(c),
     }
 }
 
@@ -64,10 +64,10 @@ fn string(alloc: Global, quote: u8, text: &str) -> Result<Result<(Text, usize), 
     'runs: loop {
         let (plain, after) = rest.split_at(plain_length(quote, rest.as_bytes()));
         string.push_str(plain)?;
-        match next_stop(quote, after.as_bytes()) {
-            StringStop::Quote => return Ok(Ok((string, text.len() - after.len() + 1))),
-            StringStop::Flawed(flaw) => return Ok(Err(flaw)),
-            StringStop::Escape(c) => {
+        match string_end(quote, after.as_bytes()) {
+            StringEnd::Quote => return Ok(Ok((string, text.len() - after.len() + 1))),
+            StringEnd::Flawed(flaw) => return Ok(Err(flaw)),
+            StringEnd::Escape(c) => {
                 string.push(c)?;
                 rest = &after[2..];
             }

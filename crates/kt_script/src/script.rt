@@ -1,9 +1,9 @@
 //! The function that parses a script, and its theorems.
 
 ghost use Rattle.std.specs.Prelude.{◌≡◌, ◌+◌, ◌≤◌, ◌<◌, ◌^◌, ◌++◌, List, length, IfOk, Result};
-ghost use Rattle.kt_script.specs.Common.{IfFault, IsFaultOf, Script, tokens, line_past, IsTokens, limit, Spells, IsDue, Answers, Refuses, IsAnswer, ScriptFault, Stmt, Token};
+ghost use Rattle.kt_script.specs.Common.{IfFault, IsFaultOf, Script, tokens, line_past, IsTokens, limit, Spells, IsDue, Answers, Refuses, IsResultOf, ScriptFault, Stmt, Token};
 
-use crate::lexer::next_piece;
+use crate::lexer::next_lexeme;
 use crate::parser::Parser;
 use crate::script_state::ScriptState;
 use crate::{ScriptFault, Stmt};
@@ -11,7 +11,7 @@ use kt_base::Items;
 use std::alloc::Global;
 
 /// The maximum length of a script, in bytes.
-const LIMIT: usize = 1_048_576;
+const MAX_SCRIPT_BYTES: usize = 1_048_576;
 
 /// Returns the number of the line on which `text` ends, if `text` begins on line `from`.
 fn line_past(from: u32, text: &[u8]) -> u32
@@ -39,7 +39,7 @@ fn statements(alloc: Global, text: &str) -> Result<Items<Stmt>, ScriptFault>
     let mut line = 1;
     let mut rest = text;
     while !rest.is_empty() {
-        let piece = next_piece(alloc, rest)?;
+        let piece = next_lexeme(alloc, rest)?;
         let (read, after) = rest.split_at(piece.length);
         place = parser.feed(alloc, place, line, piece.kind)?;
         line = line_past(line, read.as_bytes());
@@ -71,7 +71,7 @@ pub fn parse(alloc: Global, text: &[u8]) -> Result<Items<Stmt>, ScriptFault>
     // A text with a fault is rejected with that fault, unless an allocation fails.
     ensures due { (fault : ScriptFault) → IsDue text.now fault → Refuses result fault }
 {
-    if text.len() > LIMIT {
+    if text.len() > MAX_SCRIPT_BYTES {
         return Err(ScriptFault::TooLong);
     }
     let Ok(text) = str::from_utf8(text) else {
@@ -81,16 +81,16 @@ pub fn parse(alloc: Global, text: &[u8]) -> Result<Items<Stmt>, ScriptFault>
 }
 
 /// Theorem: the rules give each text exactly one result, its statements or its fault.
-pub fn theorem_of_one_answer(text: &[u8])
-    ensures some { (answer : Result (List Stmt) ScriptFault) × IsAnswer text.now answer }
-    ensures one { (a b : Result (List Stmt) ScriptFault) → IsAnswer text.now a → IsAnswer text.now b
+pub fn theorem_of_one_result(text: &[u8])
+    ensures some { (answer : Result (List Stmt) ScriptFault) × IsResultOf text.now answer }
+    ensures one { (a b : Result (List Stmt) ScriptFault) → IsResultOf text.now a → IsResultOf text.now b
         → a ≡ b }
 {
     let _ = text;
 }
 
 /// Theorem: the rules for tokens split each text into exactly one list of tokens.
-pub fn theorem_of_tokens(text: &[u8])
+pub fn theorem_of_one_token_list(text: &[u8])
     ensures some { (tokens : List Token) × IsTokens 1 text.now tokens }
     ensures one { (a b : List Token) → IsTokens 1 text.now a → IsTokens 1 text.now b → a ≡ b }
 {

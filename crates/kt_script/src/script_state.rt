@@ -1,7 +1,7 @@
 //! The position of the parser in the grammar of a script.
 
 ghost use Rattle.std.specs.Prelude.{◌≡◌, ◌++◌, IfOk, OnOk};
-ghost use Rattle.kt_script.specs.Inner.Automaton.{begin, next, place_of, ended_by};
+ghost use Rattle.kt_script.specs.Inner.Automaton.{begin, next, position_after, completed_statements};
 
 use crate::Stmt;
 use crate::state::{State, Step};
@@ -33,7 +33,7 @@ impl Drop for ScriptState {
 ///
 /// Returns `None` if the token is not a name.
 fn begin(line: u32, kind: TokenKind) -> Option<ScriptState>
-    ensures { result ≡ place_of (begin line kind) }
+    ensures { result ≡ position_after (begin line kind) }
 {
     match kind {
         TokenKind::Name(name) => Some(ScriptState::Within(line, State::Named(name))),
@@ -55,9 +55,9 @@ impl ScriptState {
         token: Token,
         statements: &mut Items<Stmt>,
     ) -> Result<Option<ScriptState>, NoMemory>
-        ensures place { IfOk result (λ to. to ≡ place_of (next self token)) }
+        ensures place { IfOk result (λ to. to ≡ position_after (next self token)) }
         ensures ended { OnOk result (statements.new ≡ statements.old
-            ++ ended_by (next self token)) }
+            ++ completed_statements (next self token)) }
     {
         match self {
             ScriptState::Whole if matches!(token.kind, TokenKind::Semicolon) => Ok(Some(

@@ -102,7 +102,7 @@ impl Lexeme {
 
 /// A kind of end that a run of plain bytes has in a string literal.
 #[derive(Drop)]
-pub(crate) enum StringStop {
+pub(crate) enum StringEnd {
     /// The string's last quote.
     Quote,
     /// A backslash and the byte after it, which represent this character.

@@ -5,7 +5,7 @@ use Rattle.kt_claim.specs.declared.evidence.Claim.{Claim}
 use Rattle.kt_claim.specs.declared.evidence.Claim.TheVariants.{Missing, Unreadable, Malformed, Passed, Failed, Skipped, ExpectedFailure, ExpectedDeath, ExpectedTimeout, ExpectedExit, ExpectedSignal}
 use Rattle.kt_base.specs.Verdicts as verdict
 use Rattle.kt_status.specs.Tables as row
-use Rattle.kt_status.proofs.RowOrder.{at_or_next, at_equal, Least, passes, next, here}
+use Rattle.kt_status.proofs.RowOrder.{at_or_next, at_equal, IsLeastRow, passes, next, here}
 
 -- `late_row c`: the number of the first row of the ATF table for the claim `c` after a timeout.
 abbrev pub late_row : Claim → ℕ
@@ -55,7 +55,7 @@ atf_row c WaitFailed = 1
 
 pub atf_fits : (c : Claim) (e : Outcome) → AtfRow (atf_row c e) c e (atf_verdict c e)
 atf_fits c WaitFailed = row.not_waited_for c
-atf_fits (ExpectedTimeout r) TimedOut = row.late_as_expected r
+atf_fits (ExpectedTimeout r) TimedOut = row.timed_out_as_expected r
 atf_fits Missing TimedOut = row.late Missing
 atf_fits Unreadable TimedOut = row.late Unreadable
 atf_fits (Malformed f) TimedOut = row.late (Malformed f)
@@ -66,12 +66,12 @@ atf_fits (ExpectedFailure r) TimedOut = row.late (ExpectedFailure r)
 atf_fits (ExpectedDeath r) TimedOut = row.late (ExpectedDeath r)
 atf_fits (ExpectedExit due r) TimedOut = row.late (ExpectedExit due r)
 atf_fits (ExpectedSignal due r) TimedOut = row.late (ExpectedSignal due r)
-atf_fits Missing (Exited code) = row.no_file (Exited code) (row.exited code)
-atf_fits Missing (Signaled s core) = row.no_file (Signaled s core) (row.signaled s core)
-atf_fits Unreadable (Exited code) = row.no_reading (Exited code) (row.exited code)
-atf_fits Unreadable (Signaled s core) = row.no_reading (Signaled s core) (row.signaled s core)
-atf_fits (Malformed f) (Exited code) = row.no_claim f (Exited code) (row.exited code)
-atf_fits (Malformed f) (Signaled s core) = row.no_claim f (Signaled s core) (row.signaled s core)
+atf_fits Missing (Exited code) = row.missing_file (Exited code) (row.exited code)
+atf_fits Missing (Signaled s core) = row.missing_file (Signaled s core) (row.signaled s core)
+atf_fits Unreadable (Exited code) = row.unreadable_file (Exited code) (row.exited code)
+atf_fits Unreadable (Signaled s core) = row.unreadable_file (Signaled s core) (row.signaled s core)
+atf_fits (Malformed f) (Exited code) = row.malformed_file f (Exited code) (row.exited code)
+atf_fits (Malformed f) (Signaled s core) = row.malformed_file f (Signaled s core) (row.signaled s core)
 atf_fits Passed (Exited code) = at_equal 7 8 code 0 _ _ (λ n v. AtfRow n Passed (Exited code) v)
     (λ is. subst (λ (x : ℕ). AtfRow 7 Passed (Exited x) verdict.passed) (sym is) row.passed) (row.not_passed (Exited code) (row.exited code))
 atf_fits Passed (Signaled s core) = row.not_passed (Signaled s core) (row.signaled s core)
@@ -79,27 +79,27 @@ atf_fits (Skipped r) (Exited code) = at_equal 7 9 code 0 _ _ (λ n v. AtfRow n (
     (λ is. subst (λ (x : ℕ). AtfRow 7 (Skipped r) (Exited x) (verdict.skipped r)) (sym is) (row.skipped r)) (row.not_skipped r (Exited code) (row.exited code))
 atf_fits (Skipped r) (Signaled s core) = row.not_skipped r (Signaled s core) (row.signaled s core)
 atf_fits (ExpectedFailure r) (Exited code) = at_equal 7 10 code 0 _ _ (λ n v. AtfRow n (ExpectedFailure r) (Exited code) v)
-    (λ is. subst (λ (x : ℕ). AtfRow 7 (ExpectedFailure r) (Exited x) (verdict.expected_failure r)) (sym is) (row.failed_as_expected r)) (row.not_excused r (Exited code) (row.exited code))
-atf_fits (ExpectedFailure r) (Signaled s core) = row.not_excused r (Signaled s core) (row.signaled s core)
+    (λ is. subst (λ (x : ℕ). AtfRow 7 (ExpectedFailure r) (Exited x) (verdict.expected_failure r)) (sym is) (row.failed_as_expected r)) (row.not_expected_failure r (Exited code) (row.exited code))
+atf_fits (ExpectedFailure r) (Signaled s core) = row.not_expected_failure r (Signaled s core) (row.signaled s core)
 atf_fits (Failed r) (Exited code) = at_equal 11 12 code 1 _ _ (λ n v. AtfRow n (Failed r) (Exited code) v)
     (λ is. subst (λ (x : ℕ). AtfRow 11 (Failed r) (Exited x) (verdict.failed r)) (sym is) (row.failed r)) (row.not_failed r (Exited code) (row.exited code))
 atf_fits (Failed r) (Signaled s core) = row.not_failed r (Signaled s core) (row.signaled s core)
-atf_fits (ExpectedDeath r) (Exited code) = row.died_as_expected r (Exited code) (row.exited code)
-atf_fits (ExpectedDeath r) (Signaled s core) = row.died_as_expected r (Signaled s core) (row.signaled s core)
+atf_fits (ExpectedDeath r) (Exited code) = row.ended_as_expected r (Exited code) (row.exited code)
+atf_fits (ExpectedDeath r) (Signaled s core) = row.ended_as_expected r (Signaled s core) (row.signaled s core)
 atf_fits (ExpectedExit None r) (Exited code) = row.exited_as_expected r code
 atf_fits (ExpectedExit None r) (Signaled s core) = row.not_exited None r s core
 atf_fits (ExpectedExit (Some due) r) (Exited code) = at_equal 14 15 due code _ _ (λ n v. AtfRow n (ExpectedExit (Some due) r) (Exited code) v)
-    (λ is. subst (λ (x : ℕ). AtfRow 14 (ExpectedExit (Some due) r) (Exited x) (verdict.expected_failure r)) is (row.exited_so due r)) (row.exited_otherwise due r code)
+    (λ is. subst (λ (x : ℕ). AtfRow 14 (ExpectedExit (Some due) r) (Exited x) (verdict.expected_failure r)) is (row.exited_with_expected_status due r)) (row.exited_with_other_status due r code)
 atf_fits (ExpectedExit (Some due) r) (Signaled s core) = row.not_exited (Some due) r s core
 atf_fits (ExpectedSignal None r) (Exited code) = row.not_signaled None r code
 atf_fits (ExpectedSignal None r) (Signaled s core) = row.signaled_as_expected r s core
 atf_fits (ExpectedSignal (Some due) r) (Exited code) = row.not_signaled (Some due) r code
 atf_fits (ExpectedSignal (Some due) r) (Signaled s core) = at_equal 17 18 due s _ _ (λ n v. AtfRow n (ExpectedSignal (Some due) r) (Signaled s core) v)
-    (λ is. subst (λ (x : ℕ). AtfRow 17 (ExpectedSignal (Some due) r) (Signaled x core) (verdict.expected_failure r)) is (row.signaled_so due r core)) (row.signaled_otherwise due r s core)
-atf_fits (ExpectedTimeout r) (Exited code) = row.not_late r (Exited code) (row.exited code)
-atf_fits (ExpectedTimeout r) (Signaled s core) = row.not_late r (Signaled s core) (row.signaled s core)
+    (λ is. subst (λ (x : ℕ). AtfRow 17 (ExpectedSignal (Some due) r) (Signaled x core) (verdict.expected_failure r)) is (row.killed_by_expected_signal due r core)) (row.killed_by_other_signal due r s core)
+atf_fits (ExpectedTimeout r) (Exited code) = row.not_timed_out r (Exited code) (row.exited code)
+atf_fits (ExpectedTimeout r) (Signaled s core) = row.not_timed_out r (Signaled s core) (row.signaled s core)
 
-pub timed_out : (c : Claim) → Least (late_row c) (atf_verdict c TimedOut) 3 (verdict.broken (codes "Test case body timed out"))
+pub timed_out : (c : Claim) → IsLeastRow (late_row c) (atf_verdict c TimedOut) 3 (verdict.broken (codes "Test case body timed out"))
 timed_out (ExpectedTimeout r) = (omega arith, λ e. absurd (omega arith))
 timed_out Missing = here _ _
 timed_out Unreadable = here _ _
@@ -112,16 +112,16 @@ timed_out (ExpectedDeath r) = here _ _
 timed_out (ExpectedExit due r) = here _ _
 timed_out (ExpectedSignal due r) = here _ _
 
-pub atf_least : (n : ℕ) (c : Claim) (e : Outcome) (v : Judged) → AtfRow n c e v → Least (atf_row c e) (atf_verdict c e) n v
+pub atf_least : (n : ℕ) (c : Claim) (e : Outcome) (v : Judged) → AtfRow n c e v → IsLeastRow (atf_row c e) (atf_verdict c e) n v
 atf_least _ _ _ _ (row.not_waited_for c) = here _ _
-atf_least _ _ _ _ (row.late_as_expected r) = here _ _
+atf_least _ _ _ _ (row.timed_out_as_expected r) = here _ _
 atf_least _ _ _ _ (row.late c) = timed_out c
-atf_least _ _ _ _ (row.no_file _ (row.exited code)) = here _ _
-atf_least _ _ _ _ (row.no_file _ (row.signaled s core)) = here _ _
-atf_least _ _ _ _ (row.no_reading _ (row.exited code)) = here _ _
-atf_least _ _ _ _ (row.no_reading _ (row.signaled s core)) = here _ _
-atf_least _ _ _ _ (row.no_claim f _ (row.exited code)) = here _ _
-atf_least _ _ _ _ (row.no_claim f _ (row.signaled s core)) = here _ _
+atf_least _ _ _ _ (row.missing_file _ (row.exited code)) = here _ _
+atf_least _ _ _ _ (row.missing_file _ (row.signaled s core)) = here _ _
+atf_least _ _ _ _ (row.unreadable_file _ (row.exited code)) = here _ _
+atf_least _ _ _ _ (row.unreadable_file _ (row.signaled s core)) = here _ _
+atf_least _ _ _ _ (row.malformed_file f _ (row.exited code)) = here _ _
+atf_least _ _ _ _ (row.malformed_file f _ (row.signaled s core)) = here _ _
 atf_least _ _ _ _ row.passed = here _ _
 atf_least _ _ _ _ (row.skipped r) = here _ _
 atf_least _ _ _ _ (row.failed_as_expected r) = here _ _
@@ -129,22 +129,22 @@ atf_least _ _ _ _ (row.not_passed _ (row.exited code)) = next 7 8 code 0 _ _ (om
 atf_least _ _ _ _ (row.not_passed _ (row.signaled s core)) = here _ _
 atf_least _ _ _ _ (row.not_skipped r _ (row.exited code)) = next 7 9 code 0 _ _ (omega arith)
 atf_least _ _ _ _ (row.not_skipped r _ (row.signaled s core)) = here _ _
-atf_least _ _ _ _ (row.not_excused r _ (row.exited code)) = next 7 10 code 0 _ _ (omega arith)
-atf_least _ _ _ _ (row.not_excused r _ (row.signaled s core)) = here _ _
+atf_least _ _ _ _ (row.not_expected_failure r _ (row.exited code)) = next 7 10 code 0 _ _ (omega arith)
+atf_least _ _ _ _ (row.not_expected_failure r _ (row.signaled s core)) = here _ _
 atf_least _ _ _ _ (row.failed r) = here _ _
 atf_least _ _ _ _ (row.not_failed r _ (row.exited code)) = next 11 12 code 1 _ _ (omega arith)
 atf_least _ _ _ _ (row.not_failed r _ (row.signaled s core)) = here _ _
-atf_least _ _ _ _ (row.died_as_expected r _ (row.exited code)) = here _ _
-atf_least _ _ _ _ (row.died_as_expected r _ (row.signaled s core)) = here _ _
+atf_least _ _ _ _ (row.ended_as_expected r _ (row.exited code)) = here _ _
+atf_least _ _ _ _ (row.ended_as_expected r _ (row.signaled s core)) = here _ _
 atf_least _ _ _ _ (row.exited_as_expected r code) = here _ _
-atf_least _ _ _ _ (row.exited_so due r) = passes 14 15 due due _ _ refl
-atf_least _ _ _ _ (row.exited_otherwise due r code) = next 14 15 due code _ _ (omega arith)
+atf_least _ _ _ _ (row.exited_with_expected_status due r) = passes 14 15 due due _ _ refl
+atf_least _ _ _ _ (row.exited_with_other_status due r code) = next 14 15 due code _ _ (omega arith)
 atf_least _ _ _ _ (row.not_exited None r s core) = here _ _
 atf_least _ _ _ _ (row.not_exited (Some due) r s core) = here _ _
 atf_least _ _ _ _ (row.signaled_as_expected r s core) = here _ _
-atf_least _ _ _ _ (row.signaled_so due r core) = passes 17 18 due due _ _ refl
-atf_least _ _ _ _ (row.signaled_otherwise due r s core) = next 17 18 due s _ _ (omega arith)
+atf_least _ _ _ _ (row.killed_by_expected_signal due r core) = passes 17 18 due due _ _ refl
+atf_least _ _ _ _ (row.killed_by_other_signal due r s core) = next 17 18 due s _ _ (omega arith)
 atf_least _ _ _ _ (row.not_signaled None r code) = here _ _
 atf_least _ _ _ _ (row.not_signaled (Some due) r code) = here _ _
-atf_least _ _ _ _ (row.not_late r _ (row.exited code)) = here _ _
-atf_least _ _ _ _ (row.not_late r _ (row.signaled s core)) = here _ _
+atf_least _ _ _ _ (row.not_timed_out r _ (row.exited code)) = here _ _
+atf_least _ _ _ _ (row.not_timed_out r _ (row.signaled s core)) = here _ _

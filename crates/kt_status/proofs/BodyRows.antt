@@ -7,7 +7,7 @@ use Rattle.kt_claim.specs.declared.evidence.Evidence.{Evidence}
 use Rattle.kt_base.specs.Verdicts as verdict
 use Rattle.kt_claim.specs.declared.evidence.Evidence.TheVariants as evidence
 use Rattle.kt_status.specs.Tables as row
-use Rattle.kt_status.proofs.RowOrder.{at_or_next, at_equal, Least, next, here, only}
+use Rattle.kt_status.proofs.RowOrder.{at_or_next, at_equal, IsLeastRow, next, here, only}
 use Rattle.kt_status.proofs.AtfRows.{atf_row, atf_fits, atf_least}
 
 -- `plain_row e`: the number of the first row of the table of plain programs for the outcome `e`.
@@ -37,14 +37,14 @@ tap_row (Counted some all) (Exited code) = counted_row some code
 
 pub plain_fits : (e : Outcome) → PlainRow (plain_row e) e (plain_verdict e)
 plain_fits WaitFailed = row.plain_not_waited_for
-plain_fits TimedOut = row.plain_late
+plain_fits TimedOut = row.plain_timed_out
 plain_fits (Signaled s core) = row.plain_signaled s core
 plain_fits (Exited code) = at_equal 4 5 code 0 _ _ (λ n v. PlainRow n (Exited code) v)
     (λ is. subst (λ (x : ℕ). PlainRow 4 (Exited x) verdict.passed) (sym is) row.plain_passed) (row.plain_failed code)
 
-pub plain_least : (n : ℕ) (e : Outcome) (v : Judged) → PlainRow n e v → Least (plain_row e) (plain_verdict e) n v
+pub plain_least : (n : ℕ) (e : Outcome) (v : Judged) → PlainRow n e v → IsLeastRow (plain_row e) (plain_verdict e) n v
 plain_least _ _ _ row.plain_not_waited_for = here _ _
-plain_least _ _ _ row.plain_late = here _ _
+plain_least _ _ _ row.plain_timed_out = here _ _
 plain_least _ _ _ (row.plain_signaled s core) = here _ _
 plain_least _ _ _ row.plain_passed = here _ _
 plain_least _ _ _ (row.plain_failed code) = next 4 5 code 0 _ _ (omega arith)
@@ -58,7 +58,7 @@ counted_fits false some all code e = rw e (at_equal 8 9 code 0 _ _ (λ n v. TapR
 
 pub tap_fits : (t : Tap) (e : Outcome) → TapRow (tap_row t e) t e (tap_verdict t e)
 tap_fits t WaitFailed = row.tap_not_waited_for t
-tap_fits t TimedOut = row.tap_late t
+tap_fits t TimedOut = row.tap_timed_out t
 tap_fits t (Signaled s core) = row.tap_signaled t s core
 tap_fits BailedOut (Exited code) = row.tap_bailed_out code
 tap_fits (Invalid f) (Exited code) = row.tap_invalid f code
@@ -67,16 +67,16 @@ tap_fits (Counted some all) (Exited code) = counted_fits (nat_lt 0 some) some al
 
 -- Row 7, for failed tests, is before the row `m`: if no test failed, the row `m` decides as without
 -- row 7.
-pub behind_failed : (t : Bool) (first m : ℕ) (x y v : Judged) → 7 < m → Least first y m v → Least (if t then 7 else first) (if t then x else y) m v
+pub behind_failed : (t : Bool) (first m : ℕ) (x y v : Judged) → 7 < m → IsLeastRow first y m v → IsLeastRow (if t then 7 else first) (if t then x else y) m v
 behind_failed true first m x y v lt h = (omega arith, λ e. absurd (omega arith))
 behind_failed false first m x y v lt h = h
 
-pub failed_row : (some code : ℕ) (x y : Judged) → 0 < some → Least (counted_row some code) (if nat_lt 0 some then x else y) 7 x
+pub failed_row : (some code : ℕ) (x y : Judged) → 0 < some → IsLeastRow (counted_row some code) (if nat_lt 0 some then x else y) 7 x
 failed_row some code x y lt = rw (lt-ltb 0 some lt) (here 7 x)
 
-pub tap_least : (n : ℕ) (t : Tap) (e : Outcome) (v : Judged) → TapRow n t e v → Least (tap_row t e) (tap_verdict t e) n v
+pub tap_least : (n : ℕ) (t : Tap) (e : Outcome) (v : Judged) → TapRow n t e v → IsLeastRow (tap_row t e) (tap_verdict t e) n v
 tap_least _ _ _ _ (row.tap_not_waited_for t) = here _ _
-tap_least _ _ _ _ (row.tap_late t) = here _ _
+tap_least _ _ _ _ (row.tap_timed_out t) = here _ _
 tap_least _ _ _ _ (row.tap_signaled t s core) = here _ _
 tap_least _ _ _ _ (row.tap_bailed_out code) = here _ _
 tap_least _ _ _ _ (row.tap_invalid f code) = here _ _

@@ -4,4 +4,4 @@ pub use Rattle.kt_base.specs.Verdicts.{Judged}
 pub use Rattle.kt_base.specs.declared.child.Outcome.{Outcome}
 pub use Rattle.kt_base.specs.declared.child.Outcome.TheVariants.{Exited, Signaled, TimedOut, WaitFailed}
 pub use Rattle.kt_status.specs.Inner.Verdicts.{atf_verdict, cleaned, plain_verdict, tap_verdict, verdict_after_cleanup, verdict_of, verdict_of_refusal}
-pub use Rattle.kt_status.specs.Tables.{AtfRow, CleanupRow, FirstOf, IsVerdict, IsVerdictAfter, IsVerdictOfRefusal, PlainRow, RefusalRow, TapRow}
+pub use Rattle.kt_status.specs.Tables.{AtfRow, CleanupRow, IsFirstRow, IsVerdict, IsVerdictAfterCleanup, IsVerdictOfRefusal, PlainRow, RefusalRow, TapRow}

@@ -1,6 +1,6 @@
 -- The first row that fits.
 use Rattle.std.proofs.Common.{◌≡◌, ℕ, ◌<◌, ◌≤◌, Bool, true, false, refl, sym, arith, nat_eq, if◌then◌else◌}
-use Rattle.kt_status.proofs.Common.{eqb-true, eq-eqb, Judged, FirstOf}
+use Rattle.kt_status.proofs.Common.{eqb-true, eq-eqb, Judged, IsFirstRow}
 
 -- ---- numbers of rows
 
@@ -18,34 +18,34 @@ at_equal n m a b x y P here next = at_test (nat_eq a b) (λ e. here (eqb-true a 
   at_test true here next = here refl
   at_test false here next = next
 
--- `Least first verdict n v`: row `n` is not before the row `first`, and gives `verdict` if it is
+-- `IsLeastRow first verdict n v`: row `n` is not before the row `first`, and gives `verdict` if it is
 -- that row.
-abbrev pub Least : ℕ → Judged → ℕ → Judged → Type 0
-Least first verdict n v = (first ≤ n) × (n ≡ first → v ≡ verdict)
+abbrev pub IsLeastRow : ℕ → Judged → ℕ → Judged → Type 0
+IsLeastRow first verdict n v = (first ≤ n) × (n ≡ first → v ≡ verdict)
 
 -- If `a` and `b` are equal, row `n`, which tests this, is the first row that fits.
-pub passes : (n m a b : ℕ) (x y : Judged) → a ≡ b → Least (at_or_next (nat_eq a b) n m) (if nat_eq a b then x else y) n x
+pub passes : (n m a b : ℕ) (x y : Judged) → a ≡ b → IsLeastRow (at_or_next (nat_eq a b) n m) (if nat_eq a b then x else y) n x
 passes n m a b x y is = rw (eq-eqb a b is) (omega arith, λ e. refl)
 
 -- Row `m`, after the row `n` that tests whether `a` and `b` are equal, is not before the first row
 -- that fits.
-pub next : (n m a b : ℕ) (x y : Judged) → n < m → Least (at_or_next (nat_eq a b) n m) (if nat_eq a b then x else y) m y
+pub next : (n m a b : ℕ) (x y : Judged) → n < m → IsLeastRow (at_or_next (nat_eq a b) n m) (if nat_eq a b then x else y) m y
 next n m a b x y lt = at_test (nat_eq a b) n m x y lt where
-  at_test : (t : Bool) (n m : ℕ) (x y : Judged) → n < m → Least (at_or_next t n m) (if t then x else y) m y
+  at_test : (t : Bool) (n m : ℕ) (x y : Judged) → n < m → IsLeastRow (at_or_next t n m) (if t then x else y) m y
   at_test true n m x y lt = (omega arith, λ e. absurd (omega arith))
   at_test false n m x y lt = (omega arith, λ e. refl)
 
 -- The row `n` is not before itself and gives its own verdict.
-pub here : (n : ℕ) (v : Judged) → Least n v n v
+pub here : (n : ℕ) (v : Judged) → IsLeastRow n v n v
 here n v = (omega arith, λ e. refl)
 
 -- ---- from rows to verdicts
 
 -- `IsOnly Row v`: `v` is the verdict of the first row that fits, and no other verdict is.
 abbrev pub IsOnly : (ℕ → Judged → Type 0) → Judged → Type 0
-IsOnly Row v = FirstOf Row v × ((other : Judged) → FirstOf Row other → v ≡ other)
+IsOnly Row v = IsFirstRow Row v × ((other : Judged) → IsFirstRow Row other → v ≡ other)
 
-pub only : (Row : ℕ → Judged → Type 0) (n : ℕ) (v : Judged) → Row n v → ((m : ℕ) (x : Judged) → Row m x → Least n v m x) → IsOnly Row v
+pub only : (Row : ℕ → Judged → Type 0) (n : ℕ) (v : Judged) → Row n v → ((m : ℕ) (x : Judged) → Row m x → IsLeastRow n v m x) → IsOnly Row v
 only Row n v fits least = (
   record { number = n; fits = fits; first = λ m x h. (least m x h).0 },
   λ other h. sym ((least h.number other h.fits).1 (omega (arith, h.first n v fits, (least h.number other h.fits).0))),

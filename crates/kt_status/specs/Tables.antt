@@ -6,7 +6,7 @@ use Rattle.kt_base.specs.declared.child.Outcome.{Outcome}
 use Rattle.kt_base.specs.declared.child.Outcome.TheVariants.{Exited, Signaled, TimedOut, WaitFailed}
 use Rattle.kt_base.specs.declared.failed_start.Refused.{Refused}
 use Rattle.kt_base.specs.declared.failed_start.Refused.TheVariants as refused
-use Rattle.kt_base.specs.Reasons.{ending_text}
+use Rattle.kt_base.specs.Reasons.{outcome_text}
 use Rattle.kt_base.specs.Kinds.{good}
 use Rattle.kt_base.specs.Verdicts as verdict
 use Rattle.kt_base.specs.Verdicts.{Judged}
@@ -42,47 +42,47 @@ tap_fault_text stream.NoPlan = codes "no plan"
 tap_fault_text stream.SecondPlan = codes "second plan"
 tap_fault_text stream.PlanDiffers = codes "plan differs from tests"
 
--- `Ends outcome`: a process with this `outcome` exited or received a signal.
-pub data Ends : Outcome → Type 0 where
-  exited : (code : ℕ) → Ends (Exited code)
-  signaled : (signal : ℕ) (core : Bool) → Ends (Signaled signal core)
+-- `IsExitOrSignal outcome`: a process with this `outcome` exited or received a signal.
+pub data IsExitOrSignal : Outcome → Type 0 where
+  exited : (code : ℕ) → IsExitOrSignal (Exited code)
+  signaled : (signal : ℕ) (core : Bool) → IsExitOrSignal (Signaled signal core)
 
 -- `AtfRow number claim outcome verdict`: the row `number` of the ATF table fits a case with this
 -- `claim` whose body has this `outcome`, and gives `verdict`.
 pub data AtfRow : ℕ → Claim → Outcome → Judged → Type 0 where
   not_waited_for : (c : Claim) → AtfRow 1 c WaitFailed (verdict.broken (codes "Test case could not be waited for"))
-  late_as_expected : (r : List ℕ) → AtfRow 2 (ExpectedTimeout r) TimedOut (verdict.expected_failure r)
+  timed_out_as_expected : (r : List ℕ) → AtfRow 2 (ExpectedTimeout r) TimedOut (verdict.expected_failure r)
   late : (c : Claim) → AtfRow 3 c TimedOut (verdict.broken (codes "Test case body timed out"))
-  no_file : (e : Outcome) → Ends e → AtfRow 4 Missing e (verdict.broken (codes "Premature exit; test case " ++ ending_text e))
-  no_reading : (e : Outcome) → Ends e → AtfRow 5 Unreadable e (verdict.broken (codes "Results file could not be read"))
-  no_claim : (f : ClaimFault) (e : Outcome) → Ends e → AtfRow 6 (Malformed f) e (verdict.broken (codes "Invalid result file: " ++ claim_fault_text f))
+  missing_file : (e : Outcome) → IsExitOrSignal e → AtfRow 4 Missing e (verdict.broken (codes "Premature exit; test case " ++ outcome_text e))
+  unreadable_file : (e : Outcome) → IsExitOrSignal e → AtfRow 5 Unreadable e (verdict.broken (codes "Results file could not be read"))
+  malformed_file : (f : ClaimFault) (e : Outcome) → IsExitOrSignal e → AtfRow 6 (Malformed f) e (verdict.broken (codes "Invalid result file: " ++ claim_fault_text f))
   passed : AtfRow 7 Passed (Exited 0) verdict.passed
   skipped : (r : List ℕ) → AtfRow 7 (Skipped r) (Exited 0) (verdict.skipped r)
   failed_as_expected : (r : List ℕ) → AtfRow 7 (ExpectedFailure r) (Exited 0) (verdict.expected_failure r)
-  not_passed : (e : Outcome) → Ends e → AtfRow 8 Passed e (verdict.broken (codes "Passed test case should have reported success but " ++ ending_text e))
-  not_skipped : (r : List ℕ) (e : Outcome) → Ends e → AtfRow 9 (Skipped r) e (verdict.broken (codes "Skipped test case should have reported success but " ++ ending_text e))
-  not_excused : (r : List ℕ) (e : Outcome) → Ends e → AtfRow 10 (ExpectedFailure r) e (verdict.broken (codes "Expected failure should have reported success but " ++ ending_text e))
+  not_passed : (e : Outcome) → IsExitOrSignal e → AtfRow 8 Passed e (verdict.broken (codes "Passed test case should have reported success but " ++ outcome_text e))
+  not_skipped : (r : List ℕ) (e : Outcome) → IsExitOrSignal e → AtfRow 9 (Skipped r) e (verdict.broken (codes "Skipped test case should have reported success but " ++ outcome_text e))
+  not_expected_failure : (r : List ℕ) (e : Outcome) → IsExitOrSignal e → AtfRow 10 (ExpectedFailure r) e (verdict.broken (codes "Expected failure should have reported success but " ++ outcome_text e))
   failed : (r : List ℕ) → AtfRow 11 (Failed r) (Exited 1) (verdict.failed r)
-  not_failed : (r : List ℕ) (e : Outcome) → Ends e → AtfRow 12 (Failed r) e (verdict.broken (codes "Failed test case should have reported failure but " ++ ending_text e))
-  died_as_expected : (r : List ℕ) (e : Outcome) → Ends e → AtfRow 13 (ExpectedDeath r) e (verdict.expected_failure r)
+  not_failed : (r : List ℕ) (e : Outcome) → IsExitOrSignal e → AtfRow 12 (Failed r) e (verdict.broken (codes "Failed test case should have reported failure but " ++ outcome_text e))
+  ended_as_expected : (r : List ℕ) (e : Outcome) → IsExitOrSignal e → AtfRow 13 (ExpectedDeath r) e (verdict.expected_failure r)
   exited_as_expected : (r : List ℕ) (code : ℕ) → AtfRow 14 (ExpectedExit None r) (Exited code) (verdict.expected_failure r)
-  exited_so : (due : ℕ) (r : List ℕ) → AtfRow 14 (ExpectedExit (Some due) r) (Exited due) (verdict.expected_failure r)
-  exited_otherwise : (due : ℕ) (r : List ℕ) (code : ℕ)
+  exited_with_expected_status : (due : ℕ) (r : List ℕ) → AtfRow 14 (ExpectedExit (Some due) r) (Exited due) (verdict.expected_failure r)
+  exited_with_other_status : (due : ℕ) (r : List ℕ) (code : ℕ)
       → AtfRow 15 (ExpectedExit (Some due) r) (Exited code) (verdict.failed (codes "Expected exit code " ++ decimal due ++ codes " but got " ++ decimal code))
   not_exited : (due : Option ℕ) (r : List ℕ) (signal : ℕ) (core : Bool)
-      → AtfRow 16 (ExpectedExit due r) (Signaled signal core) (verdict.broken (codes "Expected clean exit but " ++ ending_text (Signaled signal core)))
+      → AtfRow 16 (ExpectedExit due r) (Signaled signal core) (verdict.broken (codes "Expected clean exit but " ++ outcome_text (Signaled signal core)))
   signaled_as_expected : (r : List ℕ) (signal : ℕ) (core : Bool) → AtfRow 17 (ExpectedSignal None r) (Signaled signal core) (verdict.expected_failure r)
-  signaled_so : (due : ℕ) (r : List ℕ) (core : Bool) → AtfRow 17 (ExpectedSignal (Some due) r) (Signaled due core) (verdict.expected_failure r)
-  signaled_otherwise : (due : ℕ) (r : List ℕ) (signal : ℕ) (core : Bool)
+  killed_by_expected_signal : (due : ℕ) (r : List ℕ) (core : Bool) → AtfRow 17 (ExpectedSignal (Some due) r) (Signaled due core) (verdict.expected_failure r)
+  killed_by_other_signal : (due : ℕ) (r : List ℕ) (signal : ℕ) (core : Bool)
       → AtfRow 18 (ExpectedSignal (Some due) r) (Signaled signal core) (verdict.failed (codes "Expected signal " ++ decimal due ++ codes " but got " ++ decimal signal))
-  not_signaled : (due : Option ℕ) (r : List ℕ) (code : ℕ) → AtfRow 19 (ExpectedSignal due r) (Exited code) (verdict.broken (codes "Expected signal but " ++ ending_text (Exited code)))
-  not_late : (r : List ℕ) (e : Outcome) → Ends e → AtfRow 20 (ExpectedTimeout r) e (verdict.broken (codes "Expected timeout but " ++ ending_text e))
+  not_signaled : (due : Option ℕ) (r : List ℕ) (code : ℕ) → AtfRow 19 (ExpectedSignal due r) (Exited code) (verdict.broken (codes "Expected signal but " ++ outcome_text (Exited code)))
+  not_timed_out : (r : List ℕ) (e : Outcome) → IsExitOrSignal e → AtfRow 20 (ExpectedTimeout r) e (verdict.broken (codes "Expected timeout but " ++ outcome_text e))
 
 -- `PlainRow number outcome verdict`: the row `number` of the table of plain programs fits a program
 -- with this `outcome`, and gives `verdict`.
 pub data PlainRow : ℕ → Outcome → Judged → Type 0 where
   plain_not_waited_for : PlainRow 1 WaitFailed (verdict.broken (codes "Test case could not be waited for"))
-  plain_late : PlainRow 2 TimedOut (verdict.broken (codes "Test case timed out"))
+  plain_timed_out : PlainRow 2 TimedOut (verdict.broken (codes "Test case timed out"))
   plain_signaled : (signal : ℕ) (core : Bool) → PlainRow 3 (Signaled signal core) (verdict.broken (codes "Received signal " ++ decimal signal))
   plain_passed : PlainRow 4 (Exited 0) verdict.passed
   plain_failed : (code : ℕ) → PlainRow 5 (Exited code) (verdict.failed (codes "Returned non-success exit status " ++ decimal code))
@@ -91,7 +91,7 @@ pub data PlainRow : ℕ → Outcome → Judged → Type 0 where
 -- printed the results `tap` and has this `outcome`, and gives `verdict`.
 pub data TapRow : ℕ → Tap → Outcome → Judged → Type 0 where
   tap_not_waited_for : (t : Tap) → TapRow 1 t WaitFailed (verdict.broken (codes "Test case could not be waited for"))
-  tap_late : (t : Tap) → TapRow 2 t TimedOut (verdict.broken (codes "Test case timed out"))
+  tap_timed_out : (t : Tap) → TapRow 2 t TimedOut (verdict.broken (codes "Test case timed out"))
   tap_signaled : (t : Tap) (signal : ℕ) (core : Bool) → TapRow 3 t (Signaled signal core) (verdict.broken (codes "Received signal " ++ decimal signal))
   tap_bailed_out : (code : ℕ) → TapRow 4 BailedOut (Exited code) (verdict.failed (codes "Bailed out"))
   tap_invalid : (f : TapFault) (code : ℕ) → TapRow 5 (Invalid f) (Exited code) (verdict.broken (codes "TAP test program yielded invalid data: " ++ tap_fault_text f))
@@ -113,15 +113,15 @@ pub data RefusalRow : ℕ → Refused → Judged → Type 0 where
 -- has the verdict `body` and the cleanup has the result `end`. It gives `verdict`, the verdict on
 -- the case.
 pub data CleanupRow : ℕ → Judged → CleanupEnd → Judged → Type 0 where
-  bad_already : (body : Judged) (end : CleanupEnd) → good body.kind ≡ false → CleanupRow 1 body end body
+  body_is_bad : (body : Judged) (end : CleanupEnd) → good body.kind ≡ false → CleanupRow 1 body end body
   cleaned_up : (body : Judged) → CleanupRow 2 body (cleanup.Ended (Exited 0)) body
-  cleanup_late : (body : Judged) → CleanupRow 3 body (cleanup.Ended TimedOut) (verdict.broken (codes "Test case cleanup timed out"))
+  cleanup_timed_out : (body : Judged) → CleanupRow 3 body (cleanup.Ended TimedOut) (verdict.broken (codes "Test case cleanup timed out"))
   cleanup_failed : (body : Judged) (ending : Outcome) → CleanupRow 4 body (cleanup.Ended ending) (verdict.broken (codes "Test case cleanup did not terminate successfully"))
   cleanup_not_started : (body : Judged) → CleanupRow 5 body cleanup.Refused (verdict.broken (codes "Test case cleanup could not be started"))
 
--- `FirstOf Row verdict`: `Row number verdict` holds for the least `number` of a row that fits, so
+-- `IsFirstRow Row verdict`: `Row number verdict` holds for the least `number` of a row that fits, so
 -- the first such row gives `verdict`.
-pub record FirstOf (Row : ℕ → Judged → Type 0) (verdict : Judged) : Type 0 where
+pub record IsFirstRow (Row : ℕ → Judged → Type 0) (verdict : Judged) : Type 0 where
   pub number : ℕ
   pub fits : Row number verdict
   pub first : (m : ℕ) (other : Judged) → Row m other → number ≤ m
@@ -129,16 +129,16 @@ pub record FirstOf (Row : ℕ → Judged → Type 0) (verdict : Judged) : Type 0
 -- `IsVerdict evidence outcome verdict`: `verdict` is the verdict on a body with this `evidence` and
 -- `outcome`, by the table for ATF, TAP or plain programs.
 abbrev pub IsVerdict : Evidence → Outcome → Judged → Type 0
-IsVerdict (evidence.Atf claim) ending verdict = FirstOf (λ n v. AtfRow n claim ending v) verdict
-IsVerdict (evidence.Tap tap) ending verdict = FirstOf (λ n v. TapRow n tap ending v) verdict
-IsVerdict evidence.Plain ending verdict = FirstOf (λ n v. PlainRow n ending v) verdict
+IsVerdict (evidence.Atf claim) ending verdict = IsFirstRow (λ n v. AtfRow n claim ending v) verdict
+IsVerdict (evidence.Tap tap) ending verdict = IsFirstRow (λ n v. TapRow n tap ending v) verdict
+IsVerdict evidence.Plain ending verdict = IsFirstRow (λ n v. PlainRow n ending v) verdict
 
 -- `IsVerdictOfRefusal refused verdict`: `verdict` is the verdict on a case whose start failed with
 -- the error `refused`.
 abbrev pub IsVerdictOfRefusal : Refused → Judged → Type 0
-IsVerdictOfRefusal refused verdict = FirstOf (λ n v. RefusalRow n refused v) verdict
+IsVerdictOfRefusal refused verdict = IsFirstRow (λ n v. RefusalRow n refused v) verdict
 
--- `IsVerdictAfter body end verdict`: `verdict` is the verdict on a case if the body has the verdict
+-- `IsVerdictAfterCleanup body end verdict`: `verdict` is the verdict on a case if the body has the verdict
 -- `body` and the cleanup has the result `end`.
-abbrev pub IsVerdictAfter : Judged → CleanupEnd → Judged → Type 0
-IsVerdictAfter body end verdict = FirstOf (λ n v. CleanupRow n body end v) verdict
+abbrev pub IsVerdictAfterCleanup : Judged → CleanupEnd → Judged → Type 0
+IsVerdictAfterCleanup body end verdict = IsFirstRow (λ n v. CleanupRow n body end v) verdict

@@ -1,5 +1,5 @@
 ghost use Rattle.std.specs.Prelude.{◌≡◌, ◌++◌, codes};
-ghost use Rattle.kt_status.specs.Common.{ending_text, phrase_text, broken, claim_fault_text, atf_verdict};
+ghost use Rattle.kt_status.specs.Common.{outcome_text, phrase_text, broken, claim_fault_text, atf_verdict};
 
 use kt_base::{Outcome, Phrase, Reason, Verdict};
 use kt_claim::{Claim, ClaimFault};
@@ -23,8 +23,8 @@ fn fault_phrase(fault: ClaimFault) -> Phrase
 /// Returns the `broken` verdict on a case whose result file is missing or contradicts `ending`.
 ///
 /// The reason is `phrase`, followed by the exit status or the signal.
-fn contradicted(phrase: Phrase, ending: Outcome) -> Verdict
-    ensures { result ≡ broken (phrase_text phrase ++ ending_text ending) }
+fn contradiction_verdict(phrase: Phrase, ending: Outcome) -> Verdict
+    ensures { result ≡ broken (phrase_text phrase ++ outcome_text ending) }
 {
     Verdict::broken(Reason::Ended(phrase, ending))
 }
@@ -42,7 +42,7 @@ pub fn atf_verdict(claim: Claim, ending: Outcome) -> Verdict
         }
         (_, Outcome::TimedOut) => Verdict::broken(Reason::Fixed(Phrase::BodyTimedOut)),
         // In all cases from here on, the body exited or received a signal.
-        (Claim::Missing, _) => contradicted(Phrase::PrematureExit, ending),
+        (Claim::Missing, _) => contradiction_verdict(Phrase::PrematureExit, ending),
         (Claim::Unreadable, _) => Verdict::broken(Reason::Fixed(Phrase::ResultsUnreadable)),
         (Claim::Malformed(fault), _) => Verdict::broken(Reason::Fixed(fault_phrase(fault))),
         (Claim::Passed, Outcome::Exited(0)) => Verdict::passed(),
@@ -50,11 +50,14 @@ pub fn atf_verdict(claim: Claim, ending: Outcome) -> Verdict
         (Claim::ExpectedFailure(reason), Outcome::Exited(0)) => {
             Verdict::expected_failure(Reason::Owned(reason))
         }
-        (Claim::Passed, _) => contradicted(Phrase::PassedButNoSuccess, ending),
-        (Claim::Skipped(_), _) => contradicted(Phrase::SkippedButNoSuccess, ending),
-        (Claim::ExpectedFailure(_), _) => contradicted(Phrase::ExpectedFailureButNoSuccess, ending),
+        (Claim::Passed, _) => contradiction_verdict(Phrase::PassedButNoSuccess, ending),
+        (Claim::Skipped(_), _) => contradiction_verdict(Phrase::SkippedButNoSuccess, ending),
+        (Claim::ExpectedFailure(_), _) => contradiction_verdict(
+            Phrase::ExpectedFailureButNoSuccess,
+            ending,
+        ),
         (Claim::Failed(reason), Outcome::Exited(1)) => Verdict::failed(Reason::Owned(reason)),
-        (Claim::Failed(_), _) => contradicted(Phrase::FailedButNoFailure, ending),
+        (Claim::Failed(_), _) => contradiction_verdict(Phrase::FailedButNoFailure, ending),
         (Claim::ExpectedDeath(reason), _) => Verdict::expected_failure(Reason::Owned(reason)),
         (Claim::ExpectedExit(None, reason), Outcome::Exited(_)) => {
             Verdict::expected_failure(Reason::Owned(reason))
@@ -65,7 +68,7 @@ pub fn atf_verdict(claim: Claim, ending: Outcome) -> Verdict
         (Claim::ExpectedExit(Some(due), _), Outcome::Exited(got)) => {
             Verdict::failed(Reason::Counted(Phrase::OtherExitCode, due as u64, got as u64))
         }
-        (Claim::ExpectedExit(_, _), _) => contradicted(Phrase::NoCleanExit, ending),
+        (Claim::ExpectedExit(_, _), _) => contradiction_verdict(Phrase::NoCleanExit, ending),
         (Claim::ExpectedSignal(None, reason), Outcome::Signaled(_, _)) => {
             Verdict::expected_failure(Reason::Owned(reason))
         }
@@ -75,7 +78,7 @@ pub fn atf_verdict(claim: Claim, ending: Outcome) -> Verdict
         (Claim::ExpectedSignal(Some(due), _), Outcome::Signaled(got, _)) => {
             Verdict::failed(Reason::Counted(Phrase::OtherSignal, due as u64, got as u64))
         }
-        (Claim::ExpectedSignal(_, _), _) => contradicted(Phrase::NoSignal, ending),
-        (Claim::ExpectedTimeout(_), _) => contradicted(Phrase::NoTimeout, ending),
+        (Claim::ExpectedSignal(_, _), _) => contradiction_verdict(Phrase::NoSignal, ending),
+        (Claim::ExpectedTimeout(_), _) => contradiction_verdict(Phrase::NoTimeout, ending),
     }
 }

@@ -1,5 +1,5 @@
 ghost use Rattle.std.specs.Prelude.{◌≡◌};
-ghost use Rattle.kt_status.specs.Common.{Judged, IsVerdictAfter, cleaned};
+ghost use Rattle.kt_status.specs.Common.{Judged, IsVerdictAfterCleanup, cleaned};
 
 use crate::CleanupEnd;
 use kt_base::{Outcome, Phrase, Reason, Verdict};
@@ -24,8 +24,8 @@ fn cleaned(body: Verdict, end: CleanupEnd) -> Verdict
 /// The verdict is `body` if `body` is failed or broken, or if the cleanup exited with 0. Otherwise
 /// it is broken. The call doesn't allocate.
 pub fn with_cleanup(body: Verdict, end: CleanupEnd) -> Verdict
-    ensures row { IsVerdictAfter body end result }
-    ensures only { (verdict : Judged) → IsVerdictAfter body end verdict → result ≡ verdict }
+    ensures row { IsVerdictAfterCleanup body end result }
+    ensures only { (verdict : Judged) → IsVerdictAfterCleanup body end verdict → result ≡ verdict }
 {
     if body.kind().good() {
         cleaned(body, end)

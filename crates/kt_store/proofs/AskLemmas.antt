@@ -1,5 +1,5 @@
 -- The state of a connection after a query, and the tables that prepared statements show.
-use Rattle.kt_store.proofs.Common.{Asked, AsksNumber, CommitsNothing, Compiled, Database, Err, Ghosts, HasCleanDisk, HasTables, Held, IsStore, IsTrue, IsUnchanged, IsUnderstood, List, Looked, MayShow, Ok, Outlines, Rests, Result, Row, Run, SaysSchema, Shown, ShowsRows, StandsFor, State, Survives, Trees, ap, arith, never_commits, refl, schema_2, state, subst, survives_then, survives_weaker, sym, unchanged_then, understood, ℕ, ℤ, ◌∙◌, ◌≡◌}
+use Rattle.kt_store.proofs.Common.{Asked, AsksNumber, CommitsNothing, Compiled, Database, Err, Ghosts, HasCleanDisk, HasTables, Held, IsStore, IsTrue, IsUnchanged, IsUnderstood, List, OnlyReadsRuns, MayShow, Ok, Outlines, IsUnchangedOrRolledBack, Result, Row, Run, StoresSchemaNumber, Shown, ShowsRows, StandsFor, State, Survives, Trees, ap, arith, never_commits, refl, schema_2, state, subst, survives_then, survives_weaker, sym, unchanged_then, understood, ℕ, ℤ, ◌∙◌, ◌≡◌}
 use Rattle.sqlite.specs.Given.{IsPlain}
 use Rattle.sqlite.specs.Clock.{timed}
 use Rattle.kt_store.proofs.StepLemmas.{same_store}
@@ -44,14 +44,14 @@ module _ {S : Type 0} (g : Ghosts S) (old new : Held S) (runs : List Run) (has :
   asked_survives h = asked_leaves g old new survives sql stored_plain params h
 
 -- calls that read, one after the other
-pub looked-then : {S : Type 0} {g : Ghosts S} {old mid new : Held S} → Looked g old mid → Looked g mid new → Looked g old new
+pub looked-then : {S : Type 0} {g : Ghosts S} {old mid new : Held S} → OnlyReadsRuns g old mid → OnlyReadsRuns g mid new → OnlyReadsRuns g old new
 looked-then {S} {g} {old} {mid} {new} a b = record {
   stands = λ runs has. b.stands runs (a.stands runs has);
   crash = λ runs has. survives_then (state g old) (state g mid) (state g new) (λ _. ⊥) (λ _. ⊥) (λ _. ⊥) (λ _ db none. none) (λ _ db none. none) (a.crash runs has) (b.crash runs (a.stands runs has));
 }
 
 -- a disk that is clean after a call that reads was clean before the call
-pub was_clean : {S : Type 0} {g : Ghosts S} {old new : Held S} → Looked g old new → (runs : List Run) → StandsFor (state g old) runs → HasCleanDisk (state g new) → HasCleanDisk (state g old)
+pub was_clean : {S : Type 0} {g : Ghosts S} {old new : Held S} → OnlyReadsRuns g old new → (runs : List Run) → StandsFor (state g old) runs → HasCleanDisk (state g new) → HasCleanDisk (state g old)
 was_clean looked runs has clean = omega (arith, clean, (looked.crash runs has).clean)
 
 -- ---- the tables that prepared statements show
@@ -78,7 +78,7 @@ nothing_then a b c one two = survives_then a b c (λ _. ⊥) (λ _. ⊥) (λ _. 
 
 -- a call that commits nothing, after a call that read the schema number
 pub asks_then : {S : Type 0} (g : Ghosts S) (a b c : Held S) → AsksNumber g a b → CommitsNothing g b c
-    → ((n : ℤ) → SaysSchema n (state g a) → HasCleanDisk (state g c) → Rests (state g a) (state g c)) → AsksNumber g a c
+    → ((n : ℤ) → StoresSchemaNumber n (state g a) → HasCleanDisk (state g c) → IsUnchangedOrRolledBack (state g a) (state g c)) → AsksNumber g a c
 asks_then g a b c first survives rests = record {
   earlier = λ k. first.earlier (omega (arith, k, survives.clean));
   rests = rests;

@@ -1,5 +1,5 @@
 -- Finishing a run.
-use Rattle.kt_store.proofs.Common.{AllByRecursion, Applies, AreRuns, Database, Does, Enforced, Entry, Ghosts, Given, HasCleanDisk, Held, Incomplete, Int, IsAscending, IsComplete, IsDatabase, IsPermutation, IsRun, IsStore, IsTrue, Keeps, List, MayExecute, Mode, None, Ok, Option, Run, RunClosed, Some, StandsFor, Tables, Tally, Executed, Trees, Update, [], all_from, all_weaker, ap, arith, done_row, drop, edit_of, entries_of, entry_row, entry_rows, false, finish, finish_refusal, finish_refusal_of, finish_text, flat_map, ids_of, length, map, nat_lt, nat_tests, pair_rows, pos, prop_rows, refl, run_at, runs_1, schema_2, state, subst, suc, sym, true, zero, ℕ, ◌++◌, ◌+◌, ◌<◌, ◌∙◌, ◌∷◌, ◌≡◌, ◌≤◌}
+use Rattle.kt_store.proofs.Common.{AllByRecursion, Applies, AreRuns, Database, Does, Enforced, Entry, Ghosts, Given, HasCleanDisk, Held, Incomplete, Int, IsAscending, IsComplete, IsDatabase, IsPermutation, IsRun, IsStore, IsTrue, Keeps, List, MayExecute, Mode, None, Ok, Option, Run, RunClosed, Some, StandsFor, Tables, Tally, Executed, Trees, Update, [], all_from, all_weaker, ap, arith, finished_run_row, drop, edit_of, entries_of, entry_row, entry_rows, false, finish, finish_refusal, finish_refusal_of, finish_text, flat_map, ids_of, length, map, nat_lt, nat_tests, pair_rows, pos, prop_rows, refl, run_at, runs_1, schema_2, state, subst, suc, sym, true, zero, ℕ, ◌++◌, ◌+◌, ◌<◌, ◌∙◌, ◌∷◌, ◌≡◌, ◌≤◌}
 use Rattle.std.specs.List.{slice_index_or}
 use Rattle.kt_store.proofs.RunsByNumber.{finish_each, finish_unseen, run_of}
 use Rattle.kt_store.proofs.SqlFacts.{finish_is}
@@ -12,7 +12,7 @@ whole_run r is whole = record { small = is.small; ordered = is.ordered; below = 
 
 -- the tables of runs with one run finished, by the rules of the schema
 pub finish_in : (runs : List Run) (k : ℕ) (r : Run) → run_at runs (suc k) ≡ Some r → length r.entries ≡ r.total → (db after : Database) → Tables db runs → after.schema ≡ schema_2
-    → Applies schema_2 Enforced db.trees (edit_of db.trees runs_1 (ids_of (done_row r ∷ [])) Given 1 (done_row r ∷ [])) after.trees → Tables after (finish (suc k) runs)
+    → Applies schema_2 Enforced db.trees (edit_of db.trees runs_1 (ids_of (finished_run_row r ∷ [])) Given 1 (finished_run_row r ∷ [])) after.trees → Tables after (finish (suc k) runs)
 finish_in runs k r there whole db after has schema_is applies =
     record {
       schema = schema_is;

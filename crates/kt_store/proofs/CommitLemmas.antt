@@ -1,5 +1,5 @@
 -- Statements of a transaction, in turn, and the state after their commit.
-use Rattle.kt_store.proofs.Common.{Commits, CommitsLater, Database, Error, ExecutesInside, Fails, FailsToCommit, Ghosts, HasCleanDisk, Held, IsSettledWhileOpen, IsDatabase, IsRolledBack, IsSettled, IsTrue, Keeps, KeepsCommit, Leaves, List, MayCommit, Result, Row, Run, RunInTurn, RunsOne, StandsFor, State, Statement, Survives, Tables, Trees, Undoes, Variable, [], ap, arith, begun, both_ways, cases_Bool, drop, drop-cons, drop_more, false, get_or, inl, inr, inside_keeps, keeps_then, length, map, pair_statement, pair_statements, plain_statements, refl, state, subst, suc, survives_begin, survives_then, survives_weaker, sym, ℕ, ◌+◌, ◌<◌, ◌∙◌, ◌∷◌, ◌≡◌}
+use Rattle.kt_store.proofs.Common.{Commits, CommitsNothingYet, Database, Error, ExecutesInside, Fails, FailsToCommit, Ghosts, HasCleanDisk, Held, IsSettledWhileOpen, IsDatabase, IsRolledBack, IsSettled, IsTrue, Keeps, KeepsCommit, Leaves, List, MayCommit, Result, Row, Run, ExecutesInOrder, ExecutesOne, StandsFor, State, Statement, Survives, Tables, Trees, RollsBack, Variable, [], ap, arith, begun, both_ways, cases_Bool, drop, drop-cons, drop_more, false, get_or, inl, inr, inside_keeps, keeps_then, length, map, pair_statement, pair_statements, plain_statements, refl, state, subst, suc, survives_begin, survives_then, survives_weaker, sym, ℕ, ◌+◌, ◌<◌, ◌∙◌, ◌∷◌, ◌≡◌}
 use Rattle.kt_store.proofs.StepLemmas.{undone_settled}
 
 module _ {S : Type 0} (g : Ghosts S) where
@@ -8,10 +8,10 @@ module _ {S : Type 0} (g : Ghosts S) where
     pub survives : Survives (state g start) (state g now) (λ (db : Trees). ⊥)
     pub keeps : HasCleanDisk (state g now) → KeepsCommit (state g start) (state g now)
     pub inside : HasCleanDisk (state g now) → IsTrue (state g start).in_transaction → IsTrue (state g now).in_transaction
-    pub runs : HasCleanDisk (state g now) → IsTrue (state g start).in_transaction → (end : Held S) → RunInTurn g rest now end → RunInTurn g statements start end
+    pub runs : HasCleanDisk (state g now) → IsTrue (state g start).in_transaction → (end : Held S) → ExecutesInOrder g rest now end → ExecutesInOrder g statements start end
 
   -- one more statement was run
-  pub one_done : (statements rest : List Statement) (s : Statement) (start now next : Held S) → SoFar statements (s ∷ rest) start now → CommitsLater g now next → RunsOne g s now next → SoFar statements rest start next
+  pub one_done : (statements rest : List Statement) (s : Statement) (start now next : Held S) → SoFar statements (s ∷ rest) start now → CommitsNothingYet g now next → ExecutesOne g s now next → SoFar statements rest start next
   one_done statements rest s start now next so_far later ran =
       let early : HasCleanDisk (state g next) → HasCleanDisk (state g now) = λ clean. omega (arith, clean, later.survives.clean) in
       record {
@@ -48,7 +48,7 @@ store_fails old new error inside (inr ended) = absurd (both_ways _ ended.1 insid
 
 module _ {S : Type 0} (g : Ghosts S) (old left new : Held S) where
   -- a transaction that is rolled back is undone
-  pub rolled_undoes : KeepsCommit (state g (begun old)) (state g left) → IsRolledBack (state g left) (state g new) → Undoes g old new
+  pub rolled_undoes : KeepsCommit (state g (begun old)) (state g left) → IsRolledBack (state g left) (state g new) → RollsBack g old new
   rolled_undoes keeps back = inr (record {
     was_open = λ opened. keeps.was_open (back.was_open opened);
     now = λ opened. (back.undone opened).0 ∙ keeps.committed (back.was_open opened);
@@ -57,11 +57,11 @@ module _ {S : Type 0} (g : Ghosts S) (old left new : Held S) where
   })
 
   -- a transaction whose commit failed is undone
-  pub failed_undoes : (error : Error) → IsTrue (state g left).in_transaction → KeepsCommit (state g (begun old)) (state g left) → FailsToCommit (state g left) (state g new) error → Undoes g old new
+  pub failed_undoes : (error : Error) → IsTrue (state g left).in_transaction → KeepsCommit (state g (begun old)) (state g left) → FailsToCommit (state g left) (state g new) error → RollsBack g old new
   failed_undoes error inside keeps failed = rolled_undoes keeps (store_fails (state g left) (state g new) error inside failed).3
 
   -- a crash leaves what it left before, or what the commit writes
-  pub commit_survives : (statements : List Statement) → (HasCleanDisk (state g left) → RunInTurn g statements (begun old) left)
+  pub commit_survives : (statements : List Statement) → (HasCleanDisk (state g left) → ExecutesInOrder g statements (begun old) left)
       → Survives (state g (begun old)) (state g left) (λ (db : Trees). ⊥) → Survives (state g left) (state g new) (λ db. db ≡ (state g left).now.trees) → Survives (state g old) (state g new) (MayCommit g statements old)
   commit_survives statements ran inside commit =
       survives_begin g old (state g new) (MayCommit g statements old)
@@ -69,7 +69,7 @@ module _ {S : Type 0} (g : Ghosts S) (old left new : Held S) where
       (λ clean db is. (left, ran (omega (arith, clean, commit.clean)), is)) inside commit)
 
 -- an undone connection represents the runs that it represented
-pub undone_holds : {S : Type 0} (g : Ghosts S) (P : Database → Type 0) (old new : Held S) → IsSettledWhileOpen P (state g old) → (HasCleanDisk (state g new) → HasCleanDisk (state g old)) → (HasCleanDisk (state g new) → Undoes g old new) → IsSettledWhileOpen P (state g new)
+pub undone_holds : {S : Type 0} (g : Ghosts S) (P : Database → Type 0) (old new : Held S) → IsSettledWhileOpen P (state g old) → (HasCleanDisk (state g new) → HasCleanDisk (state g old)) → (HasCleanDisk (state g new) → RollsBack g old new) → IsSettledWhileOpen P (state g new)
 undone_holds g P old new has earlier left clean opened = elim (left clean) [
   | inl same ↦ subst (λ h. HasCleanDisk (state g h) → IsTrue (state g h).is_open → IsSettled P (state g h)) (sym same) has clean opened
   | inr undone ↦ undone_settled P (state g old) (state g new) (has (earlier clean) (undone.was_open opened)) undone opened
@@ -77,7 +77,7 @@ undone_holds g P old new has earlier left clean opened = elim (left clean) [
 
 -- statements that create the tables of these runs
 module _ {S : Type 0} (g : Ghosts S) (statements : List Statement) (old new : Held S) (more : List Run) (survives : Survives (state g old) (state g new) (MayCommit g statements old))
-    (made : HasCleanDisk (state g old) → (left : Held S) → RunInTurn g statements (begun old) left → Tables (state g left).now more × IsDatabase (state g left).now) where
+    (made : HasCleanDisk (state g old) → (left : Held S) → ExecutesInOrder g statements (begun old) left → Tables (state g left).now more × IsDatabase (state g left).now) where
   early : HasCleanDisk (state g new) → HasCleanDisk (state g old)
   early clean = omega (arith, clean, survives.clean)
 

@@ -1,5 +1,5 @@
 -- The effect of the statements that create the tables.
-use Rattle.kt_store.proofs.Common.{Chosen, CreateTable, Database, Enforced, Executes, Ghosts, Held, Insert, Int, IsDatabase, IsPermutation, IsPermutation-refl, IsPlain, IsTrue, List, None, Ok, Row, RunInTurn, Schema, State, Table, Tables, Tally, Text, Trees, Values, Writes, [], ap, arith, begun, codes, command_of, create_entries, create_meta, create_props, create_runs, drop, edit_of, entries, everything, false, lacks_sequence, make_statements, map, mark_text, meta, meta_1, mode_of, no_schema, pos, props, refl, runs, runs_as, schema_1, schema_2, state, statement_of, subst, sym, taken_by, understood, value_rows, works, ℕ, ◌∙◌, ◌∷◌, ◌≡◌}
+use Rattle.kt_store.proofs.Common.{Chosen, CreateTable, Database, Enforced, Executes, Ghosts, Held, Insert, Int, IsDatabase, IsPermutation, IsPermutation-refl, IsPlain, IsTrue, List, None, Ok, Row, ExecutesInOrder, Schema, State, Table, Tables, Tally, Text, Trees, Values, Writes, [], ap, arith, begun, codes, command_of, create_entries, create_meta, create_props, create_runs, drop, edit_of, entries, everything, false, lacks_sequence, make_statements, map, mark_text, meta, meta_1, mode_of, no_schema, pos, props, refl, runs, runs_as, schema_1, schema_2, state, statement_of, subst, sym, taken_by, understood, value_rows, works, ℕ, ◌∙◌, ◌∷◌, ◌≡◌}
 use Rattle.sqlite.specs.Compile.{table_defined_by}
 use Rattle.sqlite.specs.Change.{created, next_tree, KeepsRows}
 use Rattle.kt_store.proofs.SqlFacts.{mark_is, mark_terms}
@@ -85,7 +85,7 @@ made_all a b c m d e i j k o l has one two three fourth four =
     )
 
 -- the five statements in a transaction
-pub made_in : {S : Type 0} (g : Ghosts S) (old left : Held S) → (IsTrue (state g old).is_open → (state g old).now.schema ≡ no_schema) → RunInTurn g make_statements (begun old) left → Tables (state g left).now [] × IsDatabase (state g left).now
+pub made_in : {S : Type 0} (g : Ghosts S) (old left : Held S) → (IsTrue (state g old).is_open → (state g old).now.schema ≡ no_schema) → ExecutesInOrder g make_statements (begun old) left → Tables (state g left).now [] × IsDatabase (state g left).now
 made_in g old left has ran =
     let two = ran.2 in
     let three = two.2 in

@@ -1,5 +1,5 @@
 -- The results of the queries of entries by position.
-use Rattle.kt_store.proofs.Common.{AllByRecursion, AreRuns, Binary, Bool, Entry, Ghosts, Held, Int, IsAscending, IsEntry, IsPermutation, IsRun, IsStore, IsSureAnswer, Less, List, None, Option, Output, Query, Row, Run, Shown, ShowsOf, Some, State, Term, [], ap, ap₂, arith, ascending, ascending-filter, ascending-map, ascending_weaker, binary, col, cond, drop, entries_of, entries_text, entry_row, entry_rows, false, filter, from_truth, has_position, holds, is_true, length, length-map, list_all, map, map-map, nat_lt, nat_tests, output, output_cmp, overlay, pos, reads_as, refl, run_at, schema_2, state, subst, sym, there_text, true, whole_columns, ℕ, ◌&&◌, ◌<◌, ◌==◌, ◌||◌, ◌∙◌, ◌∷◌, ◌≡◌}
+use Rattle.kt_store.proofs.Common.{AllByRecursion, AreRuns, Binary, Bool, Entry, Ghosts, Held, Int, IsAscending, IsEntry, IsPermutation, IsRun, IsStore, IsSureAnswer, Less, List, None, Option, Output, Query, Row, Run, Shown, QueriesRuns, Some, State, Term, [], ap, ap₂, arith, ascending, ascending-filter, ascending-map, ascending_weaker, binary, col, cond, drop, entries_of, entries_text, entry_row, entry_rows, false, filter, from_truth, has_position, holds, is_true, length, length-map, list_all, map, map-map, nat_lt, nat_tests, output, output_cmp, overlay, pos, reads_as, refl, run_at, schema_2, state, subst, sym, entry_query, true, whole_columns, ℕ, ◌&&◌, ◌<◌, ◌==◌, ◌||◌, ◌∙◌, ◌∷◌, ◌≡◌}
 use Rattle.kt_store.proofs.QueryLemmas.{selects, answered_sorted}
 use Rattle.kt_store.proofs.EntryLemmas.{back, of_stored, of_run, tests, each, all_pass, and_true, truth}
 use Rattle.kt_store.proofs.Values.{below, same_test}
@@ -114,10 +114,10 @@ counted_here p es more = sym (any_left p es) ∙ grind (arith, nat_tests, more)
 pub counted_none : (p : ℕ) (es : List Entry) → length (filter (has p) es) ≡ 0 → has_position p es ≡ false
 counted_none p es none = sym (any_left p es) ∙ grind (arith, nat_tests, none)
 
-pub tells_there : {S : Type 0} (g : Ghosts S) (new : Held S) (runs : List Run) (n p : ℕ) (rows : List Row) → ShowsOf g runs there_text (there_params n p) new rows → nat_lt 0 (length rows) ≡ has_position p (entries_of (run_at runs n))
+pub tells_there : {S : Type 0} (g : Ghosts S) (new : Held S) (runs : List Run) (n p : ℕ) (rows : List Row) → QueriesRuns g runs entry_query (there_params n p) new rows → nat_lt 0 (length rows) ≡ has_position p (entries_of (run_at runs n))
 tells_there g new runs n p rows it =
     let params = there_params n p in
     let es = entries_of (run_at runs n) in
-    let reads = reads_as there_text params (state g it.mid) (state g new) schema_2 it.stored.tables.schema _ there_is.0 there_is.2 there_is.1 rows it.shown in
+    let reads = reads_as entry_query params (state g it.mid) (state g new) schema_2 it.stored.tables.schema _ there_is.0 there_is.2 there_is.1 rows it.shown in
     let are = tells_kept there_tests there_query.project params (there_rows n p) n (has p) (there_each n p) (state g it.mid) runs rows it.stored (up_of runs n it.stored.tables.valid) reads.answer in
     ap (λ l. nat_lt 0 (length l)) are ∙ ap (nat_lt 0) (length-map (filter (has p) es) _) ∙ any_left p es

@@ -1,5 +1,5 @@
 -- The effect of the statements that put an entry and its pairs.
-use Rattle.kt_store.proofs.Common.{AllByRecursion, Applies, AreRuns, CanAdd, Chosen, Database, Enforced, Entry, Executes, Ghosts, HasCleanDisk, HasTexts, Held, Insert, Int, IsDatabase, IsPair, IsPermutation, IsPermutation-cons, IsPermutation-map, IsPermutation-middle, IsPermutation-sym, IsPermutation-trans, IsTrue, List, None, Ok, Row, Run, RunInTurn, StandsFor, State, Statement, Tables, Text, Values, Variable, Writes, [], and_parts, ap, are_fresh, arith, begun, cast_row, codes, drop, edit_of, entries_1, entry_row, entry_rows, entry_statements, false, is_taken, kind_code, length, map, mode_of, next_rowid, not, not-true, numbered, pair_row, pair_rows, pair_rows_from, pair_statements, pair_text, pos, prop_rows, props_1, put_all, put_row, put_text, refl, run_row, runs_as, schema_2, state, statement_of, subst, suc, sym, true, understood, value_rows, with_entry, ℕ, ◌++◌, ◌+◌, ◌∙◌, ◌∷◌, ◌≡◌}
+use Rattle.kt_store.proofs.Common.{AllByRecursion, Applies, AreRuns, CanAdd, Chosen, Database, Enforced, Entry, Executes, Ghosts, HasCleanDisk, HasTexts, Held, Insert, Int, IsDatabase, IsPair, IsPermutation, IsPermutation-cons, IsPermutation-map, IsPermutation-middle, IsPermutation-sym, IsPermutation-trans, IsTrue, List, None, Ok, Row, Run, ExecutesInOrder, StandsFor, State, Statement, Tables, Text, Values, Variable, Writes, [], and_parts, ap, are_fresh, arith, begun, cast_row, codes, drop, edit_of, entries_table, entry_row, entry_rows, entry_statements, false, is_taken, kind_code, length, map, mode_of, next_rowid, not, not-true, numbered, pair_row, pair_rows, pair_rows_from, pair_statements, pair_text, pos, prop_rows, props_1, put_all, put_row, put_text, refl, run_row, runs_as, schema_2, state, statement_of, subst, suc, sym, true, understood, value_rows, with_entry, ℕ, ◌++◌, ◌+◌, ◌∙◌, ◌∷◌, ◌≡◌}
 use Rattle.kt_store.proofs.SqlFacts.{put_is, put_terms, pair_is, pair_terms}
 use Rattle.kt_store.proofs.InsertLemmas.{changed}
 use Rattle.kt_store.proofs.RunsByNumber.{entry_unseen}
@@ -43,9 +43,9 @@ moved runs entries props more db same has = record {
 
 -- an entry and pairs, as the rules of the schema put them in
 module _ (runs : List Run) (entries props : List Row) (db after : Database) (has : HasRows runs entries props db) (schema_is : after.schema ≡ schema_2) where
-  pub entry_in : (n : ℕ) (e : Entry) → Applies schema_2 Enforced db.trees (edit_of db.trees entries_1 [] Chosen 0 (put_rows n e)) after.trees → HasRows runs (entry_row n e ∷ entries) props after
+  pub entry_in : (n : ℕ) (e : Entry) → Applies schema_2 Enforced db.trees (edit_of db.trees entries_table [] Chosen 0 (put_rows n e)) after.trees → HasRows runs (entry_row n e ∷ entries) props after
   entry_in n e applies =
-      let news_are : (edit_of db.trees entries_1 [] Chosen 0 (put_rows n e)).news ≡ numbered Chosen (db.trees 3) (map back (entry_row n e ∷ [])) =
+      let news_are : (edit_of db.trees entries_table [] Chosen 0 (put_rows n e)).news ≡ numbered Chosen (db.trees 3) (map back (entry_row n e ∷ [])) =
       rw (cast_null, cast_int (pos n), cast_int (pos e.position), cast_int (pos (kind_code e.verdict.kind)), cast_int (pos e.started), cast_int (pos e.millis)) refl in
       record {
         schema = schema_is;
@@ -73,7 +73,7 @@ module _ (runs : List Run) (entries props : List Row) (old new : State) (count :
   put_inside n e h =
       let text = statement_of put_text (understood schema_2 put_text) in
       let w : Writes old new None (Insert 2 (Values put_terms 13)) text (entry_row n e) count = runs_as put_text (entry_row n e) old new schema_2 has.schema (Insert 2 (Values put_terms 13)) put_is.0 put_is.1 count h in
-      let did = changed schema_2 2 entries_1 put_terms 13 refl refl refl put_works old.step_limit (mode_of old) (entry_row n e) old.now new.now text w.tally refl has.schema w.changed in
+      let did = changed schema_2 2 entries_table put_terms 13 refl refl refl put_works old.step_limit (mode_of old) (entry_row n e) old.now new.now text w.tally refl has.schema w.changed in
       (entry_in runs entries props old.now new.now has did.schema_is n e did.applies, w.sound)
 
   pair_inside : (n p k : ℕ) (v : Variable) → Executes pair_text (pair_row n p k v) old new (Ok count) → HasRows runs entries (pair_row n p k v ∷ props) new.now × IsDatabase new.now
@@ -86,7 +86,7 @@ module _ (runs : List Run) (entries props : List Row) (old new : State) (count :
 
 module _ {S : Type 0} (g : Ghosts S) (runs : List Run) (entries : List Row) (n p : ℕ) where
   pairs_inside : (k : ℕ) (vs : List Variable) (props : List Row) (old new : Held S) → HasRows runs entries props (state g old).now → IsDatabase (state g old).now
-      → RunInTurn g (pair_statements n p k vs) old new → HasRows runs entries (pair_rows_from n p k vs ++ props) (state g new).now × IsDatabase (state g new).now
+      → ExecutesInOrder g (pair_statements n p k vs) old new → HasRows runs entries (pair_rows_from n p k vs ++ props) (state g new).now × IsDatabase (state g new).now
   pairs_inside k [] props old new has sound is = subst (λ h. HasRows runs entries props (state g h).now × IsDatabase (state g h).now) (sym is) (has, sound)
   pairs_inside k (v ∷ vs) props old new has sound ran =
       let one = pair_inside runs entries props (state g old) (state g ran.0) ran.1.0 has n p k v ran.1.1.0 in
@@ -95,7 +95,7 @@ module _ {S : Type 0} (g : Ghosts S) (runs : List Run) (entries : List Row) (n p
 
 -- the texts of inserted pairs
 module _ {S : Type 0} (g : Ghosts S) (n p : ℕ) where
-  pairs_spelled : (k : ℕ) (vs : List Variable) (old new : Held S) → RunInTurn g (pair_statements n p k vs) old new → AllByRecursion IsPair vs
+  pairs_spelled : (k : ℕ) (vs : List Variable) (old new : Held S) → ExecutesInOrder g (pair_statements n p k vs) old new → AllByRecursion IsPair vs
   pairs_spelled k [] old new ran = tt
   pairs_spelled k (v ∷ vs) old new ran = ((ran.1.2.0, ran.1.2.1.0), pairs_spelled (suc k) vs ran.0 new ran.2)
 
@@ -122,11 +122,11 @@ tables_of runs run e fits texts were db has =
 
 module _ {S : Type 0} (g : Ghosts S) where
   -- the texts of the entry are texts
-  spelled : (n : ℕ) (e : Entry) (old new : Held S) → RunInTurn g (entry_statements n e) old new → HasTexts e
+  spelled : (n : ℕ) (e : Entry) (old new : Held S) → ExecutesInOrder g (entry_statements n e) old new → HasTexts e
   spelled n e old new ran = (ran.1.2.0, ran.1.2.1.0, ran.1.2.1.1.0, pairs_spelled g n e.position 0 e.meta ran.0 new ran.2)
 
   -- the entry and its pairs are in the tables of the runs that have it
-  filled : (runs : List Run) (e : Entry) (run : ℕ) → CanAdd run e runs → (old new : Held S) → Tables (state g old).now runs → RunInTurn g (entry_statements run e) old new
+  filled : (runs : List Run) (e : Entry) (run : ℕ) → CanAdd run e runs → (old new : Held S) → Tables (state g old).now runs → ExecutesInOrder g (entry_statements run e) old new
       → Tables (state g new).now (with_entry run e runs) × IsDatabase (state g new).now
   filled runs e run fits old new has ran =
       let one = put_inside runs (entry_rows runs) (prop_rows runs) (state g old) (state g ran.0) ran.1.0 (rows_of runs (state g old).now has) run e ran.1.1.0 in
@@ -135,10 +135,10 @@ module _ {S : Type 0} (g : Ghosts S) where
 
   -- the entry and its pairs in a transaction
   pub entry_made : (runs : List Run) (e : Entry) (run : ℕ) (old : Held S) → StandsFor (state g old) runs → (HasCleanDisk (state g old) → CanAdd run e runs) → HasCleanDisk (state g old) → (left : Held S)
-      → RunInTurn g (entry_statements run e) (begun old) left → Tables (state g left).now (with_entry run e runs) × IsDatabase (state g left).now
+      → ExecutesInOrder g (entry_statements run e) (begun old) left → Tables (state g left).now (with_entry run e runs) × IsDatabase (state g left).now
   entry_made runs e run old has fits clean left ran = filled runs e run (fits clean) (begun old) left (has clean ran.1.1.1.was_open).tables ran
 
   -- a transaction goes on
-  pub in_turn : (statements : List Statement) (old new : Held S) → RunInTurn g statements old new → IsTrue (state g old).in_transaction → IsTrue (state g new).in_transaction
+  pub in_turn : (statements : List Statement) (old new : Held S) → ExecutesInOrder g statements old new → IsTrue (state g old).in_transaction → IsTrue (state g new).in_transaction
   in_turn [] old new is inside = subst (λ h. IsTrue (state g h).in_transaction) (sym is) inside
   in_turn (s ∷ others) old new ran inside = in_turn others ran.0 new ran.2 ran.1.1.1.mode

@@ -1,5 +1,5 @@
 -- The schema number, by its query.
-use Rattle.kt_store.proofs.Common.{Asked, AsksNumber, Bool, Database, Ghosts, HasCleanDisk, Held, IsSettledWhileOpen, Int, IsEmpty, IsPermutation, IsTrue, IsUnchanged, List, MayShow, None, Rests, Row, Run, SaysNumber, SaysSchema, Schema, Shown, Some, StandsFor, StandsInOld, State, Survives, Term, Text, Value, [], ap, arith, beside_meta, binary, codes, col, column, drop, entries_1, filter, holds, index_of, inl, list_all, lit, map, meta_1, meta_text, one_permutation, pos, props_1, reads_as, refl, runs_1, slice_get, state, subst, sym, true, understood, value_cmp, ℤ, ◌∙◌, ◌∷◌, ◌≡◌, ◌≢◌}
+use Rattle.kt_store.proofs.Common.{Asked, AsksNumber, Bool, Database, Ghosts, HasCleanDisk, Held, IsSettledWhileOpen, Int, IsEmpty, IsPermutation, IsTrue, IsUnchanged, List, MayShow, None, IsUnchangedOrRolledBack, Row, Run, ListsSchemaNumber, StoresSchemaNumber, Schema, Shown, Some, StandsFor, RepresentsInSchema1, State, Survives, Term, Text, Value, [], ap, arith, schema_with_meta, binary, codes, col, column, drop, entries_table, filter, holds, index_of, inl, list_all, lit, map, meta_1, meta_text, one_permutation, pos, props_1, reads_as, refl, runs_1, slice_get, state, subst, sym, true, understood, value_cmp, ℤ, ◌∙◌, ◌∷◌, ◌≡◌, ◌≢◌}
 use Rattle.sqlite.specs.Given.{IsPlain}
 use Rattle.kt_store.proofs.AskLemmas.{asked_unchanged, asked_leaves}
 use Rattle.kt_store.proofs.StepLemmas.{same_settled}
@@ -29,14 +29,14 @@ one_row n _ is = absurd cc
 one_shown : (n : ℤ) (rows : List Row) → map (drop 1) rows ≡ (Text (codes "schema") ∷ Int n ∷ []) ∷ [] → map shows (filter passes rows) ≡ (Int n ∷ []) ∷ []
 one_shown n rows h = let it = one_row n rows h in subst (λ l. map shows (filter passes l) ≡ (Int n ∷ []) ∷ []) (sym it.1) (rw (passes_it n it.0) refl)
 
-pub tells_meta : (old new : State) (n : ℤ) (rows : List Row) → SaysNumber n old → Shown meta_text [] old new rows → rows ≡ (Int n ∷ []) ∷ []
+pub tells_meta : (old new : State) (n : ℤ) (rows : List Row) → ListsSchemaNumber n old → Shown meta_text [] old new rows → rows ≡ (Int n ∷ []) ∷ []
 tells_meta old new n rows it h =
     let means = meta_any it.others it.indexes it.views in
-    let reads = reads_as meta_text [] old new (beside_meta it.others it.indexes it.views) it.schema _ means.0 means.2 means.1 rows h in
+    let reads = reads_as meta_text [] old new (schema_with_meta it.others it.indexes it.views) it.schema _ means.0 means.2 means.1 rows h in
     let all = answered 0 tests (col 1 2 ∷ []) [] old.now.trees [] rows reads.answer in
     one_permutation (Int n ∷ []) rows (subst (λ l. IsPermutation l rows) (one_shown n (old.now.trees 0) it.marked) all)
 
-says_then : (old mid : State) (n : ℤ) → mid.now ≡ old.now → SaysNumber n old → SaysNumber n mid
+says_then : (old mid : State) (n : ℤ) → mid.now ≡ old.now → ListsSchemaNumber n old → ListsSchemaNumber n mid
 says_then old mid n same has = record {
   others = has.others;
   indexes = has.indexes;
@@ -45,13 +45,13 @@ says_then old mid n same has = record {
   marked = ap (λ (db : Database). map (drop 1) (db.trees 0)) same ∙ has.marked;
 }
 
-pub says_plain : (n : ℤ) (s : State) → SaysSchema n s → HasCleanDisk s → IsTrue s.is_open → IsPlain (understood s.now.schema meta_text)
+pub says_plain : (n : ℤ) (s : State) → StoresSchemaNumber n s → HasCleanDisk s → IsTrue s.is_open → IsPlain (understood s.now.schema meta_text)
 says_plain n s says clean opened =
     let it = says clean opened in
     subst (λ schema. IsPlain (understood schema meta_text)) (sym it.schema) (meta_any it.others it.indexes it.views).2
 
 module _ {S : Type 0} (g : Ghosts S) (old new : Held S) (earlier : HasCleanDisk (state g new) → HasCleanDisk (state g old)) where
-  pub asked_meta : (n : ℤ) (rows : List Row) → SaysSchema n (state g old) → HasCleanDisk (state g new) → Asked g meta_text [] old new rows → rows ≡ (Int n ∷ []) ∷ []
+  pub asked_meta : (n : ℤ) (rows : List Row) → StoresSchemaNumber n (state g old) → HasCleanDisk (state g new) → Asked g meta_text [] old new rows → rows ≡ (Int n ∷ []) ∷ []
   asked_meta n rows says clean it =
       let same = it.same.0.now_is in
       let has = says (earlier clean) it.same.0.was_open in
@@ -62,7 +62,7 @@ module _ {S : Type 0} (g : Ghosts S) (old new : Held S) (survives : Survives (st
   earlier : HasCleanDisk (state g new) → HasCleanDisk (state g old)
   earlier k = omega (arith, k, survives.clean)
 
-  pub asks_number : ((n : ℤ) → SaysSchema n (state g old) → HasCleanDisk (state g new) → Rests (state g old) (state g new)) → AsksNumber g old new
+  pub asks_number : ((n : ℤ) → StoresSchemaNumber n (state g old) → HasCleanDisk (state g new) → IsUnchangedOrRolledBack (state g old) (state g new)) → AsksNumber g old new
   asks_number rests = record {
     earlier = earlier;
     rests = rests;
@@ -72,19 +72,19 @@ module _ {S : Type 0} (g : Ghosts S) (old new : Held S) (survives : Survives (st
   pub tells_number : (rows : List Row) → (HasCleanDisk (state g new) → Asked g meta_text [] old new rows) → AsksNumber g old new
   tells_number rows asked = asks_number (λ n says clean. inl (asked_unchanged g old new earlier meta_text (says_plain n _ says) [] rows clean (asked clean)))
 
-pub says_two : (s : State) (runs : List Run) → StandsFor s runs → SaysSchema (pos 2) s
+pub says_two : (s : State) (runs : List Run) → StandsFor s runs → StoresSchemaNumber (pos 2) s
 says_two s runs has clean opened = record {
-  others = runs_1 ∷ entries_1 ∷ props_1 ∷ [];
-  indexes = index_of meta_1 1 ∷ index_of entries_1 4 ∷ index_of props_1 6 ∷ [];
+  others = runs_1 ∷ entries_table ∷ props_1 ∷ [];
+  indexes = index_of meta_1 1 ∷ index_of entries_table 4 ∷ index_of props_1 6 ∷ [];
   views = [];
   schema = (has clean opened).tables.schema;
   marked = (has clean opened).tables.marked;
 }
 
-pub says_one : (s : State) (runs : List Run) → StandsInOld s runs → SaysSchema (pos 1) s
+pub says_one : (s : State) (runs : List Run) → RepresentsInSchema1 s runs → StoresSchemaNumber (pos 1) s
 says_one s runs has clean opened = record {
-  others = runs_1 ∷ entries_1 ∷ [];
-  indexes = index_of meta_1 1 ∷ index_of entries_1 4 ∷ [];
+  others = runs_1 ∷ entries_table ∷ [];
+  indexes = index_of meta_1 1 ∷ index_of entries_table 4 ∷ [];
   views = [];
   schema = (has clean opened).tables.schema;
   marked = (has clean opened).tables.marked;
@@ -107,7 +107,7 @@ some_row n rows are none = let e : Some (Int n ∷ []) ≡ None = sym (ap (λ l.
 
 -- a fact from before the connection was found open
 module _ (old mid : State) (earlier : HasCleanDisk mid → HasCleanDisk old) (same : HasCleanDisk mid → IsUnchanged old mid) where
-  pub still_says : (n : ℤ) → SaysSchema n old → SaysSchema n mid
+  pub still_says : (n : ℤ) → StoresSchemaNumber n old → StoresSchemaNumber n mid
   still_says n says clean opened =
       let it = same clean in
       let has = says (earlier clean) it.0.was_open in
@@ -116,7 +116,7 @@ module _ (old mid : State) (earlier : HasCleanDisk mid → HasCleanDisk old) (sa
   pub still_holds : (P : Database → Type 0) → IsSettledWhileOpen P old → IsSettledWhileOpen P mid
   still_holds P has clean opened = same_settled P old mid (has (earlier clean) (same clean).0.was_open) (same clean)
 
-  pub says_filled : (n : ℤ) → SaysSchema n old → HasCleanDisk mid → mid.now.schema.tables ≢ []
+  pub says_filled : (n : ℤ) → StoresSchemaNumber n old → HasCleanDisk mid → mid.now.schema.tables ≢ []
   says_filled n says clean none =
       let it = same clean in
       let has = says (earlier clean) it.0.was_open in

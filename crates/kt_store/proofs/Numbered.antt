@@ -1,6 +1,6 @@
 -- The condition under which a run accepts an entry. Runs stay numbered by index, and their entries
 -- ordered.
-use Rattle.kt_store.proofs.Common.{Agrees, AllByRecursion, AreNumbered, AreOrdered, AreRuns, BadPosition, Began, Bool, CanAdd, Entry, Finished, IsAscending, IsBareIfPassed, IsEntry, IsRun, List, None, Ok, Option, Put, RepeatedPosition, Run, RunClosed, Some, StoreCall, [], all-append, all-slice_get, all_weaker, ap, arith, cases_Bool, changed_by, cond, entries_of, false, finish, has_position, if◌then◌else◌, inl, inr, insert_at, length, nat_le, nat_lt, nat_tests, new_run, or_parts, put_refusal, put_refusal_of, refl, run_at, slice_get, slice_get_within, suc, sym, true, with_entry, zero, ℕ, ◌++◌, ◌+◌, ◌<◌, ◌==◌, ◌∙◌, ◌∷◌, ◌≡◌, ◌≤◌}
+use Rattle.kt_store.proofs.Common.{Agrees, AllByRecursion, AreNumbered, AreOrdered, AreRuns, BadPosition, Began, Bool, CanAdd, Entry, Finished, IsAscending, HasNoReasonIfPassed, IsEntry, IsRun, List, None, Ok, Option, Put, RepeatedPosition, Run, RunClosed, Some, StoreCall, [], all-append, all-slice_get, all_weaker, ap, arith, cases_Bool, runs_after, cond, entries_of, false, finish, has_position, if◌then◌else◌, inl, inr, insert_at, length, nat_le, nat_lt, nat_tests, new_run, or_parts, put_refusal, put_refusal_of, refl, run_at, slice_get, slice_get_within, suc, sym, true, with_entry, zero, ℕ, ◌++◌, ◌+◌, ◌<◌, ◌==◌, ◌∙◌, ◌∷◌, ◌≡◌, ◌≤◌}
 use Rattle.kt_store.proofs.RunsByNumber.{entry_each, run_of}
 
 abbrev pub lower : Entry → Entry → Type 0
@@ -52,7 +52,7 @@ module _ (runs : List Run) (run : ℕ) (e : Entry) (r : Run) (there : run_at run
           let is : has_position e.position r.entries ≡ true = ap (λ o. has_position e.position (entries_of o)) (sym there) ∙ here in
           ap (λ o. put_refusal_of o e) there ∙ rw (unclosed, under, is) refl
 
-      pub taken : IsBareIfPassed e → AreRuns runs → has_position e.position (entries_of (run_at runs run)) ≡ false
+      pub taken : HasNoReasonIfPassed e → AreRuns runs → has_position e.position (entries_of (run_at runs run)) ≡ false
           → (put_refusal runs run e ≡ None) × CanAdd run e runs
       taken passed valid free =
           let is : has_position e.position r.entries ≡ false = ap (λ o. has_position e.position (entries_of o)) (sym there) ∙ free in
@@ -91,7 +91,7 @@ numbers_finish k n [] h = tt
 numbers_finish k n (r ∷ runs) h = numbers_of n r (record r { finished = true }) runs (finish k runs) (r.number == k) h.0 h.0 h.1 (numbers_finish k (suc n) runs h.1)
 
 -- runs stay numbered after each call
-pub numbers_changed : (call : StoreCall) (runs : List Run) → AreNumbered 1 runs → AreNumbered 1 (changed_by call runs)
+pub numbers_changed : (call : StoreCall) (runs : List Run) → AreNumbered 1 runs → AreNumbered 1 (runs_after call runs)
 numbers_changed (Began total moment (Ok number)) runs h = numbers_new runs total moment h
 numbers_changed (Put number e (Ok done)) runs h = numbers_entry number e 1 runs h
 numbers_changed (Finished number (Ok done)) runs h = numbers_finish number 1 runs h
@@ -124,7 +124,7 @@ ordered_finish k (r ∷ runs) o = by (r.number == k) (ordered_finish k runs o.1)
     by false more = (o.0, more)
 
 -- the entries stay ordered after a call whose result agrees with the runs
-pub ordered_changed : (call : StoreCall) (runs : List Run) → AreNumbered 1 runs → AreOrdered runs → Agrees runs call → AreOrdered (changed_by call runs)
+pub ordered_changed : (call : StoreCall) (runs : List Run) → AreNumbered 1 runs → AreOrdered runs → Agrees runs call → AreOrdered (runs_after call runs)
 ordered_changed (Began total moment (Ok number)) runs h o a = all-append _ runs (new_run runs total moment ∷ []) o (tt, tt)
 ordered_changed (Put zero e (Ok done)) runs h o a = absurd cc
 ordered_changed (Put (suc k) e (Ok done)) runs h o a = ordered_entry k e runs h o a

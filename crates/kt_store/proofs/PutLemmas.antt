@@ -1,5 +1,5 @@
 -- The effect of the INSERT of `put`, and the rows of entries and pairs after an entry is added.
-use Rattle.kt_store.proofs.Common.{AllByRecursion, AreNumbered, Bool, Chosen, Enforced, Entry, Equal, Greater, HaveNoPairs, IsPermutation, IsPermutation-append_comm, IsPermutation-append_left, IsPermutation-append_right, IsPermutation-cons, IsPermutation-middle, IsPermutation-refl, IsPermutation-trans, Less, List, Ordering, Row, Run, Trees, [], ap, append_assoc, arith, cond, edit_of, entries_1, entry_row, entry_rows, false, flat_map, flat_map_same_on, flat_map_single, insert_at, is_eq, is_taken, length, map, match_ordering, nat_lt, nat_tests, pair_rows, pair_rows_from, prop_rows, put_row, refl, rowid, schema_2, subst, subst₂, suc, sym, taken_by, true, value_cmp, value_rows, with_entry, works, zero, ℕ, ◌++◌, ◌+◌, ◌<◌, ◌==◌, ◌||◌, ◌∙◌, ◌∷◌, ◌≡◌}
+use Rattle.kt_store.proofs.Common.{AllByRecursion, AreNumbered, Bool, Chosen, Enforced, Entry, Equal, Greater, HaveNoPairs, IsPermutation, IsPermutation-append_comm, IsPermutation-append_left, IsPermutation-append_right, IsPermutation-cons, IsPermutation-middle, IsPermutation-refl, IsPermutation-trans, Less, List, Ordering, Row, Run, Trees, [], ap, append_assoc, arith, cond, edit_of, entries_table, entry_row, entry_rows, false, flat_map, flat_map_same_on, flat_map_single, insert_at, is_eq, is_taken, length, map, match_ordering, nat_lt, nat_tests, pair_rows, pair_rows_from, prop_rows, put_row, refl, rowid, schema_2, subst, subst₂, suc, sym, taken_by, true, value_cmp, value_rows, with_entry, works, zero, ℕ, ◌++◌, ◌+◌, ◌<◌, ◌==◌, ◌||◌, ◌∙◌, ◌∷◌, ◌≡◌}
 use Rattle.kt_store.proofs.SqlFacts.{put_terms}
 
 -- a row with a new rowid is added to the others
@@ -16,7 +16,7 @@ put_beside new (r ∷ rows) free = go (value_cmp (rowid r) (rowid new)) free (pu
 abbrev pub put_rows : ℕ → Entry → List Row
 put_rows run e = value_rows (entry_row run e) 13 1 put_terms
 
-pub put_works : (params : Row) (trees : Trees) → let edit = edit_of trees entries_1 [] Chosen 0 (value_rows params 13 1 put_terms) in works schema_2 Enforced 0 edit.table.tree (taken_by trees edit) edit.news ≡ []
+pub put_works : (params : Row) (trees : Trees) → let edit = edit_of trees entries_table [] Chosen 0 (value_rows params 13 1 put_terms) in works schema_2 Enforced 0 edit.table.tree (taken_by trees edit) edit.news ≡ []
 put_works params trees = refl
 
 -- ---- the rows after an entry is added

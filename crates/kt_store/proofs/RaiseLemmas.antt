@@ -1,5 +1,5 @@
 -- The effect of the statements that migrate schema 1 to schema 2.
-use Rattle.kt_store.proofs.Common.{AllByRecursion, Applies, AtPlace, Bool, Database, Does, Enforced, Equal, Executes, Ghosts, Given, Greater, Held, Int, Integer, IsDatabase, IsPermutation, IsPermutation-refl, IsTrue, Less, List, Mode, None, Null, Ok, OldTables, OnRows, Option, Ordering, Program, Row, Run, RunInTurn, State, Tables, Tally, Task, Term, Text, Trees, Unique, Update, Value, [], agree, and_parts, ap, are_fresh, arith, begun, binary, cast, clashes, codes, col, cond, create_props, differ, drop, edit_of, entry_rows, false, filter, first_key, has_rowid, have_rowids, id_in, ids_of, int_is, ints, is_eq, is_int, is_null, lit, map, match_ordering, meta_1, mode_of, not, one_permutation, one_step, or_left, or_right, passes, plain, pos, prop_rows, props, put_all, raise_statements, raise_text, refl, runs_as, schema_1, schema_2, slice_get, state, statement_of, subst, sym, taken_by, true, understood, value_cmp, value_cmp-Int, without_rowid, works, ℕ, ◌&&◌, ◌||◌, ◌∙◌, ◌∷◌, ◌≡◌}
+use Rattle.kt_store.proofs.Common.{AllByRecursion, Applies, AtPlace, Bool, Database, Does, Enforced, Equal, Executes, Ghosts, Given, Greater, Held, Int, Integer, IsDatabase, IsPermutation, IsPermutation-refl, IsTrue, Less, List, Mode, None, Null, Ok, IsSchema1Database, OnRows, Option, Ordering, Program, Row, Run, ExecutesInOrder, State, Tables, Tally, Task, Term, Text, Trees, Unique, Update, Value, [], agree, and_parts, ap, are_fresh, arith, begun, binary, cast, clashes, codes, col, cond, create_props, differ, drop, edit_of, entry_rows, false, filter, first_key, has_rowid, have_rowids, id_in, ids_of, int_is, ints, is_eq, is_int, is_null, lit, map, match_ordering, meta_1, mode_of, not, one_permutation, one_step, or_left, or_right, passes, plain, pos, prop_rows, props, put_all, raise_statements, raise_text, refl, runs_as, schema_1, schema_2, slice_get, state, statement_of, subst, sym, taken_by, true, understood, value_cmp, value_cmp-Int, without_rowid, works, ℕ, ◌&&◌, ◌||◌, ◌∙◌, ◌∷◌, ◌≡◌}
 use Rattle.kt_store.proofs.Values.{cast_null, cast_int, went}
 use Rattle.sqlite_rules.specs.Action.{Writes}
 use Rattle.sqlite.specs.State as told
@@ -120,7 +120,7 @@ abbrev no_rows : List Row
 no_rows = []
 
 -- the two statements, in turn
-pub raised_all : (a b c : State) (i j : ℕ) (runs : List Run) → OldTables a.now runs → Executes create_props [] a b (Ok i) → Executes raise_text [] b c (Ok j) → Tables c.now runs × IsDatabase c.now
+pub raised_all : (a b c : State) (i j : ℕ) (runs : List Run) → IsSchema1Database a.now runs → Executes create_props [] a b (Ok i) → Executes raise_text [] b c (Ok j) → Tables c.now runs × IsDatabase c.now
 raised_all a b c i j runs has one two =
     let first = makes schema_1 create_props props props_create a b i has.schema one in
     let text = statement_of raise_text (understood schema_2 raise_text) in
@@ -141,7 +141,7 @@ raised_all a b c i j runs has one two =
     )
 
 -- the two statements in a transaction
-pub raised_in : {S : Type 0} (g : Ghosts S) (old left : Held S) (runs : List Run) → (IsTrue (state g old).is_open → OldTables (state g old).now runs) → RunInTurn g raise_statements (begun old) left
+pub raised_in : {S : Type 0} (g : Ghosts S) (old left : Held S) (runs : List Run) → (IsTrue (state g old).is_open → IsSchema1Database (state g old).now runs) → ExecutesInOrder g raise_statements (begun old) left
     → Tables (state g left).now runs × IsDatabase (state g left).now
 raised_in g old left runs has ran =
     let two = ran.2 in

@@ -1,10 +1,10 @@
 -- How the tables of a database serve the calls of a store, and what a crash leaves.
-use Rattle.kt_store.proofs.Common.{Agrees, Began, Changes, Entry, Err, Finished, Ghosts, HasCleanDisk, Held, IfErr, IfOk, IsErrAnd, IsStoreFault, Keeps, KeepsOne, KeepsRuns, Leaves, List, Looked, MayChange, Ok, OnErr, OnOk, Outlasts, Put, Reads, Result, Run, Serves, StandsFor, State, StoreCall, StoreFault, Survives, Trees, [], arith, changed_by, finish, inl, inr, new_run, refl, results, state, subst, survives_then, survives_weaker, sym, with_entry, ℕ, ◌++◌, ◌∷◌, ◌≡◌}
+use Rattle.kt_store.proofs.Common.{Agrees, Began, Changes, Entry, Err, Finished, Ghosts, HasCleanDisk, Held, IfErr, IfOk, IsErrAnd, IsStoreFault, Keeps, IsSchema2OfOne, KeepsRuns, Leaves, List, OnlyReadsRuns, MayChange, Ok, OnErr, OnOk, SurvivesCrash, Put, Reads, Result, Run, Serves, StandsFor, State, StoreCall, StoreFault, Survives, Trees, [], arith, runs_after, finish, inl, inr, new_run, refl, results, state, subst, survives_then, survives_weaker, sym, with_entry, ℕ, ◌++◌, ◌∷◌, ◌≡◌}
 use Rattle.kt_store.proofs.AskLemmas.{was_clean}
 use Rattle.kt_store.proofs.Numbered.{numbers_changed, ordered_changed}
 
 -- a crash leaves what it left before, or the change
-pub survived : (old new : State) (change runs : List Run) (may : List (List Run)) → Survives old new (Keeps change) → Leaves old (KeepsOne (runs ∷ may)) → Leaves new (KeepsOne (runs ∷ change ∷ may))
+pub survived : (old new : State) (change runs : List Run) (may : List (List Run)) → Survives old new (Keeps change) → Leaves old (IsSchema2OfOne (runs ∷ may)) → Leaves new (IsSchema2OfOne (runs ∷ change ∷ may))
 survived old new change runs may s l clean trees h = elim (s.crash clean trees h) [
   | inl m ↦ elim (l (omega (arith, clean, s.clean)) trees m) [ inl k ↦ inl k | inr k ↦ inr (inr k) ]
   | inr k ↦ inr (inl k)
@@ -12,11 +12,11 @@ survived old new change runs may s l clean trees h = elim (s.crash clean trees h
 
 -- the runs after a call that writes, by its results, and what a crash leaves
 pub record IsWrite {R : Type 0} (LeavesOne : R → List (List Run) → Type 0) {T : Type 0} (call : Result T StoreFault → StoreCall) (change : List Run → List Run) : Type 0 where
-  pub done : (x : T) (runs : List Run) → changed_by (call (Ok x)) runs ≡ change runs
-  pub refused : (e : StoreFault) (runs : List Run) → changed_by (call (Err e)) runs ≡ runs
+  pub done : (x : T) (runs : List Run) → runs_after (call (Ok x)) runs ≡ change runs
+  pub refused : (e : StoreFault) (runs : List Run) → runs_after (call (Err e)) runs ≡ runs
   pub fails : (e : StoreFault) (runs : List Run) → IsStoreFault e → Agrees runs (call (Err e))
-  pub lasts : (x : T) (runs : List Run) (may : List (List Run)) (old new : R) → LeavesOne new (change runs ∷ []) → Outlasts LeavesOne (call (Ok x)) runs may old new
-  pub survives : (e : StoreFault) (runs : List Run) (may : List (List Run)) (old new : R) → (LeavesOne old (runs ∷ may) → LeavesOne new (runs ∷ change runs ∷ may)) → Outlasts LeavesOne (call (Err e)) runs may old new
+  pub lasts : (x : T) (runs : List Run) (may : List (List Run)) (old new : R) → LeavesOne new (change runs ∷ []) → SurvivesCrash LeavesOne (call (Ok x)) runs may old new
+  pub survives : (e : StoreFault) (runs : List Run) (may : List (List Run)) (old new : R) → (LeavesOne old (runs ∷ may) → LeavesOne new (runs ∷ change runs ∷ may)) → SurvivesCrash LeavesOne (call (Err e)) runs may old new
 
 module _ {R : Type 0} (LeavesOne : R → List (List Run) → Type 0) where
   pub begin_writes : (total moment : ℕ) → IsWrite LeavesOne (λ r. Began total moment r) (λ runs. runs ++ new_run runs total moment ∷ [])
@@ -31,7 +31,7 @@ module _ {R : Type 0} (LeavesOne : R → List (List Run) → Type 0) where
 -- ---- how the tables of a database serve the calls of a store
 
 -- a fact about each crash holds after each call
-pub always_outlasts : {R : Type 0} (Leaves : R → List (List Run) → Type 0) → ((s : R) (may : List (List Run)) → Leaves s may) → (call : StoreCall) (runs : List Run) (may : List (List Run)) (old new : R) → Outlasts Leaves call runs may old new
+pub always_outlasts : {R : Type 0} (Leaves : R → List (List Run) → Type 0) → ((s : R) (may : List (List Run)) → Leaves s may) → (call : StoreCall) (runs : List Run) (may : List (List Run)) (old new : R) → SurvivesCrash Leaves call runs may old new
 always_outlasts Leaves h (Began total moment (Ok number)) runs may old new = h new _
 always_outlasts Leaves h (Put number e (Ok done)) runs may old new = h new _
 always_outlasts Leaves h (Finished number (Ok done)) runs may old new = h new _
@@ -43,9 +43,9 @@ survives_self s = record { clean = omega arith; shield = λ h. h; counts = omega
 
 -- a call is served if its tables represent the changed runs, which are numbered and ordered if the
 -- runs before were
-serves : {S : Type 0} (g : Ghosts S) (call : StoreCall) (old new : Held S) → ((runs : List Run) → StandsFor (state g old) runs → StandsFor (state g new) (changed_by call runs))
+serves : {S : Type 0} (g : Ghosts S) (call : StoreCall) (old new : Held S) → ((runs : List Run) → StandsFor (state g old) runs → StandsFor (state g new) (runs_after call runs))
     → ((runs : List Run) → StandsFor (state g old) runs → HasCleanDisk (state g new) → HasCleanDisk (state g old)) → ((runs : List Run) → StandsFor (state g old) runs → HasCleanDisk (state g new) → Agrees runs call)
-    → ((runs : List Run) (may : List (List Run)) → StandsFor (state g old) runs → Outlasts (λ s more. Leaves (state g s) (KeepsOne more)) call runs may old new) → Serves (results g) call old new
+    → ((runs : List Run) (may : List (List Run)) → StandsFor (state g old) runs → SurvivesCrash (λ s more. Leaves (state g s) (IsSchema2OfOne more)) call runs may old new) → Serves (results g) call old new
 serves g call old new stands earlier agrees crash = record {
   asked = tt;
   stands = λ runs h. (stands runs h.0, numbers_changed call runs h.1, λ clean. ordered_changed call runs h.1 (h.2 (earlier runs h.0 clean)) (agrees runs h.0 clean));
@@ -71,8 +71,8 @@ module _ {S : Type 0} (g : Ghosts S) where
   seen_at call inside now new is s = subst (λ o. Serves (results g) call o new) is s
 
 -- a call that only reads
-pub reads_serve : {S : Type 0} (g : Ghosts S) (call : StoreCall) (old new : Held S) → Reads (results g) old new → ((runs : List Run) → changed_by call runs ≡ runs)
-    → ((runs : List Run) (may : List (List Run)) → ((results g).leaves old may → (results g).leaves new may) → Outlasts (results g).leaves call runs may old new)
+pub reads_serve : {S : Type 0} (g : Ghosts S) (call : StoreCall) (old new : Held S) → Reads (results g) old new → ((runs : List Run) → runs_after call runs ≡ runs)
+    → ((runs : List Run) (may : List (List Run)) → ((results g).leaves old may → (results g).leaves new may) → SurvivesCrash (results g).leaves call runs may old new)
     → ((runs : List Run) → (results g).stands old runs → HasCleanDisk (state g new) → Agrees runs call) → Serves (results g) call old new
 reads_serve g call old new reads same lasts why = record {
   asked = tt;
@@ -83,23 +83,23 @@ reads_serve g call old new reads same lasts why = record {
 }
 
 -- calls of which a part only reads
-module _ {S : Type 0} (g : Ghosts S) (old new : Held S) (looked : Looked g old new) where
+module _ {S : Type 0} (g : Ghosts S) (old new : Held S) (looked : OnlyReadsRuns g old new) where
   early : (runs : List Run) → StandsFor (state g old) runs → HasCleanDisk (state g new) → HasCleanDisk (state g old)
   early = was_clean looked
 
-  unwritten : (change runs : List Run) (may : List (List Run)) → StandsFor (state g old) runs → Leaves (state g old) (KeepsOne (runs ∷ may)) → Leaves (state g new) (KeepsOne (runs ∷ change ∷ may))
+  unwritten : (change runs : List Run) (may : List (List Run)) → StandsFor (state g old) runs → Leaves (state g old) (IsSchema2OfOne (runs ∷ may)) → Leaves (state g new) (IsSchema2OfOne (runs ∷ change ∷ may))
   unwritten change runs may has left =
       survived (state g old) (state g new) change runs may (survives_weaker (state g old) (state g new) (λ _. ⊥) (Keeps change) (λ _ db none. absurd none) (looked.crash runs has)) left
 
 module _ {S : Type 0} (g : Ghosts S) {T : Type 0} (call : Result T StoreFault → StoreCall) (change : List Run → List Run) (is : IsWrite (results g).leaves call change) where
   -- a call that fails before it writes
-  pub write_refused : (old new : Held S) (looked : Looked g old new) (e : StoreFault) → ((runs : List Run) → StandsFor (state g old) runs → HasCleanDisk (state g new) → Agrees runs (call (Err e))) → Serves (results g) (call (Err e)) old new
+  pub write_refused : (old new : Held S) (looked : OnlyReadsRuns g old new) (e : StoreFault) → ((runs : List Run) → StandsFor (state g old) runs → HasCleanDisk (state g new) → Agrees runs (call (Err e))) → Serves (results g) (call (Err e)) old new
   write_refused old new looked e why =
       serves g (call (Err e)) old new (λ runs has. subst (StandsFor (state g new)) (sym (is.refused e runs)) (looked.stands runs has)) (was_clean looked) why
       (λ runs may has. is.survives e runs may old new (unwritten g old new looked (change runs) runs may has))
 
   -- a call whose first part reads, and whose second part writes
-  module _ (old mid new : Held S) (looked : Looked g old mid) (Allowed : List Run → Type 0) (allowed : (runs : List Run) → StandsFor (state g old) runs → HasCleanDisk (state g mid) → Allowed runs) (may_change : MayChange g mid new Allowed change) where
+  module _ (old mid new : Held S) (looked : OnlyReadsRuns g old mid) (Allowed : List Run → Type 0) (allowed : (runs : List Run) → StandsFor (state g old) runs → HasCleanDisk (state g mid) → Allowed runs) (may_change : MayChange g mid new Allowed change) where
     second : (runs : List Run) → StandsFor (state g old) runs → Survives (state g mid) (state g new) (Keeps (change runs))
     second runs has = may_change runs (looked.stands runs has) (allowed runs has)
 
@@ -109,7 +109,7 @@ module _ {S : Type 0} (g : Ghosts S) {T : Type 0} (call : Result T StoreFault �
     old_clean : (runs : List Run) → StandsFor (state g old) runs → HasCleanDisk (state g new) → HasCleanDisk (state g old)
     old_clean runs has clean = was_clean looked runs has (mid_clean runs has clean)
 
-    written : (runs : List Run) (may : List (List Run)) → StandsFor (state g old) runs → Leaves (state g old) (KeepsOne (runs ∷ may)) → Leaves (state g new) (KeepsOne (runs ∷ change runs ∷ may))
+    written : (runs : List Run) (may : List (List Run)) → StandsFor (state g old) runs → Leaves (state g old) (IsSchema2OfOne (runs ∷ may)) → Leaves (state g new) (IsSchema2OfOne (runs ∷ change runs ∷ may))
     written runs may has left =
         survived (state g old) (state g new) (change runs) runs may
         (survives_then (state g old) (state g mid) (state g new) (λ _. ⊥) (Keeps (change runs)) (Keeps (change runs)) (λ _ db none. absurd none) (λ _ db it. it) (looked.crash runs has) (second runs has)) left

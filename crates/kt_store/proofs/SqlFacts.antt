@@ -1,5 +1,5 @@
 -- The meaning of the statement texts.
-use Rattle.kt_store.proofs.Common.{Binary, Command, Compare, Eq, HasColumns, Insert, Int, IsPlain, List, None, Null, Query, Select, Table, Term, Text, Update, Values, [], arith, ascending, begin_text, beside_meta, codes, col, command_of, end, entries_text, everything, false, finish_text, inner, lit, mark_text, meta_text, negsuc, op2, pair_text, pairs_text, pos, put_text, raise_text, reads_listing, refl, run_text, runs_text, schema_2, there_text, understood, ℕ, ◌∷◌, ◌≡◌}
+use Rattle.kt_store.proofs.Common.{Binary, Command, Compare, Eq, HasColumns, Insert, Int, IsPlain, List, None, Null, Query, Select, Table, Term, Text, Update, Values, [], arith, ascending, begin_text, schema_with_meta, codes, col, command_of, end, entries_text, everything, false, finish_text, inner, lit, mark_text, meta_text, negsuc, op2, pair_text, pairs_text, pos, put_text, raise_text, reads_listing, refl, run_text, runs_text, schema_2, entry_query, understood, ℕ, ◌∷◌, ◌≡◌}
 use Rattle.sqlite_schema.specs.declared.schema.Index.{Index}
 use Rattle.sqlite_schema.specs.declared.schema.View.{View}
 
@@ -48,7 +48,7 @@ there_query = record query {
   order = (col 1 2, ascending Binary) ∷ [];
 }
 
-pub there_is : (command_of (understood schema_2 there_text) ≡ select there_query (codes "position" ∷ [])) × (reads_listing schema_2 there_text ≡ false) × IsPlain (understood schema_2 there_text) × HasColumns 1 (understood schema_2 there_text)
+pub there_is : (command_of (understood schema_2 entry_query) ≡ select there_query (codes "position" ∷ [])) × (reads_listing schema_2 entry_query ≡ false) × IsPlain (understood schema_2 entry_query) × HasColumns 1 (understood schema_2 entry_query)
 unfolding understood everything
 there_is = (refl, refl, (refl, refl), (omega arith, refl))
 
@@ -121,6 +121,6 @@ raise_is = (refl, (refl, refl))
 -- ---- the meaning of the query for the schema number if other tables follow the first
 
 pub meta_any : (others : List Table) (indexes : List Index) (views : List View)
-    → (command_of (understood (beside_meta others indexes views) meta_text) ≡ select meta_query (codes "value" ∷ [])) × (reads_listing (beside_meta others indexes views) meta_text ≡ false) × IsPlain (understood (beside_meta others indexes views) meta_text)
+    → (command_of (understood (schema_with_meta others indexes views) meta_text) ≡ select meta_query (codes "value" ∷ [])) × (reads_listing (schema_with_meta others indexes views) meta_text ≡ false) × IsPlain (understood (schema_with_meta others indexes views) meta_text)
 unfolding understood everything
 meta_any others indexes views = (refl, refl, (refl, refl))

@@ -1,23 +1,23 @@
 -- The state of a connection that represents runs after a statement.
-use Rattle.kt_store.proofs.Common.{Command, CommitsBy, Compiled, Database, Err, Error, FailsToQuery, FailsToShow, Ghosts, HasCleanDisk, Held, IsSettledWhileOpen, IsDatabase, IsLive, IsNotRun, IsPlain, IsRolledBack, IsSettled, IsStore, IsTrue, IsUnchanged, IsUndone, Keeps, KeepsEither, KeepsOld, Leaves, List, None, Option, Rests, Row, Run, RunsCommand, Schema, Some, State, Survives, Tables, Trees, ap, append-nil, arith, command_of, inl, inr, state, statement_of, subst, subst₂, survives_then, sym, unchanged_then, understood, ℕ, ◌∙◌, ◌≡◌}
+use Rattle.kt_store.proofs.Common.{Command, CommitsBy, Compiled, Database, Err, Error, FailsToQuery, FailsToShow, Ghosts, HasCleanDisk, Held, IsSettledWhileOpen, IsDatabase, IsLive, IsNotRun, IsPlain, IsRolledBack, IsSettled, IsStore, IsTrue, IsUnchanged, IsUndone, Keeps, IsAnySchemaOf, IsSchema1Of, Leaves, List, None, Option, IsUnchangedOrRolledBack, Row, Run, RunsCommand, Schema, Some, State, Survives, Tables, Trees, ap, append-nil, arith, command_of, inl, inr, state, statement_of, subst, subst₂, survives_then, sym, unchanged_then, understood, ℕ, ◌∙◌, ◌≡◌}
 use Rattle.sqlite_schema.specs.declared.command.Returning.{Returning}
 use Rattle.sqlite.specs.State.{MayCommit}
 
 -- a failed statement leaves the connection unchanged or rolled back
-pub not_run : (old new : State) (sql : List ℕ) (params : Row) (e : Error) → IsNotRun old new sql params e → Rests old new
+pub not_run : (old new : State) (sql : List ℕ) (params : Row) (e : Error) → IsNotRun old new sql params e → IsUnchangedOrRolledBack old new
 unfolding IsNotRun
 not_run old new sql params e (inl h) = inl h.1
 not_run old new sql params e (inr h) = inr h.3
 
-command_refused : (old new : State) (sql : List ℕ) (c : Compiled) (params : Row) (e : Error) → RunsCommand old new sql c params (Err e) → Rests old new
+command_refused : (old new : State) (sql : List ℕ) (c : Compiled) (params : Row) (e : Error) → RunsCommand old new sql c params (Err e) → IsUnchangedOrRolledBack old new
 command_refused old new sql c params e (inl h) = inl h.1
 command_refused old new sql c params e (inr h) = inr h.3
 
-show_refused : (old new : State) (sql : List ℕ) (c : Compiled) (params : Row) (e : Error) (what : Option Returning) → FailsToShow old new sql c params e what → Rests old new
+show_refused : (old new : State) (sql : List ℕ) (c : Compiled) (params : Row) (e : Error) (what : Option Returning) → FailsToShow old new sql c params e what → IsUnchangedOrRolledBack old new
 show_refused old new sql c params e None h = inl h.3
 show_refused old new sql c params e (Some what) h = command_refused old new sql c params e h
 
-pub query_refused : (old new : State) (sql : List ℕ) (params : Row) (e : Error) → FailsToQuery sql params old new e → Rests old new
+pub query_refused : (old new : State) (sql : List ℕ) (params : Row) (e : Error) → FailsToQuery sql params old new e → IsUnchangedOrRolledBack old new
 unfolding FailsToQuery
 query_refused old new sql params e (inl h) = not_run old new sql params e h
 query_refused old new sql params e (inr h) = show_refused old new sql h.0 _ e h.0.returning h.2
@@ -42,7 +42,7 @@ module _ (P : Database → Type 0) (old new : State) where
   }
 
   -- a failed statement changes nothing
-  pub rests_hold : IsSettledWhileOpen P old → (HasCleanDisk new → HasCleanDisk old) → (HasCleanDisk new → Rests old new) → IsSettledWhileOpen P new
+  pub rests_hold : IsSettledWhileOpen P old → (HasCleanDisk new → HasCleanDisk old) → (HasCleanDisk new → IsUnchangedOrRolledBack old new) → IsSettledWhileOpen P new
   rests_hold has earlier left clean opened = elim (left clean) [
     | inl same ↦ same_settled (has (earlier clean) same.0.was_open) same
     | inr undone ↦ undone_settled (has (earlier clean) (undone.was_open opened)) (rolled_back old new undone) opened
@@ -60,7 +60,7 @@ module _ (sql : List ℕ) (params : Row) (old : State) (schema : Schema) (has : 
       let bare = subst IsPlain (sym known) plain in
       subst₂ (λ k t. MayCommit old None k t params db) (ap command_of known ∙ is) (ap (statement_of sql) known) (rw (bare.0, bare.1, append-nil params) at h.2)
 
-pub rests_then : (a b c : State) → IsUnchanged a b → Rests b c → Rests a c
+pub rests_then : (a b c : State) → IsUnchanged a b → IsUnchangedOrRolledBack b c → IsUnchangedOrRolledBack a c
 rests_then a b c same (inl more) = inl (unchanged_then a b c same more)
 rests_then a b c same (inr undone) = inr (record {
   was_open = λ opened. same.0.was_open;
@@ -82,7 +82,7 @@ outlives old new P it left clean trees may = elim (it.crash clean trees may) [
 ]
 
 -- a migration adds its own runs to what a crash may leave
-pub either_left : (old new : State) (runs : List Run) → Survives old new (Keeps runs) → Leaves old (KeepsOld runs) → Leaves new (KeepsEither runs)
+pub either_left : (old new : State) (runs : List Run) → Survives old new (Keeps runs) → Leaves old (IsSchema1Of runs) → Leaves new (IsAnySchemaOf runs)
 either_left old new runs it left clean trees may = elim (it.crash clean trees may) [
   | inl earlier ↦ inl (left (omega (arith, clean, it.clean)) trees earlier)
   | inr made ↦ inr made

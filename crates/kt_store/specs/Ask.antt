@@ -2,10 +2,10 @@
 use Rattle.std.specs.Prelude.{◌⊎◌, ⊤, ℕ, List, codes}
 use Rattle.kt_store.specs.Types.{IsRolledBack, IsUnchanged, NoMemory, State, Store, StoreFault}
 
--- `Rests old new`: the database is unchanged or rolled back, which is the same if no transaction is
+-- `IsUnchangedOrRolledBack old new`: the database is unchanged or rolled back, which is the same if no transaction is
 -- open
-abbrev pub Rests : State → State → Type 0
-Rests old new = IsUnchanged old new ⊎ IsRolledBack old new
+abbrev pub IsUnchangedOrRolledBack : State → State → Type 0
+IsUnchangedOrRolledBack old new = IsUnchanged old new ⊎ IsRolledBack old new
 
 -- `IsNoMemory fault`: memory ran out
 abbrev pub IsNoMemory : StoreFault → Type 0

@@ -6,8 +6,8 @@ use Rattle.sqlite_wal.specs.Files.{outcomes}
 use Rattle.sqlite_wal.specs.Reads.{AreClean}
 use Rattle.sqlite_store.specs.FileStore.{files as files_in, faults, is_shielded}
 use Rattle.sqlite.specs.Start.{FindsIn}
-use Rattle.kt_store.specs.Attaching.{DatabaseBefore, IsOf, TakesTables}
-use Rattle.kt_store.specs.Runs.{SaysIn}
+use Rattle.kt_store.specs.Attaching.{DatabaseBefore, IsOf, AttachSucceeds}
+use Rattle.kt_store.specs.Runs.{HasSchemaNumber}
 use Rattle.kt_store.specs.Seeks.{HasCommitted, OpensRuns}
 use Rattle.kt_store.specs.Stands.{StandsFor}
 use Rattle.kt_store.specs.TrustedContents.{ListsTables}
@@ -29,17 +29,17 @@ pub record HasWithoutLog (is_numbered : Bool) (trees : Trees) (image : Image) : 
   pub reads : trees ≡ file_trees size wanted pages
 
 -- the size of the largest file whose pages and trees are all checked during an open, in bytes
-abbrev pub most_tested : ℕ
-most_tested = 16777216
+abbrev pub largest_checked_size : ℕ
+largest_checked_size = 16777216
 
 -- the size of the shortest log with a frame, in bytes
 abbrev pub shortest_log : ℕ
 shortest_log = 56
 
--- `MustBeTested image`: the database is so small, or the log so long, that an open checks all pages
+-- `MustBeChecked image`: the database is so small, or the log so long, that an open checks all pages
 -- and trees
-abbrev pub MustBeTested : Image → Type 0
-MustBeTested image = (length image.db ≤ most_tested) ⊎ (shortest_log ≤ length image.log)
+abbrev pub MustBeChecked : Image → Type 0
+MustBeChecked image = (length image.db ≤ largest_checked_size) ⊎ (shortest_log ≤ length image.log)
 
 -- `IsReadAs old new`: reading the files `old` may leave `new`: the same bytes, or bytes that
 -- recover to the same pages
@@ -57,7 +57,7 @@ module _ {D : Type 0} {g : disk.Ghosts D} where
   -- `AreOfFile image results`: `results` were attached to a connection that shows the database of
   -- `image`
   abbrev pub AreOfFile : Image → Held (FileStore D g) → Type 0
-  AreOfFile image results = (conn : Held (FileStore D g)) × IsOfFile image conn × ((was : DatabaseBefore) → IsOf was (file_state conn) → TakesTables was (file_state conn) (file_state results))
+  AreOfFile image results = (conn : Held (FileStore D g)) × IsOfFile image conn × ((was : DatabaseBefore) → IsOf was (file_state conn) → AttachSucceeds was (file_state conn) (file_state results))
 
   -- `Follows results store`: `store` has the last commit of `results`, and a crash leaves only what
   -- a crash of `results` leaves
@@ -71,14 +71,14 @@ module _ {D : Type 0} {g : disk.Ghosts D} where
   -- number 2
   pub record Lists (image : Image) (store : FileStore D g) : Type 0 where
     pub lists : IsClean (view store) → ListsTables image
-    pub says : IsTrue (view store).is_open → SaysIn (pos 2) (view store).committed
+    pub says : IsTrue (view store).is_open → HasSchemaNumber (pos 2) (view store).committed
 
   -- `Finds image store`: `store` has the runs of the files `image`, which list the tables of schema
   -- 2 or were attached
   pub record Finds (image : Image) (store : FileStore D g) : Type 0 where
     pub held : OpensRuns image store
     pub whose : Lists image store ⊎ ((results : Held (FileStore D g)) × AreOfFile image results × Follows results store)
-    pub numbered : IsClean (view store) → MustBeTested image → IsTrue (view store).is_numbered
+    pub numbered : IsClean (view store) → MustBeChecked image → IsTrue (view store).is_numbered
 
   -- `Ends store`: `store` ended with two files, and the database file alone has the last commit,
   -- also after a crash

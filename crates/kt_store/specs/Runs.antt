@@ -90,14 +90,14 @@ pub record AreRuns (runs : List Run) : Type 0 where
 abbrev pub AreOrdered : List Run → Type 0
 AreOrdered runs = AllByRecursion (λ (r : Run). IsAscending (λ (a b : Entry). a.position < b.position) r.entries) runs
 
--- `SaysIn n trees`: the table `meta` in `trees` has exactly the schema number `n`
-abbrev pub SaysIn : ℤ → Trees → Type 0
-SaysIn n trees = map (drop 1) (trees 0) ≡ (Text (codes "schema") ∷ Int n ∷ []) ∷ []
+-- `HasSchemaNumber n trees`: the table `meta` in `trees` has exactly the schema number `n`
+abbrev pub HasSchemaNumber : ℤ → Trees → Type 0
+HasSchemaNumber n trees = map (drop 1) (trees 0) ≡ (Text (codes "schema") ∷ Int n ∷ []) ∷ []
 
 -- `Tables db runs`: `db` has schema 2, and its rows are exactly those of `runs`
 pub record Tables (db : Database) (runs : List Run) : Type 0 where
   pub schema : db.schema ≡ schema_2
-  pub marked : SaysIn (pos 2) db.trees
+  pub marked : HasSchemaNumber (pos 2) db.trees
   pub runs_are : db.trees 2 ≡ map run_row runs
   pub entries_are : IsPermutation (entry_rows runs) (map (drop 1) (db.trees 3))
   pub props_are : IsPermutation (prop_rows runs) (map (drop 1) (db.trees 5))
@@ -107,11 +107,11 @@ pub record Tables (db : Database) (runs : List Run) : Type 0 where
 abbrev pub HaveNoPairs : List Run → Type 0
 HaveNoPairs runs = AllByRecursion (λ (r : Run). AllByRecursion (λ (e : Entry). e.meta ≡ []) r.entries) runs
 
--- `OldTables db runs`: `db` has schema 1, and its rows are exactly those of `runs`, whose entries
+-- `IsSchema1Database db runs`: `db` has schema 1, and its rows are exactly those of `runs`, whose entries
 -- have no pairs
-pub record OldTables (db : Database) (runs : List Run) : Type 0 where
+pub record IsSchema1Database (db : Database) (runs : List Run) : Type 0 where
   pub schema : db.schema ≡ schema_1
-  pub marked : SaysIn (pos 1) db.trees
+  pub marked : HasSchemaNumber (pos 1) db.trees
   pub runs_are : db.trees 2 ≡ map run_row runs
   pub entries_are : IsPermutation (entry_rows runs) (map (drop 1) (db.trees 3))
   pub bare : HaveNoPairs runs
@@ -121,19 +121,19 @@ pub record OldTables (db : Database) (runs : List Run) : Type 0 where
 abbrev pub Keeps : List Run → Trees → Type 0
 Keeps runs trees = (db : Database) × IsDatabase db × (trees ≡ db.trees) × Tables db runs
 
--- `KeepsOld runs trees`: `trees` are those of a database of schema 1 with `runs`
-abbrev pub KeepsOld : List Run → Trees → Type 0
-KeepsOld runs trees = (db : Database) × IsDatabase db × (trees ≡ db.trees) × OldTables db runs
+-- `IsSchema1Of runs trees`: `trees` are those of a database of schema 1 with `runs`
+abbrev pub IsSchema1Of : List Run → Trees → Type 0
+IsSchema1Of runs trees = (db : Database) × IsDatabase db × (trees ≡ db.trees) × IsSchema1Database db runs
 
--- `KeepsEither runs trees`: `trees` are those of a database of schema 1 or 2 with `runs`
-abbrev pub KeepsEither : List Run → Trees → Type 0
-KeepsEither runs trees = KeepsOld runs trees ⊎ Keeps runs trees
+-- `IsAnySchemaOf runs trees`: `trees` are those of a database of schema 1 or 2 with `runs`
+abbrev pub IsAnySchemaOf : List Run → Trees → Type 0
+IsAnySchemaOf runs trees = IsSchema1Of runs trees ⊎ Keeps runs trees
 
--- `KeepsOne lists trees`: `trees` are those of a database of schema 2 with the runs of one of
+-- `IsSchema2OfOne lists trees`: `trees` are those of a database of schema 2 with the runs of one of
 -- `lists`
-abbrev pub KeepsOne : List (List Run) → Trees → Type 0
-KeepsOne [] trees = ⊥
-KeepsOne (runs ∷ others) trees = Keeps runs trees ⊎ KeepsOne others trees
+abbrev pub IsSchema2OfOne : List (List Run) → Trees → Type 0
+IsSchema2OfOne [] trees = ⊥
+IsSchema2OfOne (runs ∷ others) trees = Keeps runs trees ⊎ IsSchema2OfOne others trees
 
 -- `new_run runs total started`: the run that begins after `runs`: unfinished, without entries
 abbrev pub new_run : List Run → ℕ → ℕ → Run

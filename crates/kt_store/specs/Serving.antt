@@ -2,18 +2,18 @@
 use Rattle.std.specs.Prelude.{suc, List, [], ◌∷◌, ◌++◌, ◌≡◌, ◌<◌, ◌≤◌, ◌⊎◌, Some, None, Ok, Err, length, map}
 use Rattle.kt_store.specs.Ask.{IsStoreFault}
 use Rattle.kt_store.specs.Heads.{head_at, outlined, pairs_of, outputs_of, entry_at}
-use Rattle.kt_store.specs.Runs.{AreNumbered, AreOrdered, KeepsOne, new_run, run_at, with_entry, put_refusal, finish, finish_refusal}
+use Rattle.kt_store.specs.Runs.{AreNumbered, AreOrdered, IsSchema2OfOne, new_run, run_at, with_entry, put_refusal, finish, finish_refusal}
 use Rattle.kt_store.specs.Stands.{Leaves, StandsFor}
 use Rattle.kt_store.specs.StoreCalls.{StoreCall, Began, Put, Finished, Head, Outline, Pairs, Outputs}
 use Rattle.kt_store.specs.declared.result_store.StoreSpec as store
 use Rattle.kt_store.specs.Types.{Entry, Ghosts, HasCleanDisk, Held, NoRun, Run, StoreFull, last_run, state}
 
--- `changed_by call runs`: the runs after `call`; a failed call changes nothing
-abbrev pub changed_by : StoreCall → List Run → List Run
-changed_by (Began total moment (Ok number)) runs = runs ++ new_run runs total moment ∷ []
-changed_by (Put number e (Ok done)) runs = with_entry number e runs
-changed_by (Finished number (Ok done)) runs = finish number runs
-changed_by _ runs = runs
+-- `runs_after call runs`: the runs after `call`; a failed call changes nothing
+abbrev pub runs_after : StoreCall → List Run → List Run
+runs_after (Began total moment (Ok number)) runs = runs ++ new_run runs total moment ∷ []
+runs_after (Put number e (Ok done)) runs = with_entry number e runs
+runs_after (Finished number (Ok done)) runs = finish number runs
+runs_after _ runs = runs
 
 -- `Agrees runs call`: the result of `call` is the one that `runs` require
 abbrev pub Agrees : List Run → StoreCall → Type 0
@@ -33,26 +33,26 @@ Agrees runs (Outputs number position (Ok outputs)) = (e : Entry) × (entry_at (r
 Agrees runs (Outputs number position (Err fault)) = IsStoreFault fault ⊎ ((fault ≡ NoRun) × (entry_at (run_at runs number) position ≡ None))
 
 module _ {R : Type 0} (LeavesOne : R → List (List Run) → Type 0) where
-  -- `Outlasts call runs may old new`: the runs that a crash may leave after `call`. A successful
+  -- `SurvivesCrash call runs may old new`: the runs that a crash may leave after `call`. A successful
   -- call that writes leaves only its own runs. A failed call leaves the earlier outcomes or the
   -- changed runs. A call that reads adds nothing.
-  abbrev pub Outlasts : StoreCall → List Run → List (List Run) → R → R → Type 0
-  Outlasts (Began total moment (Ok number)) runs may old new = LeavesOne new ((runs ++ new_run runs total moment ∷ []) ∷ [])
-  Outlasts (Began total moment (Err fault)) runs may old new = LeavesOne old (runs ∷ may) → LeavesOne new (runs ∷ (runs ++ new_run runs total moment ∷ []) ∷ may)
-  Outlasts (Put number e (Ok done)) runs may old new = LeavesOne new (with_entry number e runs ∷ [])
-  Outlasts (Put number e (Err fault)) runs may old new = LeavesOne old (runs ∷ may) → LeavesOne new (runs ∷ with_entry number e runs ∷ may)
-  Outlasts (Finished number (Ok done)) runs may old new = LeavesOne new (finish number runs ∷ [])
-  Outlasts (Finished number (Err fault)) runs may old new = LeavesOne old (runs ∷ may) → LeavesOne new (runs ∷ finish number runs ∷ may)
-  Outlasts _ runs may old new = LeavesOne old may → LeavesOne new may
+  abbrev pub SurvivesCrash : StoreCall → List Run → List (List Run) → R → R → Type 0
+  SurvivesCrash (Began total moment (Ok number)) runs may old new = LeavesOne new ((runs ++ new_run runs total moment ∷ []) ∷ [])
+  SurvivesCrash (Began total moment (Err fault)) runs may old new = LeavesOne old (runs ∷ may) → LeavesOne new (runs ∷ (runs ++ new_run runs total moment ∷ []) ∷ may)
+  SurvivesCrash (Put number e (Ok done)) runs may old new = LeavesOne new (with_entry number e runs ∷ [])
+  SurvivesCrash (Put number e (Err fault)) runs may old new = LeavesOne old (runs ∷ may) → LeavesOne new (runs ∷ with_entry number e runs ∷ may)
+  SurvivesCrash (Finished number (Ok done)) runs may old new = LeavesOne new (finish number runs ∷ [])
+  SurvivesCrash (Finished number (Err fault)) runs may old new = LeavesOne old (runs ∷ may) → LeavesOne new (runs ∷ finish number runs ∷ may)
+  SurvivesCrash _ runs may old new = LeavesOne old may → LeavesOne new may
 
 -- `Serves r call old new`: if `old` represents `runs`, `new` represents the changed runs. If `new`
 -- is sound, `old` was sound, and the result of `call` agrees with the runs.
 pub record Serves {R : Type 0} (r : store.Ghosts R) (call : StoreCall) (old new : R) : Type 0 where
   pub asked : r.answers old call new
-  pub stands : (runs : List Run) → r.stands old runs → r.stands new (changed_by call runs)
+  pub stands : (runs : List Run) → r.stands old runs → r.stands new (runs_after call runs)
   pub earlier : (runs : List Run) → r.stands old runs → r.sound new → r.sound old
   pub agrees : (runs : List Run) → r.stands old runs → r.sound new → Agrees runs call
-  pub crash : (runs : List Run) (may : List (List Run)) → r.stands old runs → Outlasts r.leaves call runs may old new
+  pub crash : (runs : List Run) (may : List (List Run)) → r.stands old runs → SurvivesCrash r.leaves call runs may old new
 
 -- `Reads r old new`: `new` represents the runs that `old` represents. If `new` is sound, `old` was
 -- sound. A crash leaves only the earlier outcomes.
@@ -68,7 +68,7 @@ results g = record {
   answers = λ _ _ _. Unit {0};
   stands = λ s runs. StandsFor (state g s) runs × AreNumbered 1 runs × (HasCleanDisk (state g s) → AreOrdered runs);
   sound = λ s. HasCleanDisk (state g s);
-  leaves = λ s may. Leaves (state g s) (KeepsOne may);
+  leaves = λ s may. Leaves (state g s) (IsSchema2OfOne may);
   numbered = λ s runs h. h.1;
   ordered = λ s runs h sound. h.2 sound;
 }

@@ -4,8 +4,8 @@ use Rattle.sqlite_resolve.specs.declared.compiled.Compiled.{Compiled}
 use Rattle.sqlite.specs.Table.{Table}
 use Rattle.sqlite_schema.specs.declared.schema.Index.{Index}
 use Rattle.sqlite_schema.specs.declared.schema.View.{View}
-use Rattle.kt_store.specs.Tables.{no_schema, beside_meta, runs_text, entries_text, pairs_text}
-use Rattle.kt_store.specs.Runs.{SaysIn, Tables, OldTables}
+use Rattle.kt_store.specs.Tables.{no_schema, schema_with_meta, runs_text, entries_text, pairs_text}
+use Rattle.kt_store.specs.Runs.{HasSchemaNumber, Tables, IsSchema1Database}
 use Rattle.kt_store.specs.Types.{Database, Ghosts, HasCleanDisk, Held, Run, State, Trees, state, understood}
 
 -- `IsSettled P s`: no transaction is open, the last commit is the visible database, and `P` holds
@@ -29,15 +29,15 @@ IsStore s runs = IsSettled (λ db. Tables db runs) s
 abbrev pub StandsFor : State → List Run → Type 0
 StandsFor s runs = IsSettledWhileOpen (λ db. Tables db runs) s
 
--- `OnRuns g old new P`: `P` holds for the runs that the tables represented before a call, if the
+-- `HoldsForRuns g old new P`: `P` holds for the runs that the tables represented before a call, if the
 -- disk is clean after the call
-abbrev pub OnRuns : {S : Type 0} → Ghosts S → Held S → Held S → (List Run → Type 0) → Type 0
-OnRuns g old new P = (runs : List Run) → StandsFor (state g old) runs → HasCleanDisk (state g new) → P runs
+abbrev pub HoldsForRuns : {S : Type 0} → Ghosts S → Held S → Held S → (List Run → Type 0) → Type 0
+HoldsForRuns g old new P = (runs : List Run) → StandsFor (state g old) runs → HasCleanDisk (state g new) → P runs
 
--- `StandsInOld s runs`: while the disk is clean and the connection is open, the tables of schema 1
+-- `RepresentsInSchema1 s runs`: while the disk is clean and the connection is open, the tables of schema 1
 -- represent `runs`
-abbrev pub StandsInOld : State → List Run → Type 0
-StandsInOld s runs = IsSettledWhileOpen (λ db. OldTables db runs) s
+abbrev pub RepresentsInSchema1 : State → List Run → Type 0
+RepresentsInSchema1 s runs = IsSettledWhileOpen (λ db. IsSchema1Database db runs) s
 
 -- `IsEmpty s`: while the disk is clean and the connection is open, the database has no table
 abbrev pub IsEmpty : State → Type 0
@@ -47,18 +47,18 @@ IsEmpty s = IsSettledWhileOpen (λ db. db.schema ≡ no_schema) s
 abbrev pub Leaves : State → (Trees → Type 0) → Type 0
 Leaves s P = HasCleanDisk s → (trees : Trees) → s.may_leave trees → P trees
 
--- `SaysNumber n s`: the first table is that of the schema number, which is `n`; any other tables
+-- `ListsSchemaNumber n s`: the first table is that of the schema number, which is `n`; any other tables
 -- may follow
-pub record SaysNumber (n : ℤ) (s : State) : Type 0 where
+pub record ListsSchemaNumber (n : ℤ) (s : State) : Type 0 where
   pub others : List Table
   pub indexes : List Index
   pub views : List View
-  pub schema : s.now.schema ≡ beside_meta others indexes views
-  pub marked : SaysIn n s.now.trees
+  pub schema : s.now.schema ≡ schema_with_meta others indexes views
+  pub marked : HasSchemaNumber n s.now.trees
 
--- `SaysSchema n s`: while the disk is clean and the connection is open, the schema number is `n`
-abbrev pub SaysSchema : ℤ → State → Type 0
-SaysSchema n s = HasCleanDisk s → IsTrue s.is_open → SaysNumber n s
+-- `StoresSchemaNumber n s`: while the disk is clean and the connection is open, the schema number is `n`
+abbrev pub StoresSchemaNumber : ℤ → State → Type 0
+StoresSchemaNumber n s = HasCleanDisk s → IsTrue s.is_open → ListsSchemaNumber n s
 
 -- `IsUnderstood s sql`: SQLite can prepare `sql` over the tables
 abbrev pub IsUnderstood : State → List ℕ → Type 0

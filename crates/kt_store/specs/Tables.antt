@@ -39,13 +39,13 @@ abbrev pub column : List ℕ → Kind → Bool → Column
 column name kind not_null = record { name = name; kind = kind; is_strict = true; not_null = not_null; default = Null; collation = Binary }
 
 -- no generated columns and no defaults
-abbrev pub no_stamps : Stamps
-no_stamps = record { places = []; terms = []; formats = [] }
+abbrev pub plain_columns : Stamps
+plain_columns = record { places = []; terms = []; formats = [] }
 
 -- `bare_table name columns`: a table with these columns, without a key or a rule
 abbrev pub bare_table : List ℕ → List Column → Table
 bare_table name columns =
-    record { name = name; tree = 0; columns = columns; key = None; primary = []; uniques = []; orders = []; checks = []; references = []; computed = []; stamps = no_stamps; is_counted = false }
+    record { name = name; tree = 0; columns = columns; key = None; primary = []; uniques = []; orders = []; checks = []; references = []; computed = []; stamps = plain_columns; is_counted = false }
 
 -- the table of the schema number
 abbrev pub meta : Table
@@ -109,8 +109,8 @@ abbrev pub runs_1 : Table
 runs_1 = record runs { tree = 2 }
 
 -- the table of entries, with its root tree
-abbrev pub entries_1 : Table
-entries_1 = record entries { tree = 3 }
+abbrev pub entries_table : Table
+entries_table = record entries { tree = 3 }
 
 -- the table of pairs, with its root tree
 abbrev pub props_1 : Table
@@ -118,16 +118,16 @@ props_1 = record props { tree = 5 }
 
 -- the three tables of schema 1
 abbrev pub schema_1 : Schema
-schema_1 = record { tables = meta_1 ∷ runs_1 ∷ entries_1 ∷ []; indexes = index_of meta_1 1 ∷ index_of entries_1 4 ∷ []; views = [] }
+schema_1 = record { tables = meta_1 ∷ runs_1 ∷ entries_table ∷ []; indexes = index_of meta_1 1 ∷ index_of entries_table 4 ∷ []; views = [] }
 
 -- the four tables of schema 2
 abbrev pub schema_2 : Schema
-schema_2 = record { tables = meta_1 ∷ runs_1 ∷ entries_1 ∷ props_1 ∷ []; indexes = index_of meta_1 1 ∷ index_of entries_1 4 ∷ index_of props_1 6 ∷ []; views = [] }
+schema_2 = record { tables = meta_1 ∷ runs_1 ∷ entries_table ∷ props_1 ∷ []; indexes = index_of meta_1 1 ∷ index_of entries_table 4 ∷ index_of props_1 6 ∷ []; views = [] }
 
--- `beside_meta others indexes views`: a schema with the table of the schema number first, then
+-- `schema_with_meta others indexes views`: a schema with the table of the schema number first, then
 -- `others`
-abbrev pub beside_meta : List Table → List Index → List View → Schema
-beside_meta others indexes views = record { tables = meta_1 ∷ others; indexes = indexes; views = views }
+abbrev pub schema_with_meta : List Table → List Index → List View → Schema
+schema_with_meta others indexes views = record { tables = meta_1 ∷ others; indexes = indexes; views = views }
 
 -- the statement that inserts a run
 abbrev pub begin_text : List ℕ
@@ -146,8 +146,8 @@ abbrev pub runs_text : List ℕ
 runs_text = codes "SELECT id, started, total, finished FROM runs ORDER BY id"
 
 -- the query for the entry of a run at a position
-abbrev pub there_text : List ℕ
-there_text = codes "SELECT position FROM entries WHERE run = ?1 AND position = ?2 ORDER BY position"
+abbrev pub entry_query : List ℕ
+entry_query = codes "SELECT position FROM entries WHERE run = ?1 AND position = ?2 ORDER BY position"
 
 -- the statement that inserts an entry
 abbrev pub put_text : List ℕ

@@ -1,5 +1,5 @@
 ghost use Rattle.std.specs.Prelude.{◌≡◌, ◌≢◌, ◌⊎◌, ◌<◌, ℤ, pos, true, false, [], IfOk, OnOk, OnErr, IfErr};
-ghost use Rattle.kt_store.specs.Common.{HasCleanDisk, IsLive, IsUnchanged, state, Rests, IsStoreFault, Blank, Older, IsOf, TakesTables, Refuses, HasNumber, WasClean, CommitsNothing, AsksNumber, LeavesSchema, FindsTables, SaysSchema, IsUnderstood, runs_text, entries_text, pairs_text};
+ghost use Rattle.kt_store.specs.Common.{HasCleanDisk, IsLive, IsUnchanged, state, IsUnchangedOrRolledBack, IsStoreFault, Blank, Older, IsOf, AttachSucceeds, AttachFails, HasNumber, WasClean, CommitsNothing, AsksNumber, LeavesSchema, FindsTables, StoresSchemaNumber, IsUnderstood, runs_text, entries_text, pairs_text};
 
 use crate::StoreFault;
 use crate::batch::{Texts, commit};
@@ -32,9 +32,9 @@ pub fn lives<S: Alter>(conn: &Connection<S>)
 /// Creates the tables in a database without tables, in one commit.
 pub(crate) fn create<S: Alter>(conn: &mut Connection<S>) -> Result<(), StoreFault>
     ensures taken { IsOf Blank (state S.Store conn.old)
-        → OnOk result (TakesTables Blank (state S.Store conn.old) (state S.Store conn.new)) }
+        → OnOk result (AttachSucceeds Blank (state S.Store conn.old) (state S.Store conn.new)) }
     ensures refused { IsOf Blank (state S.Store conn.old)
-        → IfErr result (Refuses Blank (state S.Store conn.old) (state S.Store conn.new)) }
+        → IfErr result (AttachFails Blank (state S.Store conn.old) (state S.Store conn.new)) }
     ensures earlier { WasClean S.Store conn.old conn.new }
     ensures failed { IfErr result IsStoreFault }
 {
@@ -60,9 +60,9 @@ pub(crate) fn is_blank<S: Alter>(conn: &Connection<S>) -> bool
 pub(crate) fn schema_number<S: Alter>(conn: &mut Connection<S>) -> Result<i64, StoreFault>
     ensures asks { AsksNumber S.Store conn.old conn.new }
     ensures same { OnOk result (LeavesSchema S.Store conn.old conn.new) }
-    ensures number { (n : ℤ) → SaysSchema n (state S.Store conn.old)
+    ensures number { (n : ℤ) → StoresSchemaNumber n (state S.Store conn.old)
         → HasCleanDisk (state S.Store conn.new) → IfOk result (λ number. number ≡ n) }
-    ensures taken { (n : ℤ) → SaysSchema n (state S.Store conn.old)
+    ensures taken { (n : ℤ) → StoresSchemaNumber n (state S.Store conn.old)
         → HasCleanDisk (state S.Store conn.new) → IfErr result IsStoreFault }
     ensures due { IfErr result (λ e. IsStoreFault e ⊎ (e ≡ StoreFault.UnknownSchema)) }
 {
@@ -83,7 +83,7 @@ pub(crate) fn find_tables<S: Alter>(conn: &mut Connection<S>, old: bool) -> Resu
     ensures same { HasCleanDisk (state S.Store conn.new)
         → OnOk result (IsUnchanged (state S.Store conn.old) (state S.Store conn.new)) }
     ensures rests { HasCleanDisk (state S.Store conn.new)
-        → OnErr result (Rests (state S.Store conn.old) (state S.Store conn.new)) }
+        → OnErr result (IsUnchangedOrRolledBack (state S.Store conn.old) (state S.Store conn.new)) }
     ensures understood { HasCleanDisk (state S.Store conn.new)
         → OnOk result (IsUnderstood (state S.Store conn.old) runs_text
         × IsUnderstood (state S.Store conn.old) entries_text
@@ -113,11 +113,11 @@ pub(crate) fn find_tables<S: Alter>(conn: &mut Connection<S>, old: bool) -> Resu
 pub(crate) fn is_old<S: Alter>(conn: &mut Connection<S>) -> Result<bool, StoreFault>
     ensures asks { AsksNumber S.Store conn.old conn.new }
     ensures same { OnOk result (LeavesSchema S.Store conn.old conn.new) }
-    ensures number { (n : ℤ) → SaysSchema n (state S.Store conn.old)
+    ensures number { (n : ℤ) → StoresSchemaNumber n (state S.Store conn.old)
         → HasCleanDisk (state S.Store conn.new)
         → IfOk result (λ old. (old ≡ true → n ≡ pos 1) × (old ≡ false → n ≡ pos 2)) }
     ensures tables { OnOk result (FindsTables S.Store conn.old conn.new) }
-    ensures taken { (n : ℤ) → SaysSchema n (state S.Store conn.old) → (n ≡ pos 1) ⊎ (n ≡ pos 2)
+    ensures taken { (n : ℤ) → StoresSchemaNumber n (state S.Store conn.old) → (n ≡ pos 1) ⊎ (n ≡ pos 2)
         → HasCleanDisk (state S.Store conn.new) → IfErr result IsStoreFault }
     ensures due { IfErr result (λ e. IsStoreFault e ⊎ (e ≡ StoreFault.UnknownSchema)) }
 {
@@ -133,9 +133,9 @@ pub(crate) fn is_old<S: Alter>(conn: &mut Connection<S>) -> Result<bool, StoreFa
 /// Migrates a database of schema 1 to schema 2, in one commit.
 pub(crate) fn migrate<S: Alter>(conn: &mut Connection<S>) -> Result<(), StoreFault>
     ensures taken { (runs : _) → IsOf (Older runs) (state S.Store conn.old)
-        → OnOk result (TakesTables (Older runs) (state S.Store conn.old) (state S.Store conn.new)) }
+        → OnOk result (AttachSucceeds (Older runs) (state S.Store conn.old) (state S.Store conn.new)) }
     ensures refused { (runs : _) → IsOf (Older runs) (state S.Store conn.old)
-        → IfErr result (Refuses (Older runs) (state S.Store conn.old) (state S.Store conn.new)) }
+        → IfErr result (AttachFails (Older runs) (state S.Store conn.old) (state S.Store conn.new)) }
     ensures earlier { WasClean S.Store conn.old conn.new }
     ensures failed { IfErr result IsStoreFault }
 {
@@ -150,9 +150,9 @@ pub(crate) fn migrate<S: Alter>(conn: &mut Connection<S>) -> Result<(), StoreFau
 /// Checks the tables of a database that has tables, and migrates schema 1 to schema 2.
 pub(crate) fn take<S: Alter>(conn: &mut Connection<S>) -> Result<(), StoreFault>
     ensures taken { (was : _) → HasNumber was → IsOf was (state S.Store conn.old)
-        → OnOk result (TakesTables was (state S.Store conn.old) (state S.Store conn.new)) }
+        → OnOk result (AttachSucceeds was (state S.Store conn.old) (state S.Store conn.new)) }
     ensures refused { (was : _) → HasNumber was → IsOf was (state S.Store conn.old)
-        → IfErr result (Refuses was (state S.Store conn.old) (state S.Store conn.new)) }
+        → IfErr result (AttachFails was (state S.Store conn.old) (state S.Store conn.new)) }
     ensures earlier { WasClean S.Store conn.old conn.new }
     ensures due { IfErr result (λ e. IsStoreFault e ⊎ (e ≡ StoreFault.UnknownSchema)) }
 {
@@ -167,9 +167,9 @@ pub(crate) fn take<S: Alter>(conn: &mut Connection<S>) -> Result<(), StoreFault>
 /// tables.
 pub(crate) fn create_or_adopt_tables<S: Alter>(conn: &mut Connection<S>) -> Result<(), StoreFault>
     ensures taken { (was : _) → IsOf was (state S.Store conn.old)
-        → OnOk result (TakesTables was (state S.Store conn.old) (state S.Store conn.new)) }
+        → OnOk result (AttachSucceeds was (state S.Store conn.old) (state S.Store conn.new)) }
     ensures refused { (was : _) → IsOf was (state S.Store conn.old)
-        → IfErr result (Refuses was (state S.Store conn.old) (state S.Store conn.new)) }
+        → IfErr result (AttachFails was (state S.Store conn.old) (state S.Store conn.new)) }
     ensures due { IfErr result (λ e. IsStoreFault e ⊎ (e ≡ StoreFault.UnknownSchema)) }
 {
     lives(conn);

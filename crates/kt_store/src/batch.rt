@@ -1,14 +1,14 @@
 ghost use Rattle.std.specs.Prelude.{OnOk, OnErr};
-ghost use Rattle.kt_store.specs.Common.{Commits, HasCleanDisk, MayCommit, Survives, Undoes, state};
+ghost use Rattle.kt_store.specs.Common.{Commits, HasCleanDisk, MayCommit, Survives, RollsBack, state};
 
 use crate::statements::step;
-use crate::store_fault::{FAULTY, StoreFailure};
+use crate::store_fault::{OTHER_FAILURE, StoreFailure};
 use sqlite::{Alter, Connection, Transaction};
 
 /// An interface to statements that are run in turn and committed together.
 pub(crate) trait Batch {
     ghost use Rattle.std.specs.Prelude.{List, ◌≡◌, OnOk};
-    ghost use Rattle.kt_store.specs.Common.{Statement, CommitsLater, RunsAll};
+    ghost use Rattle.kt_store.specs.Common.{Statement, CommitsNothingYet, ExecutesAll};
 
     /// The statements with their parameters.
     ghost statements: { Self → List Statement };
@@ -20,9 +20,9 @@ pub(crate) trait Batch {
     fn fill<S: Alter>(&self, tx: &mut Transaction<'_, S>) -> Result<(), StoreFailure>
         requires { is_ready self.now }
         ensures same_reference { tx.new.conn.ghost_name ≡ tx.old.conn.ghost_name }
-        ensures runs { OnOk result (RunsAll S.Store (statements self.now)
+        ensures runs { OnOk result (ExecutesAll S.Store (statements self.now)
             tx.old.conn.now tx.new.conn.now) }
-        ensures uncommitted { CommitsLater S.Store tx.old.conn.now tx.new.conn.now };
+        ensures uncommitted { CommitsNothingYet S.Store tx.old.conn.now tx.new.conn.now };
 }
 
 /// A batch of SQL texts without parameters.
@@ -56,12 +56,12 @@ pub(crate) fn commit<S: Alter, B: Batch>(
     ensures done { HasCleanDisk (state S.Store conn.new)
         → OnOk result (Commits S.Store (B.statements batch.now) conn.old conn.new) }
     ensures undone { HasCleanDisk (state S.Store conn.new)
-        → OnErr result (Undoes S.Store conn.old conn.new) }
+        → OnErr result (RollsBack S.Store conn.old conn.new) }
     ensures crash { Survives (state S.Store conn.old) (state S.Store conn.new)
         (MayCommit S.Store (B.statements batch.now) conn.old) }
 {
     if !conn.is_autocommit() {
-        return Err(FAULTY);
+        return Err(OTHER_FAILURE);
     }
     let mut tx = conn.transaction();
     batch.fill(&mut tx)?;

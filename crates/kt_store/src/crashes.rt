@@ -1,5 +1,5 @@
 ghost use Rattle.std.specs.Prelude.{List, [], ◌∷◌};
-ghost use Rattle.kt_store.specs.Common.{Run, Held, state, Survives, Keeps, KeepsOne, Leaves};
+ghost use Rattle.kt_store.specs.Common.{Run, Held, state, Survives, Keeps, IsSchema2OfOne, Leaves};
 
 use sqlite::Alter;
 
@@ -8,13 +8,13 @@ use sqlite::Alter;
 /// adds nothing.
 pub fn theorem_of_crashes<S: Alter>()
     ensures done { (s : Held S) (runs : List Run) → Leaves (state S.Store s) (Keeps runs)
-        → Leaves (state S.Store s) (KeepsOne (runs ∷ [])) }
+        → Leaves (state S.Store s) (IsSchema2OfOne (runs ∷ [])) }
     ensures written { (old new : Held S) (before : List (List Run)) (after : List Run)
-        → Leaves (state S.Store old) (KeepsOne before)
+        → Leaves (state S.Store old) (IsSchema2OfOne before)
         → Survives (state S.Store old) (state S.Store new) (Keeps after)
-        → Leaves (state S.Store new) (KeepsOne (after ∷ before)) }
+        → Leaves (state S.Store new) (IsSchema2OfOne (after ∷ before)) }
     ensures read { (old new : Held S) (before : List (List Run))
-        → Leaves (state S.Store old) (KeepsOne before)
+        → Leaves (state S.Store old) (IsSchema2OfOne before)
         → Survives (state S.Store old) (state S.Store new) (λ _. ⊥)
-        → Leaves (state S.Store new) (KeepsOne before) }
+        → Leaves (state S.Store new) (IsSchema2OfOne before) }
 {}

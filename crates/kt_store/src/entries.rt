@@ -1,5 +1,5 @@
 ghost use Rattle.std.specs.Prelude.{◌≡◌, ◌⊎◌, ◌<◌, ◌≤◌, ◌^◌, length, map, Some, None, IfOk, IfErr, OnOk};
-ghost use Rattle.kt_store.specs.Common.{OnRuns, AreWide, AreRuns, Entry as Stored, IsEntry, IsStoreFault, Looked, entries_of, entry_at, pair_columns, pairs_of, run_at, whole_columns};
+ghost use Rattle.kt_store.specs.Common.{HoldsForRuns, AreWide, AreRuns, Entry as Stored, IsEntry, IsStoreFault, OnlyReadsRuns, entries_of, entry_at, pair_columns, pairs_of, run_at, whole_columns};
 
 use crate::StoreFault;
 use crate::heads::add;
@@ -17,12 +17,12 @@ pub(crate) fn entry_rows<S: Alter>(
     conn: &mut Connection<S>,
     run: u32,
 ) -> Result<Vec<Row>, StoreFailure>
-    ensures all { OnRuns S.Store conn.old conn.new (λ runs.
+    ensures all { HoldsForRuns S.Store conn.old conn.new (λ runs.
         IfOk result (λ rows. rows.items
         ≡ map whole_columns (entries_of (run_at runs run)))) }
     ensures wide { IfOk result (λ rows. AreWide 11 rows.items) }
-    ensures valid { OnRuns S.Store conn.old conn.new (λ runs. OnOk result (AreRuns runs)) }
-    ensures looked { Looked S.Store conn.old conn.new }
+    ensures valid { HoldsForRuns S.Store conn.old conn.new (λ runs. OnOk result (AreRuns runs)) }
+    ensures looked { OnlyReadsRuns S.Store conn.old conn.new }
 {
     query(
         conn,
@@ -38,11 +38,11 @@ fn pair_rows<S: Alter>(
     run: u32,
     position: u32,
 ) -> Result<Vec<Row>, StoreFailure>
-    ensures all { OnRuns S.Store conn.old conn.new (λ runs.
+    ensures all { HoldsForRuns S.Store conn.old conn.new (λ runs.
         IfOk result (λ rows. rows.items
         ≡ map pair_columns (pairs_of (entry_at (run_at runs run) position)))) }
     ensures wide { IfOk result (λ rows. AreWide 2 rows.items) }
-    ensures looked { Looked S.Store conn.old conn.new }
+    ensures looked { OnlyReadsRuns S.Store conn.old conn.new }
 {
     query(
         conn,
@@ -60,10 +60,10 @@ fn entry_of<S: Alter>(
     row: &Row,
 ) -> Result<Entry, StoreFailure>
     requires wide { 11 ≤ length row.now }
-    ensures entry { OnRuns S.Store conn.old conn.new (λ runs. (e : Stored) → IsEntry e
+    ensures entry { HoldsForRuns S.Store conn.old conn.new (λ runs. (e : Stored) → IsEntry e
         → entry_at (run_at runs run) e.position ≡ Some e → row.now ≡ whole_columns e
         → IfOk result (λ x. x ≡ e)) }
-    ensures looked { Looked S.Store conn.old conn.new }
+    ensures looked { OnlyReadsRuns S.Store conn.old conn.new }
 {
     let position = value_in::<u32>(row, 0)?;
     let pairs = pair_rows(conn, run, position)?;
@@ -79,10 +79,10 @@ fn entries_in<S: Alter>(
     rows: &[Row],
 ) -> Result<Vec<Entry>, StoreFailure>
     requires wide { AreWide 11 rows.now }
-    ensures entries { OnRuns S.Store conn.old conn.new (λ runs. AreRuns runs
+    ensures entries { HoldsForRuns S.Store conn.old conn.new (λ runs. AreRuns runs
         → rows.now ≡ map whole_columns (entries_of (run_at runs run))
         → IfOk result (λ found. found.items ≡ entries_of (run_at runs run))) }
-    ensures looked { Looked S.Store conn.old conn.new }
+    ensures looked { OnlyReadsRuns S.Store conn.old conn.new }
 {
     let mut entries = Vec::new(alloc);
     for row in rows {
@@ -99,11 +99,11 @@ pub(crate) fn all_entries<S: Alter>(
     alloc: Global,
     run: u64,
 ) -> Result<Vec<Entry>, StoreFault>
-    ensures entries { OnRuns S.Store conn.old conn.new (λ runs.
+    ensures entries { HoldsForRuns S.Store conn.old conn.new (λ runs.
         IfOk result (λ found. (r : _) × (run_at runs run ≡ Some r) × (found.items ≡ r.entries))) }
-    ensures refused { OnRuns S.Store conn.old conn.new (λ runs.
+    ensures refused { HoldsForRuns S.Store conn.old conn.new (λ runs.
         IfErr result (λ e. IsStoreFault e ⊎ ((e ≡ StoreFault.NoRun) × (run_at runs run ≡ None)))) }
-    ensures looked { Looked S.Store conn.old conn.new }
+    ensures looked { OnlyReadsRuns S.Store conn.old conn.new }
 {
     look(conn, run)?;
     let number = key(run);

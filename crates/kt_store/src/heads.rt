@@ -1,5 +1,5 @@
 ghost use Rattle.std.specs.Prelude.{◌≡◌, ◌≤◌, ◌==◌, length, map, List, IfOk, IfSome, ◌++◌, [], ◌∷◌, OnOk, unwrap_or};
-ghost use Rattle.kt_store.specs.Common.{CountFrom, IsNumbered, OnRuns, AreWide, Looked, find, head_columns, head_of};
+ghost use Rattle.kt_store.specs.Common.{CountFrom, IsNumbered, HoldsForRuns, AreWide, OnlyReadsRuns, find, head_columns, head_of};
 ghost use Rattle.std.specs.Option.{option_copied};
 ghost use Rattle.kt_base.specs.declared.entry.Run.{Run as Stored};
 ghost use Rattle.kt_store.specs.declared.result_store.RunHead.{RunHead as Head};
@@ -71,10 +71,10 @@ pub(crate) fn all_heads<S: Alter>(
     conn: &mut Connection<S>,
     alloc: Global,
 ) -> Result<Vec<RunHead>, StoreFailure>
-    ensures all { OnRuns S.Store conn.old conn.new (λ runs.
+    ensures all { HoldsForRuns S.Store conn.old conn.new (λ runs.
         IfOk result (λ heads. heads.items ≡ map head_of runs)) }
     ensures numbered { IfOk result (λ heads. CountFrom 1 heads.items) }
-    ensures looked { Looked S.Store conn.old conn.new }
+    ensures looked { OnlyReadsRuns S.Store conn.old conn.new }
 {
     let rows = query(
         conn,

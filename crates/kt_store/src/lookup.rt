@@ -1,5 +1,5 @@
 ghost use Rattle.std.specs.Prelude.{◌≡◌, ◌⊎◌, ◌<◌, ◌≤◌, ◌^◌, IfOk, IfErr, OnOk, Some, None, option_map, unsigned_abs};
-ghost use Rattle.kt_store.specs.Common.{OnRuns, last_run, IsStoreFault, Looked, entries_of, run_at, flag, AreRuns, has_position};
+ghost use Rattle.kt_store.specs.Common.{HoldsForRuns, last_run, IsStoreFault, OnlyReadsRuns, entries_of, run_at, flag, AreRuns, has_position};
 
 use crate::StoreFault;
 use crate::statements::{has_rows, query, value_in};
@@ -15,9 +15,9 @@ pub(crate) fn find<S: Alter>(
     conn: &mut Connection<S>,
     run: u32,
 ) -> Result<Option<(u64, u64)>, StoreFailure>
-    ensures looked { Looked S.Store conn.old conn.new }
-    ensures valid { OnRuns S.Store conn.old conn.new (λ runs. OnOk result (AreRuns runs)) }
-    ensures found { OnRuns S.Store conn.old conn.new (λ runs.
+    ensures looked { OnlyReadsRuns S.Store conn.old conn.new }
+    ensures valid { HoldsForRuns S.Store conn.old conn.new (λ runs. OnOk result (AreRuns runs)) }
+    ensures found { HoldsForRuns S.Store conn.old conn.new (λ runs.
         IfOk result (λ o. o ≡ option_map (λ r. (r.total, unsigned_abs (flag r.finished))) (run_at
         runs run))) }
 {
@@ -53,11 +53,11 @@ pub fn key(run: u64) -> u32
 /// number.
 pub(crate) fn look<S: Alter>(conn: &mut Connection<S>, run: u64) -> Result<(u64, bool), StoreFault>
     ensures small { OnOk result (run ≤ last_run) }
-    ensures looked { Looked S.Store conn.old conn.new }
-    ensures found { OnRuns S.Store conn.old conn.new (λ runs.
+    ensures looked { OnlyReadsRuns S.Store conn.old conn.new }
+    ensures found { HoldsForRuns S.Store conn.old conn.new (λ runs.
         IfOk result (λ p. (r : _) × (run_at runs run ≡ Some r) × (p.0 ≡ r.total)
         × (p.1 ≡ r.finished) × AreRuns runs)) }
-    ensures refused { OnRuns S.Store conn.old conn.new (λ runs.
+    ensures refused { HoldsForRuns S.Store conn.old conn.new (λ runs.
         IfErr result (λ e. IsStoreFault e ⊎ ((e ≡ StoreFault.NoRun) × (run_at runs run ≡ None)))) }
 {
     let number = key(run);
@@ -76,8 +76,8 @@ pub(crate) fn there<S: Alter>(
     run: u32,
     position: u32,
 ) -> Result<bool, StoreFailure>
-    ensures looked { Looked S.Store conn.old conn.new }
-    ensures found { OnRuns S.Store conn.old conn.new (λ runs.
+    ensures looked { OnlyReadsRuns S.Store conn.old conn.new }
+    ensures found { HoldsForRuns S.Store conn.old conn.new (λ runs.
         IfOk result (λ b. b ≡ has_position position (entries_of (run_at runs run)))) }
 {
     let rows = query(

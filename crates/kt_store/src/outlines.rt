@@ -83,7 +83,7 @@ fn output_in(row: &Row, out: usize, err: usize) -> Result<Output, StoreFailure>
 }
 
 /// Reads an entry without its pairs and outputs from its row.
-fn bare_in(alloc: Global, row: &Row) -> Result<Entry, StoreFailure>
+fn outline_from_row(alloc: Global, row: &Row) -> Result<Entry, StoreFailure>
     requires { 7 ≤ length row.now }
     ensures { (e : Stored) (more : Values) → IsEntry e → row.now ≡ entry_columns e ++ more
         → IfOk result (λ x. x ≡ outlined e) }
@@ -122,7 +122,7 @@ pub fn outline_in(alloc: Global, rows: &[Row]) -> Result<Vec<Entry>, StoreFailur
 {
     let mut entries = Vec::new(alloc);
     for row in rows {
-        let entry = bare_in(alloc, row)?;
+        let entry = outline_from_row(alloc, row)?;
         add(&mut entries, entry)?;
     }
     Ok(entries)
@@ -134,7 +134,7 @@ pub(crate) fn entry_in(alloc: Global, row: &Row, meta: Variables) -> Result<Entr
     ensures { (e : Stored) → IsEntry e → row.now ≡ whole_columns e → meta ≡ e.meta
         → IfOk result (λ x. x ≡ e) }
 {
-    let mut entry = bare_in(alloc, row)?;
+    let mut entry = outline_from_row(alloc, row)?;
     entry.body = output_in(row, 7, 8)?;
     entry.cleanup = output_in(row, 9, 10)?;
     entry.meta = meta;

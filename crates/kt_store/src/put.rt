@@ -1,5 +1,5 @@
 ghost use Rattle.std.specs.Prelude.{◌≡◌, ◌⊎◌, Some, None, IfOk, ◌<◌, ◌≤◌, ◌^◌, OnOk, OnErr, IfErr};
-ghost use Rattle.kt_store.specs.Common.{OnRuns, last_run, IsStorable, IsStoreFault, KeepsRuns, Looked, Changes, MayChange, CommitsLater, RunsAll, RunsOne, CanAdd, IsBareIfPassed, with_entry, put_refusal, entry_statements, pair_statement, pair_statements};
+ghost use Rattle.kt_store.specs.Common.{HoldsForRuns, last_run, IsStorable, IsStoreFault, KeepsRuns, OnlyReadsRuns, Changes, MayChange, CommitsNothingYet, ExecutesAll, ExecutesOne, CanAdd, HasNoReasonIfPassed, with_entry, put_refusal, entry_statements, pair_statement, pair_statements};
 
 use crate::StoreFault;
 use crate::batch::{Batch, commit};
@@ -18,7 +18,7 @@ use std::alloc::Global;
 /// - `NoMemory`: the allocation failed.
 pub fn reason_of(alloc: Global, entry: &Entry) -> Result<Text, NoMemory>
     ensures text { IfOk result (λ t. t ≡ entry.now.verdict.reason) }
-    ensures passed { OnOk result (IsBareIfPassed entry.now) }
+    ensures passed { OnOk result (HasNoReasonIfPassed entry.now) }
 {
     let mut reason = Text::new(alloc);
     entry.verdict.write_reason(&mut reason)?;
@@ -36,9 +36,9 @@ fn add_pair<S: Alter>(
 ) -> Result<(), StoreFailure>
     requires { place < 2 ^ 63 }
     ensures same_reference { tx.new.conn.ghost_name ≡ tx.old.conn.ghost_name }
-    ensures runs { OnOk result (RunsOne S.Store (pair_statement run position place pair.now)
+    ensures runs { OnOk result (ExecutesOne S.Store (pair_statement run position place pair.now)
         tx.old.conn.now tx.new.conn.now) }
-    ensures uncommitted { CommitsLater S.Store tx.old.conn.now tx.new.conn.now }
+    ensures uncommitted { CommitsNothingYet S.Store tx.old.conn.now tx.new.conn.now }
 {
     step(
         tx,
@@ -61,9 +61,9 @@ fn add_pairs<S: Alter>(
     pairs: &[Variable],
 ) -> Result<(), StoreFailure>
     ensures same_reference { tx.new.conn.ghost_name ≡ tx.old.conn.ghost_name }
-    ensures runs { OnOk result (RunsAll S.Store (pair_statements run position 0 pairs.now)
+    ensures runs { OnOk result (ExecutesAll S.Store (pair_statements run position 0 pairs.now)
         tx.old.conn.now tx.new.conn.now) }
-    ensures uncommitted { CommitsLater S.Store tx.old.conn.now tx.new.conn.now }
+    ensures uncommitted { CommitsNothingYet S.Store tx.old.conn.now tx.new.conn.now }
 {
     let mut place = 0;
     for pair in pairs {
@@ -83,9 +83,9 @@ pub(crate) fn fill<S: Alter>(
     requires reason { reason.now ≡ entry.now.verdict.reason }
     requires moments { IsStorable entry.now }
     ensures same_reference { tx.new.conn.ghost_name ≡ tx.old.conn.ghost_name }
-    ensures runs { OnOk result (RunsAll S.Store (entry_statements run entry.now)
+    ensures runs { OnOk result (ExecutesAll S.Store (entry_statements run entry.now)
         tx.old.conn.now tx.new.conn.now) }
-    ensures uncommitted { CommitsLater S.Store tx.old.conn.now tx.new.conn.now }
+    ensures uncommitted { CommitsNothingYet S.Store tx.old.conn.now tx.new.conn.now }
 {
     step(
         tx,
@@ -156,11 +156,11 @@ pub(crate) fn check<S: Alter>(
     entry: &Entry,
 ) -> Result<(), StoreFault>
     ensures small { OnOk result (run ≤ last_run) }
-    ensures looked { Looked S.Store conn.old conn.new }
-    ensures refused { OnRuns S.Store conn.old conn.new (λ runs.
+    ensures looked { OnlyReadsRuns S.Store conn.old conn.new }
+    ensures refused { HoldsForRuns S.Store conn.old conn.new (λ runs.
         IfErr result (λ e. IsStoreFault e ⊎ (put_refusal runs run entry.now ≡ Some e))) }
-    ensures taken { OnRuns S.Store conn.old conn.new (λ runs.
-        OnOk result (IsBareIfPassed entry.now → (put_refusal runs run entry.now ≡ None)
+    ensures taken { HoldsForRuns S.Store conn.old conn.new (λ runs.
+        OnOk result (HasNoReasonIfPassed entry.now → (put_refusal runs run entry.now ≡ None)
         × CanAdd run entry.now runs)) }
 {
     let (total, finished) = look(conn, run)?;

@@ -34,7 +34,7 @@ impl<S: Alter> Model for Results<S> {
 
 impl<S: Alter> Results<S> {
     ghost use Rattle.std.specs.Prelude.{◌≡◌, ◌⊎◌, Some, None, IfOk, IfErr, IfSome, map};
-    ghost use Rattle.kt_store.specs.Common.{OnRuns, state, CountFrom, IsMoment, IsNumbered, IsStorable, IsStoreFault, IsOf, TakesTables, Refuses, Reads, Serves, Began, Put, Finished, Head, head_of, results, run_at};
+    ghost use Rattle.kt_store.specs.Common.{HoldsForRuns, state, CountFrom, IsMoment, IsNumbered, IsStorable, IsStoreFault, IsOf, AttachSucceeds, AttachFails, Reads, Serves, Began, Put, Finished, Head, head_of, results, run_at};
 
     /// Creates the tables in a database without tables, or migrates schema 1 to schema 2, each in
     /// one commit.
@@ -53,9 +53,9 @@ impl<S: Alter> Results<S> {
         connection: Connection<S>,
     ) -> Result<Results<S>, (StoreFault, Connection<S>)>
         ensures taken { (was : _) → IsOf was (state S.Store connection)
-            → IfOk result (λ r. TakesTables was (state S.Store connection) (state S.Store r)) }
+            → IfOk result (λ r. AttachSucceeds was (state S.Store connection) (state S.Store r)) }
         ensures refused { (was : _) → IsOf was (state S.Store connection)
-            → IfErr result (λ e. Refuses was (state S.Store connection) (state S.Store e.1) e.0) }
+            → IfErr result (λ e. AttachFails was (state S.Store connection) (state S.Store e.1) e.0) }
         // Holds for any database.
         ensures due { IfErr result (λ e. IsStoreFault e.0 ⊎ (e.0 ≡ StoreFault.UnknownSchema)) }
     {
@@ -132,7 +132,7 @@ impl<S: Alter> Results<S> {
     /// - `NoMemory`: memory ran out.
     pub fn runs(&mut self) -> Result<Vec<RunHead>, StoreFault>
         ensures reads { Reads (results S.Store) self.old self.new }
-        ensures heads { OnRuns S.Store self.old self.new (λ runs.
+        ensures heads { HoldsForRuns S.Store self.old self.new (λ runs.
             IfOk result (λ heads. heads.items ≡ map head_of runs)) }
         ensures failed { IfErr result IsStoreFault }
     {
@@ -162,10 +162,10 @@ impl<S: Alter> Results<S> {
     /// - `NoRun`: no run has the number.
     pub fn entries(&mut self, run: u64) -> Result<Vec<Entry>, StoreFault>
         ensures reads { Reads (results S.Store) self.old self.new }
-        ensures entries { OnRuns S.Store self.old self.new (λ runs.
+        ensures entries { HoldsForRuns S.Store self.old self.new (λ runs.
             IfOk result (λ found. (r : _) × (run_at runs run ≡ Some r)
             × (found.items ≡ r.entries))) }
-        ensures refused { OnRuns S.Store self.old self.new (λ runs.
+        ensures refused { HoldsForRuns S.Store self.old self.new (λ runs.
             IfErr result (λ e. IsStoreFault e ⊎ ((e ≡ StoreFault.NoRun)
             × (run_at runs run ≡ None)))) }
     {

@@ -1,5 +1,5 @@
 ghost use Rattle.std.specs.Prelude.{◌≡◌, ◌<◌, ◌≤◌, ◌++◌, suc, [], ◌∷◌, length, true, false, IfOk, OnOk, OnErr, IfErr, ◌⊎◌, ◌^◌, Some, None};
-ghost use Rattle.kt_store.specs.Common.{OnRuns, last_run, IsMoment, HasCleanDisk, state, IsStoreFault, KeepsRuns, Looked, Changes, MayChange, new_run, StandsFor, IsComplete, finish, finish_refusal};
+ghost use Rattle.kt_store.specs.Common.{HoldsForRuns, last_run, IsMoment, HasCleanDisk, state, IsStoreFault, KeepsRuns, OnlyReadsRuns, Changes, MayChange, new_run, StandsFor, IsComplete, finish, finish_refusal};
 
 use crate::StoreFault;
 use crate::entries::entry_rows;
@@ -11,10 +11,10 @@ use sqlite::{Alter, Connection};
 
 /// Returns `true` if there are 1,000,000 runs.
 pub(crate) fn is_full<S: Alter>(conn: &mut Connection<S>) -> Result<bool, StoreFailure>
-    ensures full { OnRuns S.Store conn.old conn.new (λ runs.
+    ensures full { HoldsForRuns S.Store conn.old conn.new (λ runs.
         IfOk result (λ full. (full ≡ true → last_run ≤ length runs) × (full ≡ false
         → length runs < last_run))) }
-    ensures looked { Looked S.Store conn.old conn.new }
+    ensures looked { OnlyReadsRuns S.Store conn.old conn.new }
 {
     Ok(find(conn, MOST_RUNS)?.is_some())
 }
@@ -47,10 +47,10 @@ pub(crate) fn add_run<S: Alter>(
 /// that applies.
 pub(crate) fn check<S: Alter>(conn: &mut Connection<S>, run: u64) -> Result<(), StoreFault>
     ensures small { OnOk result (run ≤ last_run) }
-    ensures looked { Looked S.Store conn.old conn.new }
-    ensures refused { OnRuns S.Store conn.old conn.new (λ runs.
+    ensures looked { OnlyReadsRuns S.Store conn.old conn.new }
+    ensures refused { HoldsForRuns S.Store conn.old conn.new (λ runs.
         IfErr result (λ e. IsStoreFault e ⊎ (finish_refusal runs run ≡ Some e))) }
-    ensures taken { OnRuns S.Store conn.old conn.new (λ runs.
+    ensures taken { HoldsForRuns S.Store conn.old conn.new (λ runs.
         OnOk result ((finish_refusal runs run ≡ None) × IsComplete run runs)) }
 {
     let (total, finished) = look(conn, run)?;

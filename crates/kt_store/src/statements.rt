@@ -1,5 +1,5 @@
 ghost use Rattle.std.specs.Prelude.{◌≡◌, ◌<◌, IfOk, OnOk, OnErr, nat_lt, length, []};
-ghost use Rattle.kt_store.specs.Common.{OnRuns, bound, IsPlain, understood, HasCleanDisk, Survives, IsUnchanged, state, column, CommitsNothing, Looked, Asked, AreWide, HasColumns, MayShow, MayExecute, ShowsOf, Executed, CommitsLater, IsOurs, RunsOne, Rests, IsUnderstood, schema_2};
+ghost use Rattle.kt_store.specs.Common.{HoldsForRuns, bound, IsPlain, understood, HasCleanDisk, Survives, IsUnchanged, state, column, CommitsNothing, OnlyReadsRuns, Asked, AreWide, HasColumns, MayShow, MayExecute, QueriesRuns, Executed, CommitsNothingYet, IsOurs, ExecutesOne, IsUnchangedOrRolledBack, IsUnderstood, schema_2};
 
 use crate::store_fault::StoreFailure;
 use sqlite::types::FromSql;
@@ -21,7 +21,7 @@ pub(crate) fn probe<S: Alter>(conn: &mut Connection<S>, sql: &str) -> Result<(),
     ensures same { HasCleanDisk (state S.Store conn.new)
         → OnOk result (IsUnchanged (state S.Store conn.old) (state S.Store conn.new)) }
     ensures rests { HasCleanDisk (state S.Store conn.new)
-        → OnErr result (Rests (state S.Store conn.old) (state S.Store conn.new)) }
+        → OnErr result (IsUnchangedOrRolledBack (state S.Store conn.old) (state S.Store conn.new)) }
     ensures understood { HasCleanDisk (state S.Store conn.new)
         → OnOk result (IsUnderstood (state S.Store conn.old) sql.now) }
     ensures survives { CommitsNothing S.Store conn.old conn.new }
@@ -42,7 +42,7 @@ pub(crate) fn ask<S: Alter>(
         → IfOk result (λ rows. Asked S.Store sql.now
         (bound params.now) conn.old conn.new rows.items) }
     ensures rests { HasCleanDisk (state S.Store conn.new)
-        → OnErr result (Rests (state S.Store conn.old) (state S.Store conn.new)) }
+        → OnErr result (IsUnchangedOrRolledBack (state S.Store conn.old) (state S.Store conn.new)) }
     ensures survives { Survives (state S.Store conn.old) (state S.Store conn.new)
         (MayShow S.Store sql.now (bound params.now) conn.old) }
 {
@@ -74,10 +74,10 @@ pub(crate) fn query<S: Alter>(
 ) -> Result<Vec<Row>, StoreFailure>
     requires plain { IsPlain (understood schema_2 sql.now) }
     requires width { HasColumns width (understood schema_2 sql.now) }
-    ensures shown { OnRuns S.Store conn.old conn.new (λ runs.
-        IfOk result (λ rows. ShowsOf S.Store runs sql.now (bound params.now) conn.new rows.items)) }
+    ensures shown { HoldsForRuns S.Store conn.old conn.new (λ runs.
+        IfOk result (λ rows. QueriesRuns S.Store runs sql.now (bound params.now) conn.new rows.items)) }
     ensures wide { IfOk result (λ rows. AreWide width rows.items) }
-    ensures looked { Looked S.Store conn.old conn.new }
+    ensures looked { OnlyReadsRuns S.Store conn.old conn.new }
 {
     let rows = ask(conn, sql, params)?;
     have_columns(&rows, width)?;
@@ -94,7 +94,7 @@ pub(crate) fn execute<S: Alter>(
     ensures executed { HasCleanDisk (state S.Store conn.new)
         → OnOk result (Executed S.Store sql.now (bound params.now) conn.old conn.new) }
     ensures rests { HasCleanDisk (state S.Store conn.new)
-        → OnErr result (Rests (state S.Store conn.old) (state S.Store conn.new)) }
+        → OnErr result (IsUnchangedOrRolledBack (state S.Store conn.old) (state S.Store conn.new)) }
     ensures survives { Survives (state S.Store conn.old) (state S.Store conn.new)
         (MayExecute S.Store sql.now (bound params.now) conn.old) }
 {
@@ -111,9 +111,9 @@ pub(crate) fn step<S: Alter>(
 ) -> Result<(), StoreFailure>
     requires { IsOurs sql.now }
     ensures same_reference { tx.new.conn.ghost_name ≡ tx.old.conn.ghost_name }
-    ensures runs { OnOk result (RunsOne S.Store (sql.now, bound params.now, [])
+    ensures runs { OnOk result (ExecutesOne S.Store (sql.now, bound params.now, [])
         tx.old.conn.now tx.new.conn.now) }
-    ensures uncommitted { CommitsLater S.Store tx.old.conn.now tx.new.conn.now }
+    ensures uncommitted { CommitsNothingYet S.Store tx.old.conn.now tx.new.conn.now }
 {
     tx.execute(sql, params)?;
     Ok(())

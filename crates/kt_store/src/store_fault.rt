@@ -15,7 +15,7 @@ use thiserror::Error;
 #[derive(Clone, Copy, Debug, Error)]
 #[error("{}", self.words())]
 pub enum StoreFault {
-    NoMemory(Shortage),
+    NoMemory(AllocationFailure),
     Store(FailedStatement),
     /// No run has this number.
     NoRun,
@@ -56,7 +56,7 @@ impl StoreFault {
 /// Errors returned by the parts of a store call: memory ran out, or the database failed.
 #[derive(Clone, Copy)]
 pub enum StoreFailure {
-    NoMemory(Shortage),
+    NoMemory(AllocationFailure),
     Failed(FailedStatement),
 }
 
@@ -76,7 +76,7 @@ impl From<StoreFailure> for StoreFault {
 /// Evidence that an allocation failed, in the allocator or in SQLite. Only this module creates this
 /// value.
 #[derive(Clone, Copy, Debug)]
-pub struct Shortage(SqliteRefusal);
+pub struct AllocationFailure(SqliteRefusal);
 
 /// Evidence that the database failed. A statement, an open or a close failed, the connection is in
 /// a transaction, a tree is damaged, or a row doesn't obey the schema. Only this module creates
@@ -88,9 +88,9 @@ pub struct FailedStatement {
 }
 
 /// The failure of a statement, of a file or of a check, without another process that uses the file.
-pub const FAULTY: StoreFailure = StoreFailure::Failed(FailedStatement { is_in_use: false });
+pub const OTHER_FAILURE: StoreFailure = StoreFailure::Failed(FailedStatement { is_in_use: false });
 
-/// A private type, so that no other module can create a `Shortage`.
+/// A private type, so that no other module can create a `AllocationFailure`.
 #[derive(Clone, Copy, Debug)]
 struct SqliteRefusal;
 
@@ -98,7 +98,7 @@ impl From<NoMemory> for StoreFault {
     ghost from_gives = { λ _ fault. IsNoMemory fault };
 
     fn from(_refusal: NoMemory) -> StoreFault {
-        StoreFault::NoMemory(Shortage(SqliteRefusal))
+        StoreFault::NoMemory(AllocationFailure(SqliteRefusal))
     }
 }
 
@@ -106,7 +106,7 @@ impl From<NoMemory> for StoreFailure {
     ghost from_gives = { λ _ trouble. IsShort trouble };
 
     fn from(_refusal: NoMemory) -> StoreFailure {
-        StoreFailure::NoMemory(Shortage(SqliteRefusal))
+        StoreFailure::NoMemory(AllocationFailure(SqliteRefusal))
     }
 }
 
@@ -115,10 +115,10 @@ impl From<SqlError> for StoreFailure {
 
     fn from(error: SqlError) -> StoreFailure {
         match error {
-            SqlError::SqliteFailure(ErrorCode::OutOfMemory) => StoreFailure::NoMemory(Shortage(
-                SqliteRefusal,
-            )),
-            _ => FAULTY,
+            SqlError::SqliteFailure(ErrorCode::OutOfMemory) => StoreFailure::NoMemory(
+                AllocationFailure(SqliteRefusal),
+            ),
+            _ => OTHER_FAILURE,
         }
     }
 }
@@ -128,8 +128,8 @@ impl From<StoreError> for StoreFailure {
 
     fn from(error: StoreError) -> StoreFailure {
         match error {
-            StoreError::OutOfMemory => StoreFailure::NoMemory(Shortage(SqliteRefusal)),
-            _ => FAULTY,
+            StoreError::OutOfMemory => StoreFailure::NoMemory(AllocationFailure(SqliteRefusal)),
+            _ => OTHER_FAILURE,
         }
     }
 }
@@ -139,8 +139,10 @@ impl From<sqlite_store::OpenError> for StoreFailure {
 
     fn from(error: sqlite_store::OpenError) -> StoreFailure {
         match error {
-            sqlite_store::OpenError::OutOfMemory => StoreFailure::NoMemory(Shortage(SqliteRefusal)),
-            _ => FAULTY,
+            sqlite_store::OpenError::OutOfMemory => StoreFailure::NoMemory(AllocationFailure(
+                SqliteRefusal,
+            )),
+            _ => OTHER_FAILURE,
         }
     }
 }
@@ -159,7 +161,7 @@ impl From<WriteError> for StoreFailure {
     fn from(error: WriteError) -> StoreFailure {
         match error {
             WriteError::Failed(error) => StoreFailure::from(error),
-            WriteError::Refused(_) => FAULTY,
+            WriteError::Refused(_) => OTHER_FAILURE,
         }
     }
 }
@@ -175,9 +177,9 @@ pub fn unopened(error: &OpenError) -> StoreFailure
         OpenError::HotJournal => false,
     };
     if is_short {
-        StoreFailure::NoMemory(Shortage(SqliteRefusal))
+        StoreFailure::NoMemory(AllocationFailure(SqliteRefusal))
     } else {
-        FAULTY
+        OTHER_FAILURE
     }
 }
 
@@ -190,7 +192,7 @@ pub fn sure(is_sound: bool) -> Result<(), StoreFailure>
     ensures sound { OnOk result (is_sound ≡ true) }
     ensures damaged { OnErr result (is_sound ≡ false) }
 {
-    if is_sound { Ok(()) } else { Err(FAULTY) }
+    if is_sound { Ok(()) } else { Err(OTHER_FAILURE) }
 }
 
 /// Returns the value of an option.
@@ -204,6 +206,6 @@ pub fn present<T>(found: Option<T>) -> Result<T, StoreFailure>
 {
     match found {
         Some(it) => Ok(it),
-        None => Err(FAULTY),
+        None => Err(OTHER_FAILURE),
     }
 }

@@ -1,6 +1,6 @@
 -- Two lists of a tree's marks are equal up to a call with two results.
 use Rattle.std.proofs.Common.{Option, Some, None, Result, Ok, Err, Bool, ◌≡◌, ℕ, List, [], ◌∷◌, ◌++◌, refl, sym, subst, ap, ◌∙◌}
-use Rattle.kt_suite.proofs.Common.{ScriptFault, Stmt, Spells, IsDue, ReadFault, SuiteCause, NoSyntax, Script, Meaning, Program, Asked, Read, Exists, SameQuestion, fault_at, read_fault, script_line, meaning_of, opening_fault, beside, Site, site_fault, looked_up, Mark, Asks, File, Fault, Part, Says, Includes, said, suite_after, StatementsSay, none, one, FileSays, unread, no_script, no_statement, unopened, opened, Unfolds, end, says, refused, entered, TreeGives}
+use Rattle.kt_suite.proofs.Common.{ScriptFault, Stmt, Spells, IsDue, ReadFault, SuiteCause, NoSyntax, Script, Meaning, Program, Asked, Read, Exists, IsSameCall, fault_at, read_fault, script_line, meaning_of, opening_fault, beside, Site, site_fault, lookup_mark, Mark, Asks, File, Fault, Part, Says, Includes, said, suite_after, StatementsGive, none, one, FileGivesParts, unread, no_script, no_statement, unopened, opened, Unfolds, end, says, refused, entered, TreeGives}
 use Rattle.kt_suite.specs.declared.meaning.Meaning.TheVariants as meaning
 use Rattle.kt_script.proofs.OneAnswer.{two_spelled, two_due, not_both}
 
@@ -8,13 +8,13 @@ use Rattle.kt_script.proofs.OneAnswer.{two_spelled, two_due, not_both}
 pub data Agree : List Mark → List Mark → Type 0 where
   both_end : Agree [] []
   same_mark : (m : Mark) (ms ns : List Mark) → Agree ms ns → Agree (m ∷ ms) (m ∷ ns)
-  both_ask : (q r : Asked) (ms ns : List Mark) → SameQuestion q r → (q ≡ r → Agree ms ns) → Agree (Asks q ∷ ms) (Asks r ∷ ns)
+  both_ask : (q r : Asked) (ms ns : List Mark) → IsSameCall q r → (q ≡ r → Agree ms ns) → Agree (Asks q ∷ ms) (Asks r ∷ ns)
 
 -- `AgreeParts ps qs`: the parts are equal up to a call with two results.
 pub data AgreeParts : List Part → List Part → Type 0 where
   no_parts : AgreeParts [] []
   same_part : (p : Part) (ps qs : List Part) → AgreeParts ps qs → AgreeParts (p ∷ ps) (p ∷ qs)
-  parts_ask : (q r : Asked) (ps qs : List Part) → SameQuestion q r → (q ≡ r → AgreeParts ps qs) → AgreeParts (Says (Asks q) ∷ ps) (Says (Asks r) ∷ qs)
+  parts_ask : (q r : Asked) (ps qs : List Part) → IsSameCall q r → (q ≡ r → AgreeParts ps qs) → AgreeParts (Says (Asks q) ∷ ps) (Says (Asks r) ∷ qs)
 
 agree-append : (ms ns xs ys : List Mark) → Agree ms ns → Agree xs ys → Agree (ms ++ xs) (ns ++ ys)
 agree-append _ _ xs ys both_end a = a
@@ -35,10 +35,10 @@ said_agree at t u (meaning.Suite name) ps qs a = a
 said_agree at t u (meaning.Include name) ps qs a = same_part _ ps qs a
 said_agree at t u (meaning.Program interface name suite props) ps qs a =
     let p : Program = record { interface = interface; path = beside at.file name; suite = suite; props = props } in
-    parts_ask (Exists (beside at.file name) t) (Exists (beside at.file name) u) (Says (looked_up at p t) ∷ ps) (Says (looked_up at p u) ∷ qs) refl
-    (λ e. subst (λ (b : Bool). AgreeParts (Says (looked_up at p t) ∷ ps) (Says (looked_up at p b) ∷ qs)) (ap (λ (x : Asked). exists_in x t) e) (same_part (Says (looked_up at p t)) ps qs a))
+    parts_ask (Exists (beside at.file name) t) (Exists (beside at.file name) u) (Says (lookup_mark at p t) ∷ ps) (Says (lookup_mark at p u) ∷ qs) refl
+    (λ e. subst (λ (b : Bool). AgreeParts (Says (lookup_mark at p t) ∷ ps) (Says (lookup_mark at p b) ∷ qs)) (ap (λ (x : Asked). exists_in x t) e) (same_part (Says (lookup_mark at p t)) ps qs a))
 
-statements_agree : (file : List ℕ) (suite : Option (List ℕ)) (stmts : List Stmt) (ps qs : List Part) → StatementsSay file suite stmts ps → StatementsSay file suite stmts qs → AgreeParts ps qs
+statements_agree : (file : List ℕ) (suite : Option (List ℕ)) (stmts : List Stmt) (ps qs : List Part) → StatementsGive file suite stmts ps → StatementsGive file suite stmts qs → AgreeParts ps qs
 statements_agree file suite [] _ _ (none _) (none _) = no_parts
 statements_agree file suite (stmt ∷ rest) _ _ (one _ _ _ t ps h) (one _ _ _ u qs k) =
     said_agree (record { file = file; line = stmt.line }) t u (meaning_of suite stmt.action) ps qs (statements_agree file (suite_after suite (meaning_of suite stmt.action)) rest ps qs h k)
@@ -48,7 +48,7 @@ statements_agree file suite (stmt ∷ rest) _ _ (one _ _ _ t ps h) (one _ _ _ u 
 data AfterStatements (file : List ℕ) : List Stmt → List Part → Type 0 where
   a_none : AfterStatements file [] (Says (Fault (fault_at file 1 NoSyntax)) ∷ [])
   a_wrong : (first : Stmt) (rest : List Stmt) (cause : SuiteCause) → opening_fault first.action ≡ Some cause → AfterStatements file (first ∷ rest) (Says (Fault (fault_at file first.line cause)) ∷ [])
-  a_right : (first : Stmt) (rest : List Stmt) (parts : List Part) → opening_fault first.action ≡ None → StatementsSay file None rest parts → AfterStatements file (first ∷ rest) parts
+  a_right : (first : Stmt) (rest : List Stmt) (parts : List Part) → opening_fault first.action ≡ None → StatementsGive file None rest parts → AfterStatements file (first ∷ rest) parts
 
 data AfterAnswer (file : List ℕ) : Result (List ℕ) ReadFault → List Part → Type 0 where
   b_unread : (why : ReadFault) → AfterAnswer file (Err why) (Says (Fault (read_fault file why)) ∷ [])
@@ -58,7 +58,7 @@ data AfterAnswer (file : List ℕ) : Result (List ℕ) ReadFault → List Part �
 data Answering (file : List ℕ) : List Part → Type 0 where
   by : (answer : Result (List ℕ) ReadFault) (parts : List Part) → AfterAnswer file answer parts → Answering file (Says (Asks (Read file answer)) ∷ parts)
 
-answering : (file : List ℕ) (ps : List Part) → FileSays file ps → Answering file ps
+answering : (file : List ℕ) (ps : List Part) → FileGivesParts file ps → Answering file ps
 answering file _ (unread why) = by (Err why) _ (b_unread why)
 answering file _ (no_script text why i) = by (Ok text) _ (b_faulty text why i)
 answering file _ (no_statement text s) = by (Ok text) _ (b_script text [] _ s a_none)
@@ -88,7 +88,7 @@ both_answering file _ _ (by a ps h) (by b qs k) =
     parts_ask (Read file a) (Read file b) ps qs refl
     (λ e. behind_answer file a ps qs h (subst (λ (x : Result (List ℕ) ReadFault). AfterAnswer file x qs) (sym (ap (λ (x : Asked). read_in x a) e)) k))
 
-files_agree : (file : List ℕ) (ps qs : List Part) → FileSays file ps → FileSays file qs → AgreeParts ps qs
+files_agree : (file : List ℕ) (ps qs : List Part) → FileGivesParts file ps → FileGivesParts file qs → AgreeParts ps qs
 files_agree file ps qs h k = both_answering file ps qs (answering file ps h) (answering file qs k)
 
 unfolds_agree : (files : List (List ℕ)) (ps qs : List Part) (ms ns : List Mark) → AgreeParts ps qs → Unfolds files ps ms → Unfolds files qs ns → Agree ms ns

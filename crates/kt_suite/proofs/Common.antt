@@ -19,20 +19,20 @@ pub use Rattle.kt_script.specs.Spelling.{IsDue, Spells}
 pub use Rattle.kt_script.specs.declared.syntax.Pair.{Pair}
 unfoldable pub use lib.Utf8.{encode}
 pub use mathlib.Core.List.{append-nil, append_assoc}
-pub use Rattle.kt_suite.specs.Answers.{Answered, Asked, Exists, IsSteady, Read, SameQuestion}
+pub use Rattle.kt_suite.specs.Answers.{Answered, Asked, Exists, HasStableResults, Read, IsSameCall}
 pub use Rattle.kt_suite.specs.Calls.{key_named}
 pub use Rattle.kt_suite.specs.Disjoint.{ShareCase, covers, overlap, overlap_fault, parts_cover}
 pub use Rattle.kt_suite.specs.FaultWords.{cause_words, fixed_words}
 pub use Rattle.kt_suite.specs.Faults.{IsNoMemory, fault_at, read_fault, script_line}
 pub use Rattle.kt_suite.specs.Filters.{counts, plain_path}
-pub use Rattle.kt_suite.specs.Inner.Steps.{IsText, all_places, first_match, is_match, is_miss, props_with, table_with, with_component, with_props}
-pub use Rattle.kt_suite.specs.Inner.Walks.{Adds, Counted, Entered, Enters, FileGives, MeaningGives, Opened, Stepped, Walked, WellOpened, badly, declines, empty, enters, exceeds, fails, goes, lacks, opens, refuses, scant, short, stops, through, unclear, well}
-pub use Rattle.kt_suite.specs.Marks.{Asks, Fault, File, FileSays, Includes, Listed, Mark, Part, Says, Site, StatementsSay, TreeGives, Unfolds, end, entered, entry_fault, looked_up, no_script, no_statement, none, one, opened, refused, said, says, site_fault, suite_after, unopened, unread}
+pub use Rattle.kt_suite.specs.Inner.Steps.{IsText, all_positions, first_match, is_match, is_miss, props_with, table_with, with_component, with_props}
+pub use Rattle.kt_suite.specs.Inner.Walks.{Adds, Counted, EntersFile, Enters, FileGives, MeaningGives, Opened, StepsTo, IsWalk, ChecksOpening, badly, declines, empty, enters, exceeds, fails, goes, lacks, opens, refuses, scant, short, stops, through, unclear, well}
+pub use Rattle.kt_suite.specs.Marks.{Asks, Fault, File, FileGivesParts, Includes, ProgramMark, Mark, Part, Says, Site, StatementsGive, TreeGives, Unfolds, end, entered, entry_fault, lookup_mark, no_script, no_statement, none, one, opened, refused, said, says, site_fault, suite_after, unopened, unread}
 pub use Rattle.kt_suite.specs.Matching.{IsWithin, is_within, matches, parts_match}
 pub use Rattle.kt_suite.specs.Meanings.{meaning_of, opening_fault}
 pub use Rattle.kt_suite.specs.Paths.{beside, directory_of, is_component}
-pub use Rattle.kt_suite.specs.Registered.{Decides, IsNext, IsUndecided, Outcome, Registered, Unfinished, all, faults_in, file_limit, file_too_many, files_in, is_fault, no_question, program_limit, program_too_many, programs_in, questions_in, stopped, thrown_away}
-pub use Rattle.kt_suite.specs.Selecting.{unmatched_places, is_unmatched, is_selected, matches_item, places, selected_places}
+pub use Rattle.kt_suite.specs.Registered.{Decides, IsNext, IsUndecided, Outcome, Registered, Unfinished, all, faults_in, file_limit, file_too_many, files_in, is_fault, no_question, program_limit, program_too_many, programs_in, calls_in, stopped, thrown_away}
+pub use Rattle.kt_suite.specs.Selecting.{unmatched_positions, is_unmatched, is_selected, matches_item, places, selected_positions}
 pub use Rattle.kt_suite.specs.Tables.{declared, definition, definitions, first_fault, is_property, key_fault, pair_fault, table_of, unless, value_cause}
 pub use Rattle.kt_suite.specs.declared.registry.Registry.{Registry}
 pub use Rattle.kt_suite.specs.declared.registry.LoadStep.{LoadStep}

@@ -1,7 +1,7 @@
 -- The messages of errors as bytes.
 use Rattle.std.proofs.Common.{◌≡◌, ℕ, refl}
 use Rattle.kt_suite.proofs.Common.{encode, utf8, ScriptFault, SuiteCause, fixed_words, cause_words}
-use Rattle.kt_script.specs.FaultWords.{script_words}
+use Rattle.kt_script.specs.FaultWords.{script_message}
 use Rattle.kt_script.specs.declared.fault.ScriptFault.TheVariants as script
 use Rattle.kt_suite.specs.declared.cause.SuiteCause.TheVariants as cause
 
@@ -11,7 +11,7 @@ fixed-cause (cause.WrongSyntax n) d = absurd (d n refl)
 fixed-cause c d = refl
 
 -- The message of a script's error is ASCII.
-pub utf8-script : (fault : ScriptFault) → utf8 (script_words fault) ≡ script_words fault
+pub utf8-script : (fault : ScriptFault) → utf8 (script_message fault) ≡ script_message fault
 unfolding encode
 utf8-script (script.NoMemory refusal) = refl
 utf8-script fault = refl

@@ -1,21 +1,21 @@
 -- Reading and opening a file.
 use Rattle.std.proofs.Common.{Some, None, Result, Ok, Err, ◌≡◌, ℕ, List, ◌∷◌, length, sym, subst, ◌⊎◌, inl, inr}
-use Rattle.kt_suite.proofs.Common.{ScriptFault, Stmt, Spells, IsDue, ReadFault, SuiteCause, NoSyntax, Script, SuiteFault, Asked, Read, IsText, fault_at, read_fault, script_line, IsNoMemory, opening_fault, unread, no_script, no_statement, unopened, WellOpened, well, empty, badly, unclear, Opened, opens, declines, lacks}
+use Rattle.kt_suite.proofs.Common.{ScriptFault, Stmt, Spells, IsDue, ReadFault, SuiteCause, NoSyntax, Script, SuiteFault, Asked, Read, IsText, fault_at, read_fault, script_line, IsNoMemory, opening_fault, unread, no_script, no_statement, unopened, ChecksOpening, well, empty, badly, unclear, Opened, opens, declines, lacks}
 use Rattle.kt_script.specs.Faults.{IfFault}
 use Rattle.kt_suite.specs.Inner.Steps.{Blames}
 use Rattle.kt_script.specs.declared.fault.ScriptFault.TheVariants as script
 use Rattle.std.proofs.lemmas.List.{nil_from_length}
 
-pub well_empty : (file : List ℕ) (stmts : List Stmt) (fault : SuiteFault) → length stmts ≡ 0 → Blames file 1 NoSyntax fault → WellOpened file stmts (Err fault)
+pub well_empty : (file : List ℕ) (stmts : List Stmt) (fault : SuiteFault) → length stmts ≡ 0 → Blames file 1 NoSyntax fault → ChecksOpening file stmts (Err fault)
 well_empty file stmts fault e (inl n) = unclear fault n
-well_empty file stmts fault e (inr f) = subst (λ (f : SuiteFault). WellOpened file stmts (Err f)) (sym f) (empty (nil_from_length stmts e))
+well_empty file stmts fault e (inr f) = subst (λ (f : SuiteFault). ChecksOpening file stmts (Err f)) (sym f) (empty (nil_from_length stmts e))
 
 pub well_wrong : (file : List ℕ) (stmts : List Stmt) (first : Stmt) (rest : List Stmt) (cause : SuiteCause) (fault : SuiteFault) → stmts ≡ first ∷ rest → Some cause ≡ opening_fault first.action
-    → Blames file first.line cause fault → WellOpened file stmts (Err fault)
+    → Blames file first.line cause fault → ChecksOpening file stmts (Err fault)
 well_wrong file stmts first rest cause fault e w (inl n) = unclear fault n
-well_wrong file stmts first rest cause fault e w (inr f) = subst (λ (f : SuiteFault). WellOpened file stmts (Err f)) (sym f) (badly first rest cause e (sym w))
+well_wrong file stmts first rest cause fault e w (inr f) = subst (λ (f : SuiteFault). ChecksOpening file stmts (Err f)) (sym f) (badly first rest cause e (sym w))
 
-pub well_right : (file : List ℕ) (stmts : List Stmt) (first : Stmt) (rest : List Stmt) → stmts ≡ first ∷ rest → None ≡ opening_fault first.action → WellOpened file stmts (Ok stmts)
+pub well_right : (file : List ℕ) (stmts : List Stmt) (first : Stmt) (rest : List Stmt) → stmts ≡ first ∷ rest → None ≡ opening_fault first.action → ChecksOpening file stmts (Ok stmts)
 well_right file stmts first rest e w = well first rest e (sym w)
 
 module _ {S : Type 0} (leads : S → Asked → S → Type 0) where
@@ -37,7 +37,7 @@ module _ {S : Type 0} (leads : S → Asked → S → Type 0) where
       (declines (Ok text) (fault_at file (script_line why) (Script why)) (subst (λ (x : Result (List ℕ) ReadFault). leads old (Read file x) new) a h) (no_script text why (is_due text why e.0 i)))
 
   opens_by : (old new : S) (file text : List ℕ) (stmts : List Stmt) (result : Result (List Stmt) SuiteFault) → leads old (Read file (Ok text)) new → Spells text stmts
-      → WellOpened file stmts result → Opened leads old new file result
+      → ChecksOpening file stmts result → Opened leads old new file result
   opens_by old new file text stmts _ h s (well first rest e w) =
       subst (λ (xs : List Stmt). Opened leads old new file (Ok xs)) (sym e) (opens text first rest h (subst (λ (xs : List Stmt). Spells text xs) e s) w)
   opens_by old new file text stmts _ h s (empty e) = declines (Ok text) (fault_at file 1 NoSyntax) h (no_statement text (subst (λ (xs : List Stmt). Spells text xs) e s))
@@ -46,5 +46,5 @@ module _ {S : Type 0} (leads : S → Asked → S → Type 0) where
   opens_by old new file text stmts _ h s (unclear fault n) = lacks (Ok text) fault h n
 
   pub opens_script : (old new : S) (file text : List ℕ) (answer : Result (List ℕ) ReadFault) (stmts : List Stmt) (result : Result (List Stmt) SuiteFault) → leads old (Read file answer) new → answer ≡ Ok text
-      → Spells text stmts → WellOpened file stmts result → Opened leads old new file result
+      → Spells text stmts → ChecksOpening file stmts result → Opened leads old new file result
   opens_script old new file text answer stmts result h a s w = opens_by old new file text stmts result (subst (λ (x : Result (List ℕ) ReadFault). leads old (Read file x) new) a h) s w

@@ -1,6 +1,6 @@
 -- The filters that remain unmatched after all items.
 use Rattle.std.proofs.Common.{◌≡◌, ℕ, ◌+◌, suc, Bool, true, false, List, [], ◌∷◌, ◌++◌, refl, sym, ap, ◌∙◌, arith, length, slice_get, Option, ◌||◌, not}
-use Rattle.kt_suite.proofs.Common.{append_assoc, list_any, filter, Filter, Item, all_places, is_match, is_miss, matches_item, option_map_or, places, is_unmatched, unmatched_places}
+use Rattle.kt_suite.proofs.Common.{append_assoc, list_any, filter, Filter, Item, all_positions, is_match, is_miss, matches_item, option_map_or, places, is_unmatched, unmatched_positions}
 
 -- `is_unmatched_at items filters place`: the filter at position `place` matches none of `items`.
 abbrev pub is_unmatched_at : List Item → List Filter → ℕ → Bool
@@ -47,7 +47,7 @@ unmatched_from items all n (f ∷ rest) at =
     rw (here, later) refl
 
 -- The filters that no item of `items` matches by position are the unmatched filters.
-pub unmatched_of_all : (items : List Item) (filters : List Filter) (all : List ℕ) → all ≡ all_places filters → filter (is_unmatched_at items filters) all ≡ unmatched_places items filters
+pub unmatched_of_all : (items : List Item) (filters : List Filter) (all : List ℕ) → all ≡ all_positions filters → filter (is_unmatched_at items filters) all ≡ unmatched_positions items filters
 unmatched_of_all items filters all e =
     ap (λ (ps : List ℕ). filter (is_unmatched_at items filters) ps) e
     ∙ unmatched_from items filters 0 filters (λ k. ap (λ (p : ℕ). slice_get filters p) (let z : 0 + k ≡ k = omega arith in z))

@@ -1,6 +1,6 @@
 -- The root is read, and the counted marks decide the result.
 use Rattle.std.proofs.Common.{Result, Ok, Err, ◌≡◌, ◌≤◌, ◌+◌, ℕ, List, [], ◌∷◌, ◌++◌, length, arith, refl, sym, subst, ap, ◌⊎◌, inl, inr}
-use Rattle.kt_suite.proofs.Common.{append-nil, SuiteFault, Program, Registry, Asked, Answered, Site, Mark, File, Includes, end, entered, TreeGives, program_limit, Outcome, questions_in, files_in, programs_in, IsUndecided, Decides, Unfinished, Registered, all, stopped, Counted, Walked, through, stops, short, FileGives}
+use Rattle.kt_suite.proofs.Common.{append-nil, SuiteFault, Program, Registry, Asked, Answered, Site, Mark, File, Includes, end, entered, TreeGives, program_limit, Outcome, calls_in, files_in, programs_in, IsUndecided, Decides, Unfinished, Registered, all, stopped, Counted, IsWalk, through, stops, short, FileGives}
 use Rattle.kt_suite.proofs.Counting.{totals}
 use Rattle.kt_suite.proofs.Unfolding.{unfolds_to}
 
@@ -30,27 +30,27 @@ answered (Ok r) = Ok r.programs
 answered (Err fault) = Err fault
 
 module _ {T : Type 0} (asks : T → Asked → T → Type 0) where
-  registered_root : (old new : T) (root : List ℕ) (result : Result Registry SuiteFault) → Walked asks old new (FileGives [] root) root_counted result
+  registered_root : (old new : T) (root : List ℕ) (result : Result Registry SuiteFault) → IsWalk asks old new (FileGives [] root) root_counted result
       → Answered asks old new (λ asked. Registered asked root (answered result) ⊎ Unfinished asked root (answered result))
   registered_root old new root _ (through marks after g c k) =
-      let r : Registered (questions_in marks) root (Ok (programs_in marks)) = all (File (root_site root) ∷ marks) (tree_gives root marks g) (undecided root after marks k) refl in
+      let r : Registered (calls_in marks) root (Ok (programs_in marks)) = all (File (root_site root) ∷ marks) (tree_gives root marks g) (undecided root after marks k) refl in
       record {
-        asked = questions_in marks;
+        asked = calls_in marks;
         chain = c;
         holds =
-            inl (subst (λ (ps : List Program). Registered (questions_in marks) root (Ok ps)) (sym (totals root_counted after marks k).programs) r);
+            inl (subst (λ (ps : List Program). Registered (calls_in marks) root (Ok ps)) (sym (totals root_counted after marks k).programs) r);
       }
   registered_root old new root _ (stops front back mark mid fault g c k d) =
       let t = totals root_counted mid front k in
       let p : length mid.programs ≡ length (programs_in front) = ap (λ (ps : List Program). length ps) t.programs in
       let decides = subst (λ (n : ℕ). Decides (1 + files_in front) n mark fault) p (subst (λ (n : ℕ). Decides n (length mid.programs) mark fault) t.files d) in
       record {
-        asked = questions_in front;
+        asked = calls_in front;
         chain = c;
         holds = inl (stopped (File (root_site root) ∷ front) back mark fault (tree_gives root (front ++ mark ∷ back) g) (undecided root mid front k) decides refl);
       }
   registered_root old new root _ (short front back more mid fault g l c k n) =
-      let begins : Unfinished (questions_in front ++ more) root (Err fault) = record {
+      let begins : Unfinished (calls_in front ++ more) root (Err fault) = record {
         fault = fault;
         no_memory = n;
         refused = refl;
@@ -62,12 +62,12 @@ module _ {T : Type 0} (asks : T → Asked → T → Type 0) where
         next = l;
         is = refl;
       } in
-      record { asked = questions_in front ++ more; chain = c; holds = inr begins }
+      record { asked = calls_in front ++ more; chain = c; holds = inr begins }
 
-  pub registered : (old new : T) (root : List ℕ) (start : Registry) (result : Result Registry SuiteFault) → start ≡ root_counted → Walked asks old new (FileGives start.reading root) start result
+  pub registered : (old new : T) (root : List ℕ) (start : Registry) (result : Result Registry SuiteFault) → start ≡ root_counted → IsWalk asks old new (FileGives start.reading root) start result
       → Answered asks old new (λ asked. Registered asked root (answered result) ⊎ Unfinished asked root (answered result))
-  registered old new root start result e w = registered_root old new root result (subst (λ (s : Registry). Walked asks old new (FileGives s.reading root) s result) e w)
+  registered old new root start result e w = registered_root old new root result (subst (λ (s : Registry). IsWalk asks old new (FileGives s.reading root) s result) e w)
 
-  pub few_counted : (old new : T) (root : List ℕ) (start : Registry) (r : Registry) → start ≡ root_counted → Walked asks old new (FileGives start.reading root) start (Ok r) → length r.programs ≤ program_limit
+  pub few_counted : (old new : T) (root : List ℕ) (start : Registry) (r : Registry) → start ≡ root_counted → IsWalk asks old new (FileGives start.reading root) start (Ok r) → length r.programs ≤ program_limit
   few_counted old new root start r e (through marks _ g c k) =
       let p = ap (λ (s : Registry). length s.programs) e in (totals start r marks k).few_programs (omega (arith, p))

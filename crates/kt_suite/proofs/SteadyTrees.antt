@@ -1,6 +1,6 @@
 -- A tree that does not change has one result.
 use Rattle.std.proofs.Common.{Option, Some, None, Ok, Err, ◌≡◌, ◌≤◌, ◌<◌, ◌+◌, ℕ, List, [], ◌∷◌, ◌++◌, length, arith, refl, sym, subst, ap, ◌∙◌}
-use Rattle.kt_suite.proofs.Common.{Contains, Contains-push, Contains-append_left, Contains-append_right, SuiteFault, Program, Asked, SameQuestion, IsSteady, Site, Mark, Asks, File, Listed, Fault, TreeGives, file_limit, program_limit, Outcome, questions_in, files_in, programs_in, faults_in, Decides, is_fault, file_too_many, program_too_many, Registered, all, stopped}
+use Rattle.kt_suite.proofs.Common.{Contains, Contains-push, Contains-append_left, Contains-append_right, SuiteFault, Program, Asked, IsSameCall, HasStableResults, Site, Mark, Asks, File, ProgramMark, Fault, TreeGives, file_limit, program_limit, Outcome, calls_in, files_in, programs_in, faults_in, Decides, is_fault, file_too_many, program_too_many, Registered, all, stopped}
 use Rattle.kt_suite.proofs.Agreement.{Agree, both_end, same_mark, both_ask, trees_agree}
 
 -- `Cut files programs marks asked listed fault`: the calls, programs and error of `marks` up to the
@@ -9,7 +9,7 @@ data Cut : ℕ → ℕ → List Mark → List Asked → List Program → Option 
   c_end : (n k : ℕ) → Cut n k [] [] [] None
   c_asks : (n k : ℕ) (q : Asked) (ms : List Mark) (qs : List Asked) (ps : List Program) (f : Option SuiteFault) → Cut n k ms qs ps f → Cut n k (Asks q ∷ ms) (q ∷ qs) ps f
   c_file : (n k : ℕ) (at : Site) (ms : List Mark) (qs : List Asked) (ps : List Program) (f : Option SuiteFault) → n < file_limit → Cut (n + 1) k ms qs ps f → Cut n k (File at ∷ ms) qs ps f
-  c_listed : (n k : ℕ) (at : Site) (p : Program) (ms : List Mark) (qs : List Asked) (ps : List Program) (f : Option SuiteFault) → k < program_limit → Cut n (k + 1) ms qs ps f → Cut n k (Listed at p ∷ ms) qs (p ∷ ps) f
+  c_listed : (n k : ℕ) (at : Site) (p : Program) (ms : List Mark) (qs : List Asked) (ps : List Program) (f : Option SuiteFault) → k < program_limit → Cut n (k + 1) ms qs ps f → Cut n k (ProgramMark at p ∷ ms) qs (p ∷ ps) f
   c_stop : (n k : ℕ) (m : Mark) (ms : List Mark) (fault : SuiteFault) → Decides n k m fault → Cut n k (m ∷ ms) [] [] (Some fault)
 
 abbrev pub outcome_of : List Program → Option SuiteFault → Outcome
@@ -20,7 +20,7 @@ outcome_of ps (Some fault) = Err fault
 abbrev Alike : List Asked → List Asked → Type 0
 Alike [] rs = Unit {0}
 Alike (q ∷ qs) [] = Unit {0}
-Alike (q ∷ qs) (r ∷ rs) = (SameQuestion q r → q ≡ r) × Alike qs rs
+Alike (q ∷ qs) (r ∷ rs) = (IsSameCall q r → q ≡ r) × Alike qs rs
 
 head_of : (q : Asked) (qs : List Asked) → Contains (q ∷ qs) q
 head_of q qs = Contains-append_left (q ∷ []) qs q (Contains-push [] q)
@@ -28,7 +28,7 @@ head_of q qs = Contains-append_left (q ∷ []) qs q (Contains-push [] q)
 tail_of : (q x : Asked) (qs : List Asked) → Contains qs x → Contains (q ∷ qs) x
 tail_of q x qs h = Contains-append_right (q ∷ []) qs x h
 
-alike_sure : (qs rs : List Asked) → ((x y : Asked) → Contains qs x → Contains rs y → SameQuestion x y → x ≡ y) → Alike qs rs
+alike_sure : (qs rs : List Asked) → ((x y : Asked) → Contains qs x → Contains rs y → IsSameCall x y → x ≡ y) → Alike qs rs
 alike_sure [] rs s = tt
 alike_sure (q ∷ qs) [] s = tt
 alike_sure (q ∷ qs) (r ∷ rs) s = (λ e. s q r (head_of q qs) (head_of r rs) e, alike_sure qs rs (λ x y h k e. s x y (tail_of q x qs h) (tail_of r y rs k) e))
@@ -66,22 +66,22 @@ cuts_same n k _ _ _ _ ps _ f _ (both_ask q r _ _ e a) s (c_asks _ _ _ ms qs _ _ 
 cuts_same n k _ _ _ _ _ os _ g (both_ask q r _ _ e a) s (c_stop _ _ _ ms x d) (c_asks _ _ _ ns rs _ _ c) = elim d [ ]
 cuts_same n k _ _ _ _ _ _ _ _ (both_ask q r _ _ e a) s (c_stop _ _ _ ms x d) (c_stop _ _ _ ns y h) = elim d [ ]
 
-cut_all : (n k : ℕ) (ms : List Mark) → faults_in ms ≡ [] → n + files_in ms ≤ file_limit → k + length (programs_in ms) ≤ program_limit → Cut n k ms (questions_in ms) (programs_in ms) None
+cut_all : (n k : ℕ) (ms : List Mark) → faults_in ms ≡ [] → n + files_in ms ≤ file_limit → k + length (programs_in ms) ≤ program_limit → Cut n k ms (calls_in ms) (programs_in ms) None
 cut_all n k [] e f p = c_end n k
 cut_all n k (Asks q ∷ ms) e f p = c_asks n k q ms _ _ _ (cut_all n k ms e f p)
 cut_all n k (File at ∷ ms) e f p = c_file n k at ms _ _ _ (omega (arith, f)) (cut_all (n + 1) k ms e (omega (arith, f)) p)
-cut_all n k (Listed at x ∷ ms) e f p = c_listed n k at x ms _ _ _ (omega (arith, p)) (cut_all n (k + 1) ms e f (omega (arith, p)))
+cut_all n k (ProgramMark at x ∷ ms) e f p = c_listed n k at x ms _ _ _ (omega (arith, p)) (cut_all n (k + 1) ms e f (omega (arith, p)))
 cut_all n k (Fault x ∷ ms) e f p = absurd (cc)
 
 cut_front : (n k : ℕ) (ms back : List Mark) (m : Mark) (fault : SuiteFault) (u v : ℕ) → u ≡ n + files_in ms → v ≡ k + length (programs_in ms) → faults_in ms ≡ [] → u ≤ file_limit → v ≤ program_limit → Decides u v m fault
-    → (ps : List Program) × Cut n k (ms ++ m ∷ back) (questions_in ms) ps (Some fault)
+    → (ps : List Program) × Cut n k (ms ++ m ∷ back) (calls_in ms) ps (Some fault)
 cut_front n k [] back m fault u v a b e f p d =
     let a' : u ≡ n = omega (arith, a) in
     let b' : v ≡ k = omega (arith, b) in
     ([], c_stop n k m back fault (subst (λ (y : ℕ). Decides n y m fault) b' (subst (λ (x : ℕ). Decides x v m fault) a' d)))
 cut_front n k (Asks q ∷ ms) back m fault u v a b e f p d = let c = cut_front n k ms back m fault u v a b e f p d in (c.0, c_asks n k q _ _ _ _ c.1)
 cut_front n k (File at ∷ ms) back m fault u v a b e f p d = let c = cut_front (n + 1) k ms back m fault u v (omega (arith, a)) b e f p d in (c.0, c_file n k at _ _ _ _ (omega (arith, a, f)) c.1)
-cut_front n k (Listed at x ∷ ms) back m fault u v a b e f p d = let c = cut_front n (k + 1) ms back m fault u v a (omega (arith, b)) e f p d in (x ∷ c.0, c_listed n k at x _ _ _ _ (omega (arith, b, p)) c.1)
+cut_front n k (ProgramMark at x ∷ ms) back m fault u v a b e f p d = let c = cut_front n (k + 1) ms back m fault u v a (omega (arith, b)) e f p d in (x ∷ c.0, c_listed n k at x _ _ _ _ (omega (arith, b, p)) c.1)
 cut_front n k (Fault x ∷ ms) back m fault u v a b e f p d = absurd (cc)
 
 -- `Comes asked root result`: `result` comes from a cut of the marks of the tree of `root`.
@@ -102,7 +102,7 @@ one_end first second root _ _ s (comes ms ps f g c) (comes ns os h i d) =
     let e = cuts_same 0 0 ms ns first second ps os f h (trees_agree root ms ns g i) s c d in
     ap (λ (z : List Program). outcome_of z f) e.0 ∙ ap (λ (z : Option SuiteFault). outcome_of os z) e.1
 
-pub one_meaning_twice : (first second : List Asked) (root : List ℕ) (x y : Outcome) → IsSteady (first ++ second) → Registered first root x → Registered second root y → x ≡ y
+pub one_meaning_twice : (first second : List Asked) (root : List ℕ) (x y : Outcome) → HasStableResults (first ++ second) → Registered first root x → Registered second root y → x ≡ y
 one_meaning_twice first second root x y s h k =
     one_end first second root x y (alike_sure first second (λ p q i j e. s p q (Contains-append_left first second p i) (Contains-append_right first second q j) e)) (comes_from first root x h) (comes_from second root y k)
 

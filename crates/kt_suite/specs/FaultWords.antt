@@ -2,7 +2,7 @@
 use Rattle.std.specs.Prelude.{ℕ, List, [], ◌++◌, codes}
 use Rattle.std.specs.Fmt.{decimal}
 use Rattle.kt_suite.specs.Types.{FilterFault, ReadFault, SuiteCause, SuiteFault}
-use Rattle.kt_script.specs.FaultWords.{script_words}
+use Rattle.kt_script.specs.FaultWords.{script_message}
 use Rattle.kt_suite.specs.declared.cause.SuiteCause.TheVariants as cause
 use Rattle.kt_suite.specs.declared.filter.FilterFault.TheVariants as filter
 use Rattle.kt_suite.specs.declared.tree.ReadFault.TheVariants as read
@@ -26,7 +26,7 @@ fixed_words cause.TooDeep = codes "includes too deep"
 fixed_words cause.MissingProgram = codes "program not found"
 fixed_words cause.Unreadable = codes "file could not be read"
 fixed_words cause.TooMany = codes "too many programs or files"
-fixed_words (cause.Script fault) = script_words fault
+fixed_words (cause.Script fault) = script_message fault
 
 -- `cause_words cause`: the message of `cause`, with the number of `WrongSyntax`.
 abbrev pub cause_words : SuiteCause → List ℕ

@@ -39,16 +39,16 @@ abbrev pub filter_of : List ℕ → Option (List ℕ) → Meaning
 filter_of [] case_name = Err Empty
 filter_of (c ∷ path) case_name = Ok (record { program = c ∷ path; case_name = case_name })
 
--- `unless_wrong fault meaning`: the error `fault` if there is one, else `meaning`.
-abbrev pub unless_wrong : Option FilterFault → Meaning → Meaning
-unless_wrong None meaning = meaning
-unless_wrong (Some fault) meaning = Err fault
+-- `fault_or_meaning fault meaning`: the error `fault` if there is one, else `meaning`.
+abbrev pub fault_or_meaning : Option FilterFault → Meaning → Meaning
+fault_or_meaning None meaning = meaning
+fault_or_meaning (Some fault) meaning = Err fault
 
 -- `filter_meaning text`: the filter that `text` represents, or its first error. The first colon
 -- (58) separates the path from the case.
 abbrev pub filter_meaning : List ℕ → Meaning
 filter_meaning text =
-    unless_wrong (parts_fault (before 58 text) (after 58 text)) (filter_of (plain_path (before 58 text)) (after 58 text))
+    fault_or_meaning (parts_fault (before 58 text) (after 58 text)) (filter_of (plain_path (before 58 text)) (after 58 text))
 
 -- `Answers result meaning`: `result` is `meaning`, or an allocation failed.
 abbrev pub Answers : Result Filter FilterFault → Meaning → Type 0

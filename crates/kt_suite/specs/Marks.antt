@@ -27,7 +27,7 @@ site_fault at cause = fault_at at.file at.line cause
 pub data Mark : Type 0 where
   Asks : Asked → Mark
   File : Site → Mark
-  Listed : Site → Program → Mark
+  ProgramMark : Site → Program → Mark
   Fault : SuiteFault → Mark
 
 -- `Part`: a part of the events of one file: a mark, or a statement that includes the file at this
@@ -36,11 +36,11 @@ pub data Part : Type 0 where
   Says : Mark → Part
   Includes : Site → List ℕ → Part
 
--- `looked_up at program there`: the mark of looking for `program`, which the statement at `at`
+-- `lookup_mark at program there`: the mark of looking for `program`, which the statement at `at`
 -- registers. `there` is true if a file is at its path.
-abbrev pub looked_up : Site → Program → Bool → Mark
-looked_up at program true = Listed at program
-looked_up at program false = Fault (site_fault at MissingProgram)
+abbrev pub lookup_mark : Site → Program → Bool → Mark
+lookup_mark at program true = ProgramMark at program
+lookup_mark at program false = Fault (site_fault at MissingProgram)
 
 -- `said at there meaning`: the parts of a statement at `at` with the meaning `meaning`. `there` is
 -- true if a file is at the path of its program.
@@ -50,7 +50,7 @@ said at there (meaning.Suite name) = []
 said at there (meaning.Include name) = Includes at (beside at.file name) ∷ []
 said at there (meaning.Program interface name suite props) =
     Says (Asks (Exists (beside at.file name) there))
-    ∷ Says (looked_up at (record { interface = interface; path = beside at.file name; suite = suite; props = props }) there) ∷ []
+    ∷ Says (lookup_mark at (record { interface = interface; path = beside at.file name; suite = suite; props = props }) there) ∷ []
 
 -- `suite_after suite meaning`: the test suite of the programs after a statement; `suite` is the
 -- test suite before it.
@@ -58,29 +58,29 @@ abbrev pub suite_after : Option (List ℕ) → Meaning → Option (List ℕ)
 suite_after suite (meaning.Suite name) = Some name
 suite_after suite other = suite
 
--- `StatementsSay file suite stmts parts`: the statements `stmts` of `file` have the parts `parts`;
+-- `StatementsGive file suite stmts parts`: the statements `stmts` of `file` have the parts `parts`;
 -- `suite` is the test suite before them.
-pub data StatementsSay (file : List ℕ) : Option (List ℕ) → List Stmt → List Part → Type 0 where
-  none : (suite : Option (List ℕ)) → StatementsSay file suite [] []
+pub data StatementsGive (file : List ℕ) : Option (List ℕ) → List Stmt → List Part → Type 0 where
+  none : (suite : Option (List ℕ)) → StatementsGive file suite [] []
   one : (suite : Option (List ℕ)) (stmt : Stmt) (rest : List Stmt) (there : Bool) (parts : List Part)
-      → StatementsSay file (suite_after suite (meaning_of suite stmt.action)) rest parts
-      → StatementsSay file suite (stmt ∷ rest)
+      → StatementsGive file (suite_after suite (meaning_of suite stmt.action)) rest parts
+      → StatementsGive file suite (stmt ∷ rest)
       (said (record { file = file; line = stmt.line }) there (meaning_of suite stmt.action) ++ parts)
 
--- `FileSays file parts`: reading `file` has the parts `parts`, for some result of the read.
-pub data FileSays (file : List ℕ) : List Part → Type 0 where
+-- `FileGivesParts file parts`: reading `file` has the parts `parts`, for some result of the read.
+pub data FileGivesParts (file : List ℕ) : List Part → Type 0 where
   unread : (why : ReadFault)
-      → FileSays file (Says (Asks (Read file (Err why))) ∷ Says (Fault (read_fault file why)) ∷ [])
+      → FileGivesParts file (Says (Asks (Read file (Err why))) ∷ Says (Fault (read_fault file why)) ∷ [])
   no_script : (text : List ℕ) (why : ScriptFault) → IsDue text why
-      → FileSays file (Says (Asks (Read file (Ok text))) ∷ Says (Fault (fault_at file (script_line why) (Script why))) ∷ [])
+      → FileGivesParts file (Says (Asks (Read file (Ok text))) ∷ Says (Fault (fault_at file (script_line why) (Script why))) ∷ [])
   no_statement : (text : List ℕ) → Spells text []
-      → FileSays file (Says (Asks (Read file (Ok text))) ∷ Says (Fault (fault_at file 1 NoSyntax)) ∷ [])
+      → FileGivesParts file (Says (Asks (Read file (Ok text))) ∷ Says (Fault (fault_at file 1 NoSyntax)) ∷ [])
   unopened : (text : List ℕ) (first : Stmt) (rest : List Stmt) (cause : SuiteCause)
       → Spells text (first ∷ rest) → opening_fault first.action ≡ Some cause
-      → FileSays file (Says (Asks (Read file (Ok text))) ∷ Says (Fault (fault_at file first.line cause)) ∷ [])
+      → FileGivesParts file (Says (Asks (Read file (Ok text))) ∷ Says (Fault (fault_at file first.line cause)) ∷ [])
   opened : (text : List ℕ) (first : Stmt) (rest : List Stmt) (parts : List Part)
-      → Spells text (first ∷ rest) → opening_fault first.action ≡ None → StatementsSay file None rest parts
-      → FileSays file (Says (Asks (Read file (Ok text))) ∷ parts)
+      → Spells text (first ∷ rest) → opening_fault first.action ≡ None → StatementsGive file None rest parts
+      → FileGivesParts file (Says (Asks (Read file (Ok text))) ∷ parts)
 
 -- `entry_fault files path`: the cause of the error if `path` is included while `files` are open.
 -- There is an error if `path` is one of `files`, or if `files` are 32.
@@ -100,7 +100,7 @@ pub data Unfolds : List (List ℕ) → List Part → List Mark → Type 0 where
       → Unfolds files (Includes at path ∷ parts) (Fault (site_fault at cause) ∷ marks)
   entered : (files : List (List ℕ)) (at : Site) (path : List ℕ) (own : List Part) (inner : List Mark)
       (parts : List Part) (marks : List Mark)
-      → entry_fault files path ≡ None → FileSays path own → Unfolds (files ++ path ∷ []) own inner → Unfolds files parts marks
+      → entry_fault files path ≡ None → FileGivesParts path own → Unfolds (files ++ path ∷ []) own inner → Unfolds files parts marks
       → Unfolds files (Includes at path ∷ parts) (File at ∷ (inner ++ marks))
 
 -- `TreeGives root marks`: reading the tree with the root Kyuafile `root` has the marks `marks`.

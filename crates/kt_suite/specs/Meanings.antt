@@ -13,7 +13,7 @@ use Rattle.kt_suite.specs.declared.call.Call.TheVariants as call
 use Rattle.kt_suite.specs.declared.meaning.Meaning.TheVariants as meaning
 use Rattle.kt_suite.specs.Calls.{call_named}
 use Rattle.kt_suite.specs.Tables.{declared}
-use Rattle.kt_suite.specs.Paths.{has_directory, leads_down}
+use Rattle.kt_suite.specs.Paths.{has_directory, is_plain_relative}
 use Rattle.kt_base.specs.Texts.{is_empty}
 
 -- `version_fault arg`: the cause of the error if `arg` is the argument of `syntax`, or `None` for
@@ -40,13 +40,13 @@ abbrev pub suite_meaning : Arg → Meaning
 suite_meaning (Value v) = if is_empty (text_of v) then meaning.Wrong BadValue else meaning.Suite (text_of v)
 suite_meaning (Table pairs) = meaning.Wrong BadValue
 
--- `suited interface name file own props`: the meaning of the program `name` with the properties
+-- `program_with_suite interface name file own props`: the meaning of the program `name` with the properties
 -- `props`. Its test suite is `own`, or else the test suite `file` of the file.
-abbrev pub suited : Interface → List ℕ → Option (List ℕ) → Option (List ℕ) → List Variable → Meaning
-suited interface name file (Some own) props =
+abbrev pub program_with_suite : Interface → List ℕ → Option (List ℕ) → Option (List ℕ) → List Variable → Meaning
+program_with_suite interface name file (Some own) props =
     if is_empty own then meaning.Wrong BadValue else meaning.Program interface name own props
-suited interface name (Some suite) None props = meaning.Program interface name suite props
-suited interface name None None props = meaning.Wrong NoSuite
+program_with_suite interface name (Some suite) None props = meaning.Program interface name suite props
+program_with_suite interface name None None props = meaning.Wrong NoSuite
 
 -- `named interface file own props name`: the meaning of the program `name` with the properties
 -- `props` and the test suite `own`, or else `file`. The name may not be missing, empty or lead out
@@ -56,7 +56,7 @@ named interface file own props None = meaning.Wrong BadValue
 named interface file own props (Some name) =
     if is_empty name then meaning.Wrong BadValue
     else if has_directory name then meaning.Wrong PathHasDirectory
-    else suited interface name file own props
+    else program_with_suite interface name file own props
 
 -- `declared_meaning interface file table`: the meaning of a program with the declarations `table`,
 -- or the cause of the table's error. `file` is the test suite of the file, if any.
@@ -73,7 +73,7 @@ program_meaning interface file (Table pairs) = declared_meaning interface file (
 -- `include_meaning arg`: the meaning of `include` with the argument `arg`, which must be a value
 -- whose text leads down.
 abbrev pub include_meaning : Arg → Meaning
-include_meaning (Value v) = if leads_down (text_of v) then meaning.Include (text_of v) else meaning.Wrong BadInclude
+include_meaning (Value v) = if is_plain_relative (text_of v) then meaning.Include (text_of v) else meaning.Wrong BadInclude
 include_meaning (Table pairs) = meaning.Wrong BadInclude
 
 -- `call_meaning file call arg`: the meaning of a call of the kind `call` after the first statement,

@@ -1,9 +1,9 @@
 -- The programs that a tree registers, and the calls of the tree for this.
 use Rattle.std.specs.Prelude.{ℕ, List, [], ◌∷◌, ◌++◌, ◌≡◌, ◌≤◌, ◌+◌, length, Result, Ok, Err}
 use Rattle.kt_suite.specs.Types.{Program, SuiteFault, TooMany}
-use Rattle.kt_suite.specs.Answers.{Asked, SameQuestion}
+use Rattle.kt_suite.specs.Answers.{Asked, IsSameCall}
 use Rattle.kt_suite.specs.Faults.{IsNoMemory}
-use Rattle.kt_suite.specs.Marks.{Site, site_fault, Mark, Asks, File, Listed, Fault, TreeGives}
+use Rattle.kt_suite.specs.Marks.{Site, site_fault, Mark, Asks, File, ProgramMark, Fault, TreeGives}
 
 -- `file_limit`: the maximum number of Kyuafiles that are read for a tree.
 abbrev pub file_limit : ℕ
@@ -17,11 +17,11 @@ program_limit = 10000
 abbrev pub Outcome : Type 0
 Outcome = Result (List Program) SuiteFault
 
--- `questions_in marks`: the calls of the tree among `marks`, in order.
-abbrev pub questions_in : List Mark → List Asked
-questions_in [] = []
-questions_in (Asks question ∷ marks) = question ∷ questions_in marks
-questions_in (other ∷ marks) = questions_in marks
+-- `calls_in marks`: the calls of the tree among `marks`, in order.
+abbrev pub calls_in : List Mark → List Asked
+calls_in [] = []
+calls_in (Asks question ∷ marks) = question ∷ calls_in marks
+calls_in (other ∷ marks) = calls_in marks
 
 -- `files_in marks`: the number of files among `marks`.
 abbrev pub files_in : List Mark → ℕ
@@ -32,7 +32,7 @@ files_in (other ∷ marks) = files_in marks
 -- `programs_in marks`: the registered programs among `marks`, in order.
 abbrev pub programs_in : List Mark → List Program
 programs_in [] = []
-programs_in (Listed at program ∷ marks) = program ∷ programs_in marks
+programs_in (ProgramMark at program ∷ marks) = program ∷ programs_in marks
 programs_in (other ∷ marks) = programs_in marks
 
 -- `faults_in marks`: the errors among `marks`, in order.
@@ -54,23 +54,23 @@ pub data Decides (files programs : ℕ) : Mark → SuiteFault → Type 0 where
   is_fault : (fault : SuiteFault) → Decides files programs (Fault fault) fault
   file_too_many : (at : Site) → file_limit ≤ files → Decides files programs (File at) (site_fault at TooMany)
   program_too_many : (at : Site) (program : Program) → program_limit ≤ programs
-      → Decides files programs (Listed at program) (site_fault at TooMany)
+      → Decides files programs (ProgramMark at program) (site_fault at TooMany)
 
 -- `Registered asked root result`: reading the tree with the root Kyuafile `root` has the result
 -- `result`. `asked` are the calls before the mark that decides, or all calls if no mark decides.
 pub data Registered (asked : List Asked) (root : List ℕ) : Outcome → Type 0 where
-  all : (marks : List Mark) → TreeGives root marks → IsUndecided marks → asked ≡ questions_in marks
+  all : (marks : List Mark) → TreeGives root marks → IsUndecided marks → asked ≡ calls_in marks
       → Registered asked root (Ok (programs_in marks))
   stopped : (front back : List Mark) (mark : Mark) (fault : SuiteFault)
       → TreeGives root (front ++ mark ∷ back) → IsUndecided front
-      → Decides (files_in front) (length (programs_in front)) mark fault → asked ≡ questions_in front
+      → Decides (files_in front) (length (programs_in front)) mark fault → asked ≡ calls_in front
       → Registered asked root (Err fault)
 
 -- `IsNext marks asked`: `asked` is empty, or only has the call that begins `marks`, with any
 -- result.
 pub data IsNext : List Mark → List Asked → Type 0 where
   no_question : (marks : List Mark) → IsNext marks []
-  thrown_away : (question other : Asked) (marks : List Mark) → SameQuestion question other
+  thrown_away : (question other : Asked) (marks : List Mark) → IsSameCall question other
       → IsNext (Asks other ∷ marks) (question ∷ [])
 
 -- `Unfinished asked root outcome`: `outcome` is the error of an allocation that failed before a
@@ -85,4 +85,4 @@ pub record Unfinished (asked : List Asked) (root : List ℕ) (outcome : Outcome)
   pub gives : TreeGives root (front ++ back)
   pub undecided : IsUndecided front
   pub next : IsNext back more
-  pub is : asked ≡ questions_in front ++ more
+  pub is : asked ≡ calls_in front ++ more

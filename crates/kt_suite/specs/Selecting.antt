@@ -4,9 +4,9 @@ use Rattle.std.specs.List.{list_any}
 use Rattle.kt_suite.specs.Types.{Filter, Item}
 use Rattle.kt_suite.specs.Matching.{matches}
 
--- `most_items`: the maximum number of items to select from.
-abbrev pub most_items : ℕ
-most_items = 100000
+-- `item_limit`: the maximum number of items to select from.
+abbrev pub item_limit : ℕ
+item_limit = 100000
 
 -- `places test n xs`: the positions of the elements of `xs` that pass `test`, ascending. The first
 -- element has the position `n`.
@@ -23,15 +23,15 @@ abbrev pub is_selected : List Filter → Item → Bool
 is_selected [] item = true
 is_selected (filter ∷ filters) item = list_any (matches_item item) (filter ∷ filters)
 
--- `selected_places items filters`: the positions of the items that `filters` select, from 0.
-abbrev pub selected_places : List Item → List Filter → List ℕ
-selected_places items filters = places (is_selected filters) 0 items
+-- `selected_positions items filters`: the positions of the items that `filters` select, from 0.
+abbrev pub selected_positions : List Item → List Filter → List ℕ
+selected_positions items filters = places (is_selected filters) 0 items
 
 -- `is_unmatched items filter`: `filter` matches none of `items`.
 abbrev pub is_unmatched : List Item → Filter → Bool
 is_unmatched items filter = not (list_any (λ item. matches_item item filter) items)
 
--- `unmatched_places items filters`: the positions of the filters that match none of `items`, from
+-- `unmatched_positions items filters`: the positions of the filters that match none of `items`, from
 -- 0.
-abbrev pub unmatched_places : List Item → List Filter → List ℕ
-unmatched_places items filters = places (is_unmatched items) 0 filters
+abbrev pub unmatched_positions : List Item → List Filter → List ℕ
+unmatched_positions items filters = places (is_unmatched items) 0 filters

@@ -3,11 +3,11 @@
 
 mod call;
 mod cause;
+mod disjoint;
 mod fault;
 mod filter;
 mod loader;
 mod meaning;
-mod overlaps;
 mod paths;
 mod program;
 mod registry;
@@ -19,10 +19,10 @@ mod tree;
 mod within;
 
 pub use cause::SuiteCause;
+pub use disjoint::{check_disjoint, filter_laws};
 pub use fault::SuiteFault;
 pub use filter::{Filter, FilterFault};
 pub use loader::{load, registers_once};
-pub use overlaps::{check_disjoint, filter_laws};
 pub use paths::{parent_path, split_path};
 pub use program::Program;
 pub use selecting::{Item, SelectFault, Selection, select};

@@ -1,9 +1,9 @@
 ghost use Rattle.std.specs.Prelude.{◌≡◌, ◌⊎◌, ◌≤◌, ◌-◌, ◌++◌, [], ◌∷◌, List, ℕ, length, IfOk};
-ghost use Rattle.kt_suite.specs.Common.{Answered, Asked, IsSteady, program_limit, Unfinished, Registered, Outcome, Walked, FileGives, Script, IsText, fault_at, read_fault, script_line, IsNoMemory, WellOpened, Opened};
+ghost use Rattle.kt_suite.specs.Common.{Answered, Asked, HasStableResults, program_limit, Unfinished, Registered, Outcome, IsWalk, FileGives, Script, IsText, fault_at, read_fault, script_line, IsNoMemory, ChecksOpening, Opened};
 
 use crate::fault::{fault_at, no_memory};
 use crate::registry::{LoadStep, Registry};
-use crate::statement::wrong_opening;
+use crate::statement::opening_cause;
 use crate::stepping::step;
 use crate::{Program, ReadFault, SuiteCause, SuiteFault, Tree};
 use kt_base::{Items, NoMemory, Text};
@@ -43,12 +43,12 @@ fn unparsed(alloc: Global, file: &Text, why: ScriptFault) -> SuiteFault
 }
 
 /// Checks that the statements of `file` begin with `syntax(2)`, and returns them.
-fn well_opened(alloc: Global, file: &Text, stmts: Items<Stmt>) -> Result<Items<Stmt>, SuiteFault>
-    ensures { WellOpened file.now stmts result }
+fn check_opening(alloc: Global, file: &Text, stmts: Items<Stmt>) -> Result<Items<Stmt>, SuiteFault>
+    ensures { ChecksOpening file.now stmts result }
 {
     match stmts.as_slice().split_first() {
         None => return Err(fault_at(file, alloc, 1, SuiteCause::NoSyntax)),
-        Some((first, _rest)) => if let Some(cause) = wrong_opening(&first.action) {
+        Some((first, _rest)) => if let Some(cause) = opening_cause(&first.action) {
             return Err(fault_at(file, alloc, first.line, cause));
         },
     }
@@ -74,7 +74,7 @@ pub fn open_file<T: Tree>(
         Err(why) => Err(unread(alloc, file, why)),
         Ok(text) => match parse(alloc, text.as_slice()) {
             Err(why) => Err(unparsed(alloc, file, why)),
-            Ok(stmts) => well_opened(alloc, file, stmts),
+            Ok(stmts) => check_opening(alloc, file, stmts),
         },
     }
 }
@@ -98,7 +98,7 @@ fn read_file<T: Tree>(
     registry: Registry,
     file: &Text,
 ) -> Result<Registry, SuiteFault>
-    ensures { Walked T.asks tree.old tree.new (FileGives registry.reading file.now)
+    ensures { IsWalk T.asks tree.old tree.new (FileGives registry.reading file.now)
         registry result }
 {
     let stmts = match open_file(alloc, tree, file) {
@@ -163,7 +163,7 @@ pub fn load<T: Tree>(alloc: Global, tree: &mut T, root: &Text) -> Result<Items<P
 /// Theorem: loading an unchanged tree always gives the same result.
 pub fn registers_once()
     ensures steady { (first second : List Asked) (root : List ℕ) (r s : Outcome)
-        → IsSteady (first ++ second) → Registered first root r → Registered second root s → r ≡ s }
+        → HasStableResults (first ++ second) → Registered first root r → Registered second root s → r ≡ s }
 
     // The same calls with the same results give one result, whether or not the tree changed.
     ensures decided { (asked : List Asked) (root : List ℕ) (r s : Outcome)

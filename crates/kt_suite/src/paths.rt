@@ -1,5 +1,5 @@
 ghost use Rattle.std.specs.Prelude.{◌≡◌, chars, IfOk};
-ghost use Rattle.kt_suite.specs.Common.{directory_of, parent_of, name_in, beside, has_directory, is_component, leads_down};
+ghost use Rattle.kt_suite.specs.Common.{directory_of, parent_of, name_in, beside, has_directory, is_component, is_plain_relative};
 
 use kt_base::{NoMemory, Text, has_slash};
 use std::alloc::Global;
@@ -65,7 +65,7 @@ pub fn parent_path(alloc: Global, path: &Text) -> Result<Text, NoMemory>
 /// # Errors
 ///
 /// - `NoMemory`: an allocation fails.
-pub fn path_beside(alloc: Global, file: &Text, name: &Text) -> Result<Text, NoMemory>
+pub fn sibling_path(alloc: Global, file: &Text, name: &Text) -> Result<Text, NoMemory>
     ensures { IfOk result (λ path. path ≡ beside file.now name.now) }
 {
     let (directory, _) = split_after_slash(file.as_str());
@@ -76,7 +76,7 @@ pub fn path_beside(alloc: Global, file: &Text, name: &Text) -> Result<Text, NoMe
 
 /// Returns `true` if `name` has a slash, or is `.` or `..`.
 #[tactic(auto, unfolding(crate::proofs::Common::chars))]
-pub fn leads_away(name: &Text) -> bool
+pub fn has_directory_part(name: &Text) -> bool
     ensures { result ≡ has_directory name.now }
 {
     has_slash(name.as_str()) || name.is_word(".") || name.is_word("..")
@@ -95,8 +95,8 @@ fn is_component(part: &Text) -> bool
 /// # Errors
 ///
 /// - `NoMemory`: an allocation fails.
-pub fn leads_down(path: &Text) -> Result<bool, NoMemory>
-    ensures { IfOk result (λ down. down ≡ leads_down path.now) }
+pub fn is_plain_relative(path: &Text) -> Result<bool, NoMemory>
+    ensures { IfOk result (λ down. down ≡ is_plain_relative path.now) }
 {
     let parts = path.split('/')?;
     Ok(parts.as_slice().iter().all(|part| is_component(part)))

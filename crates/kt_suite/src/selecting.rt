@@ -1,8 +1,8 @@
 ghost use Rattle.std.specs.Prelude.{◌≡◌, ◌↔◌, ◌<◌, length, Err, Some, IfOk};
 ghost use Rattle.std.specs.List.{filter};
 ghost use Rattle.kt_suite.specs.declared.selecting.SelectFault.TheVariants.{TooMany};
-ghost use Rattle.kt_suite.specs.Inner.Steps.{all_places, first_match, is_match, is_miss};
-ghost use Rattle.kt_suite.specs.Selecting.{most_items, matches_item, is_selected, selected_places, unmatched_places};
+ghost use Rattle.kt_suite.specs.Inner.Steps.{all_positions, first_match, is_match, is_miss};
+ghost use Rattle.kt_suite.specs.Selecting.{item_limit, matches_item, is_selected, selected_positions, unmatched_positions};
 ghost use Rattle.kt_suite.specs.declared.selecting.SelectFault.TheVariants as fault;
 
 use crate::Filter;
@@ -63,7 +63,7 @@ pub struct Selection {
 }
 
 /// The maximum number of items that [`select`] accepts.
-const MOST_ITEMS: usize = 100_000;
+const ITEM_LIMIT: usize = 100_000;
 
 /// Returns `true` if `filter` matches `item`.
 fn matches_item(item: &Item, filter: &Filter) -> bool
@@ -106,7 +106,7 @@ fn is_miss(filters: &[Filter], item: &Item, first: usize, place: usize) -> bool
 /// Removes the positions of the filters that match `item` from `unmatched`.
 ///
 /// `first` is the position of the first filter that matches `item`.
-fn drop_matches(unmatched: &mut Vec<usize>, filters: &[Filter], item: &Item, first: usize)
+fn remove_matches(unmatched: &mut Vec<usize>, filters: &[Filter], item: &Item, first: usize)
     requires { first_match filters.now item.now ≡ Some first }
     ensures { unmatched.new.items ≡ filter (is_miss filters.now item.now) unmatched.old.items }
 {
@@ -124,15 +124,15 @@ fn compare_item(filters: &[Filter], item: &Item, unmatched: &mut Vec<usize>) -> 
     match first_match(filters, item) {
         None => filters.is_empty(),
         Some(first) => {
-            drop_matches(unmatched, filters, item, first);
+            remove_matches(unmatched, filters, item, first);
             true
         }
     }
 }
 
 /// Returns the positions of all filters, ascending, from 0.
-fn all_places(alloc: Global, filters: &[Filter]) -> Result<Vec<usize>, NoMemory>
-    ensures { IfOk result (λ all. all.items ≡ all_places filters.now) }
+fn all_positions(alloc: Global, filters: &[Filter]) -> Result<Vec<usize>, NoMemory>
+    ensures { IfOk result (λ all. all.items ≡ all_positions filters.now) }
 {
     let mut all = Vec::new(alloc);
     let mut place = 0;
@@ -148,11 +148,11 @@ fn all_places(alloc: Global, filters: &[Filter]) -> Result<Vec<usize>, NoMemory>
 /// Reads `items` once. A filter is unmatched until an item matches it.
 #[tactic(auto, using(crate::proofs::Picking::unmatched_of_all))]
 fn compare_items(alloc: Global, items: &[Item], filters: &[Filter]) -> Result<Selection, NoMemory>
-    ensures cases { IfOk result (λ s. s.cases.items ≡ selected_places items.now filters.now) }
-    ensures unmatched { IfOk result (λ s. s.unmatched.items ≡ unmatched_places items.now filters.now) }
+    ensures cases { IfOk result (λ s. s.cases.items ≡ selected_positions items.now filters.now) }
+    ensures unmatched { IfOk result (λ s. s.unmatched.items ≡ unmatched_positions items.now filters.now) }
 {
     let mut cases = Vec::new(alloc);
-    let mut unmatched = all_places(alloc, filters)?;
+    let mut unmatched = all_positions(alloc, filters)?;
     let mut place = 0;
     for item in items {
         if compare_item(filters, item, &mut unmatched) {
@@ -173,13 +173,13 @@ fn compare_items(alloc: Global, items: &[Item], filters: &[Filter]) -> Result<Se
 /// - `TooMany`: there are more than 100,000 items.
 /// - `NoMemory`: an allocation fails.
 pub fn select(alloc: Global, items: &[Item], filters: &[Filter]) -> Result<Selection, SelectFault>
-    ensures cases { IfOk result (λ s. s.cases.items ≡ selected_places items.now filters.now) }
-    ensures unmatched { IfOk result (λ s. s.unmatched.items ≡ unmatched_places items.now filters.now) }
+    ensures cases { IfOk result (λ s. s.cases.items ≡ selected_positions items.now filters.now) }
+    ensures unmatched { IfOk result (λ s. s.unmatched.items ≡ unmatched_positions items.now filters.now) }
 
     // `TooMany` depends only on the number of items.
-    ensures too_many { (result ≡ Err TooMany) ↔ (most_items < length items.now) }
+    ensures too_many { (result ≡ Err TooMany) ↔ (item_limit < length items.now) }
 {
-    if items.len() > MOST_ITEMS {
+    if items.len() > ITEM_LIMIT {
         return Err(SelectFault::TooMany);
     }
     let selection = compare_items(alloc, items, filters)?;

@@ -4,7 +4,7 @@ ghost use Rattle.kt_suite.specs.Meanings.{opening_fault, suite_meaning, include_
 use crate::SuiteCause;
 use crate::call::{Call, call_of};
 use crate::meaning::Meaning;
-use crate::paths::leads_down;
+use crate::paths::is_plain_relative;
 use crate::table::read_program;
 use kt_base::{NoMemory, Text};
 use kt_script::{Action, Arg, Literal};
@@ -13,7 +13,7 @@ use std::alloc::Global;
 /// Returns the cause of the error if `action` is the first statement of a Kyuafile.
 ///
 /// The result is `None` if `action` is `syntax(2)`.
-pub fn wrong_opening(action: &Action) -> Option<SuiteCause>
+pub fn opening_cause(action: &Action) -> Option<SuiteCause>
     ensures { result ≡ opening_fault action.now }
 {
     let Action::Call(name, arg) = action else {
@@ -30,7 +30,7 @@ pub fn wrong_opening(action: &Action) -> Option<SuiteCause>
 /// Returns the meaning of a call of `test_suite` with the argument `arg`.
 ///
 /// The meaning is the error `BadValue` if `arg` is a table or has an empty text.
-fn read_suite(alloc: Global, arg: &Arg) -> Result<Meaning, NoMemory>
+fn suite_call_meaning(alloc: Global, arg: &Arg) -> Result<Meaning, NoMemory>
     ensures { IfOk result (λ found. found ≡ suite_meaning arg.now) }
 {
     match arg {
@@ -49,14 +49,14 @@ fn read_suite(alloc: Global, arg: &Arg) -> Result<Meaning, NoMemory>
 ///
 /// The meaning is the error `BadInclude` if `arg` is a table, or if its text does not lead down. A
 /// path leads down if it is relative and no component is empty, `.` or `..`.
-fn read_include(alloc: Global, arg: &Arg) -> Result<Meaning, NoMemory>
+fn include_call_meaning(alloc: Global, arg: &Arg) -> Result<Meaning, NoMemory>
     ensures { IfOk result (λ found. found ≡ include_meaning arg.now) }
 {
     match arg {
         Arg::Table(_) => Ok(Meaning::Wrong(SuiteCause::BadInclude)),
         Arg::Value(value) => {
             let text = value.text(alloc)?;
-            if leads_down(&text)? {
+            if is_plain_relative(&text)? {
                 return Ok(Meaning::Include(text));
             }
             Ok(Meaning::Wrong(SuiteCause::BadInclude))
@@ -81,8 +81,8 @@ pub fn read_statement(
     match action {
         Action::Assign(_, _) => Ok(Meaning::Wrong(SuiteCause::UnknownCall)),
         Action::Call(name, arg) => match call_of(name) {
-            Call::TestSuite => read_suite(alloc, arg),
-            Call::Include => read_include(alloc, arg),
+            Call::TestSuite => suite_call_meaning(alloc, arg),
+            Call::Include => include_call_meaning(alloc, arg),
             Call::Program(interface) => read_program(alloc, interface, file, arg),
             Call::Syntax | Call::Unknown => Ok(Meaning::Wrong(SuiteCause::UnknownCall)),
         },

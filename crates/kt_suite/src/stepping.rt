@@ -1,9 +1,9 @@
 ghost use Rattle.std.specs.Prelude.{◌≡◌, Err, IfErr, IfOk, OnOk};
-ghost use Rattle.kt_suite.specs.Common.{list_any, bytes_eq, beside, entry_fault, meaning_of, suite_after, Adds, Entered, Enters, Stepped};
+ghost use Rattle.kt_suite.specs.Common.{list_any, bytes_eq, beside, entry_fault, meaning_of, suite_after, Adds, EntersFile, Enters, StepsTo};
 
 use crate::fault::{fault_at, no_memory};
 use crate::meaning::Meaning;
-use crate::paths::path_beside;
+use crate::paths::sibling_path;
 use crate::registry::{LoadStep, Registry};
 use crate::statement::read_statement;
 use crate::{Program, SuiteCause, SuiteFault, Tree};
@@ -31,7 +31,7 @@ fn is_among(files: &[Text], path: &Text) -> bool
 /// Returns the cause of the error if the file at `path` may not be included while `files` are open.
 ///
 /// The result is `None` if the file may be included.
-fn wrong_entry(files: &[Text], path: &Text) -> Option<SuiteCause>
+fn entry_cause(files: &[Text], path: &Text) -> Option<SuiteCause>
     ensures { result ≡ entry_fault files.now path.now }
 {
     if is_among(files, path) {
@@ -55,7 +55,7 @@ fn enter(
 ) -> Result<Registry, SuiteFault>
     ensures { Enters (record { file = file.now; line = line }) registry path.now result }
 {
-    if let Some(cause) = wrong_entry(registry.reading.as_slice(), path) {
+    if let Some(cause) = entry_cause(registry.reading.as_slice(), path) {
         return Err(fault_at(file, alloc, line, cause));
     }
     if registry.files >= FILE_LIMIT {
@@ -76,12 +76,12 @@ fn include(
     registry: Registry,
     name: &Text,
 ) -> Result<LoadStep, SuiteFault>
-    ensures ok { IfOk result (λ step. Entered (record { file = file.now; line = line })
+    ensures ok { IfOk result (λ step. EntersFile (record { file = file.now; line = line })
         registry (beside file.now name.now) step) }
     ensures err { IfErr result (λ fault. Enters (record { file = file.now; line = line })
         registry (beside file.now name.now) (Err fault)) }
 {
-    match path_beside(alloc, file, name) {
+    match sibling_path(alloc, file, name) {
         Err(refusal) => Err(no_memory(alloc, refusal)),
         Ok(path) => match enter(alloc, file, line, registry, &path) {
             Err(fault) => Err(fault),
@@ -105,7 +105,7 @@ fn register<T: Tree>(
     ensures { Adds T.asks tree.old tree.new (record { file = file.now; line = line })
         registry (record named { path = beside file.now named.path }) result }
 {
-    let path = match path_beside(alloc, file, &named.path) {
+    let path = match sibling_path(alloc, file, &named.path) {
         Err(refusal) => return Err(no_memory(alloc, refusal)),
         Ok(path) => path,
     };
@@ -141,7 +141,7 @@ pub fn step<T: Tree>(
     suite: &mut Option<Text>,
     stmt: &Stmt,
 ) -> Result<LoadStep, SuiteFault>
-    ensures step { Stepped T.asks tree.old tree.new registry
+    ensures step { StepsTo T.asks tree.old tree.new registry
         (record { file = file.now; line = stmt.now.line })
         (meaning_of suite.old stmt.now.action) result }
     ensures suite { OnOk result (suite.new

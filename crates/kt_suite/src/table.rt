@@ -5,7 +5,7 @@ ghost use Rattle.kt_suite.specs.Common.{Variable, last_values, props_with, with_
 
 use crate::SuiteCause;
 use crate::meaning::Meaning;
-use crate::paths::leads_away;
+use crate::paths::has_directory_part;
 use kt_base::{Interface, NoMemory, Text};
 use kt_metadata::{PropFault, Props, is_kyuafile_property};
 use kt_script::{Arg, Pair};
@@ -80,7 +80,7 @@ impl ProgramTable {
         if name.is_empty() {
             return Ok(Meaning::Wrong(SuiteCause::BadValue));
         }
-        if leads_away(&name) {
+        if has_directory_part(&name) {
             return Ok(Meaning::Wrong(SuiteCause::PathHasDirectory));
         }
         match (suite, file) {
@@ -118,7 +118,7 @@ fn set_property(
 /// Returns the table `found` with the declaration of `pair`, or the cause of the error in `pair`.
 ///
 /// The declaration replaces an earlier declaration of its key.
-fn take_pair(
+fn declare_pair(
     alloc: Global,
     found: ProgramTable,
     pair: &Pair,
@@ -152,7 +152,7 @@ fn read_table(alloc: Global, pairs: &[Pair]) -> Result<Result<ProgramTable, Suit
         props: Props::new(alloc),
     };
     for pair in pairs {
-        match take_pair(alloc, found, pair)? {
+        match declare_pair(alloc, found, pair)? {
             Ok(next) => found = next,
             Err(cause) => return Ok(Err(cause)),
         }

@@ -33,11 +33,11 @@ pub(crate) struct KyuaHost<'a, S> {
 
 impl<S: InitialContents> ResultsHost for KyuaHost<'_, S> {
     ghost use Rattle.sqlite_wal.specs.Files.{image_at};
-    ghost use Rattle.kt_cli.specs.Platforms.{InFiles};
+    ghost use Rattle.kt_cli.specs.Platforms.{IsHostOfFiles};
 
     type Results = RunsFile<FileStore<FileFrom<S>>>;
 
-    ghost provides = { λ _ asked _. InFiles S.path (image_at S.Start) asked };
+    ghost provides = { λ _ asked _. IsHostOfFiles S.path (image_at S.Start) asked };
 
     fn open(&mut self, file: &Text, access: Access) -> Result<Self::Results, StoreFault> {
         RunsFile::open(self.rt, file, access, self.start.take())

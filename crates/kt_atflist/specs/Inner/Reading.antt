@@ -6,7 +6,7 @@ use Rattle.kt_metadata.specs.ListKeys.{name_of_key}
 use Rattle.kt_base.specs.Lines.{lines}
 use Rattle.kt_base.specs.Texts.{is_empty}
 use Rattle.kt_atflist.specs.BlockLines.{ident_in, is_name, key_in, value_in}
-use Rattle.kt_atflist.specs.Blocks.{is_listed, is_given, named, with_property, is_good}
+use Rattle.kt_atflist.specs.Blocks.{is_listed, has_property, named, with_property, is_valid_property}
 use Rattle.kt_atflist.specs.Spelling.{Outcome, header, fault_at}
 use Rattle.kt_atflist.specs.declared.listing.CaseDef.{CaseDef}
 use Rattle.kt_atflist.specs.declared.list_fault.ListCause.{ListCause}
@@ -15,22 +15,22 @@ use Rattle.kt_atflist.specs.Read.{Read}
 use Rattle.kt_atflist.specs.declared.reading.ListStep.{ListStep}
 use Rattle.kt_atflist.specs.declared.reading.ListStep.TheVariants.{To, Wrong}
 
--- `begin_named cases name`: the result of a line that begins a block for the case `name` after the
+-- `begin_block cases name`: the result of a line that begins a block for the case `name` after the
 -- blocks of `cases`. A fault if one of `cases` has this name.
-abbrev pub begin_named : List CaseDef → List ℕ → ListStep
-begin_named cases name = if is_listed cases name then Wrong RepeatedIdent else To (record { cases = cases; block = Some (named name) })
+abbrev pub begin_block : List CaseDef → List ℕ → ListStep
+begin_block cases name = if is_listed cases name then Wrong RepeatedIdent else To (record { cases = cases; block = Some (named name) })
 
--- `name_from ident`: the name of the case with the bytes `ident`, or the cause of the fault without
+-- `case_name_in ident`: the name of the case with the bytes `ident`, or the cause of the fault without
 -- `ident` or with a bad name.
-abbrev pub name_from : Option (List ℕ) → Result (List ℕ) ListCause
-name_from None = Err NoIdent
-name_from (Some ident) = if is_name ident then Ok (lossy ident) else Err BadValue
+abbrev pub case_name_in : Option (List ℕ) → Result (List ℕ) ListCause
+case_name_in None = Err NoIdent
+case_name_in (Some ident) = if is_name ident then Ok (lossy ident) else Err BadValue
 
--- `begin_with cases name`: the result of the first line of a block after the blocks of `cases`.
+-- `begin_block_if_named cases name`: the result of the first line of a block after the blocks of `cases`.
 -- `name` is the name in the line, or the cause of the fault in the line.
-abbrev pub begin_with : List CaseDef → Result (List ℕ) ListCause → ListStep
-begin_with cases (Err cause) = Wrong cause
-begin_with cases (Ok name) = begin_named cases name
+abbrev pub begin_block_if_named : List CaseDef → Result (List ℕ) ListCause → ListStep
+begin_block_if_named cases (Err cause) = Wrong cause
+begin_block_if_named cases (Ok name) = begin_block cases name
 
 -- `Change`: the result of a line that sets a property: the changed block, or the cause of a fault.
 abbrev pub Change : Type 0
@@ -47,8 +47,8 @@ changed block (Some cause) = Err cause
 abbrev pub set_property : CaseDef → Option (List ℕ) → List ℕ → Change
 set_property block None value = Err UnknownKey
 set_property block (Some name) value =
-    if is_given block.props name then Err RepeatedKey
-    else if is_good name value then Ok (with_property block name value)
+    if has_property block.props name then Err RepeatedKey
+    else if is_valid_property name value then Ok (with_property block name value)
     else Err BadValue
 
 -- `set_key block key value`: `block` with the property of the key `key` set to `value`, or the
@@ -62,21 +62,21 @@ abbrev pub set_line : CaseDef → List ℕ → Option (List ℕ) → Change
 set_line block key None = Err BadLine
 set_line block key (Some value) = if is_empty key then Err BadLine else set_key block (lossy key) (lossy value)
 
--- `go_on_with cases change`: the result of a line that sets a property, after the blocks of
+-- `step_with_change cases change`: the result of a line that sets a property, after the blocks of
 -- `cases`. `change` is the block after the line, or the cause of the fault in the line.
-abbrev pub go_on_with : List CaseDef → Change → ListStep
-go_on_with cases (Err cause) = Wrong cause
-go_on_with cases (Ok block) = To (record { cases = cases; block = Some block })
+abbrev pub step_with_change : List CaseDef → Change → ListStep
+step_with_change cases (Err cause) = Wrong cause
+step_with_change cases (Ok block) = To (record { cases = cases; block = Some block })
 
 -- `go_on cases block line`: the result of `line`, which is a line of `block` but not its first,
 -- after the blocks of `cases`. An empty line ends the block.
 abbrev pub go_on : List CaseDef → CaseDef → List ℕ → ListStep
-go_on cases block line = if is_empty line then To (record { cases = cases ++ block ∷ []; block = None }) else go_on_with cases (set_line block (key_in line) (value_in line))
+go_on cases block line = if is_empty line then To (record { cases = cases ++ block ∷ []; block = None }) else step_with_change cases (set_line block (key_in line) (value_in line))
 
 -- `step_from cases block line`: the result of `line` after the blocks of `cases`. The line is in
 -- `block`, or begins a block without `block`.
 abbrev pub step_from : List CaseDef → Option CaseDef → List ℕ → ListStep
-step_from cases None line = begin_with cases (name_from (ident_in line))
+step_from cases None line = begin_block_if_named cases (case_name_in (ident_in line))
 step_from cases (Some block) line = go_on cases block line
 
 -- `step_of r line`: the result of `line` in the state `r` of the reader: the next state, or the
@@ -105,26 +105,26 @@ abbrev pub read_from : ℕ → Read → List (List ℕ) → Outcome
 read_from n r [] = Ok (finished r)
 read_from n r (line ∷ rest) = led n (step_of r line) (λ next. read_from (n + 1) next rest)
 
--- `nothing_read`: the state of the reader before the first block: no case and no block.
-abbrev pub nothing_read : Read
-nothing_read = record { cases = []; block = None }
+-- `initial_state`: the state of the reader before the first block: no case and no block.
+abbrev pub initial_state : Read
+initial_state = record { cases = []; block = None }
 
 -- `read_blocks lines`: the cases of a list, or its first fault, if `lines` are its lines from line
 -- 3 on and the lines before are valid.
 abbrev pub read_blocks : List (List ℕ) → Outcome
 read_blocks [] = Err (fault_at EmptyList 3)
-read_blocks (line ∷ rest) = read_from 3 nothing_read (line ∷ rest)
+read_blocks (line ∷ rest) = read_from 3 initial_state (line ∷ rest)
 
--- `read_second lines`: the cases of a list, or its first fault, if `lines` are its lines from line
+-- `read_from_line_2 lines`: the cases of a list, or its first fault, if `lines` are its lines from line
 -- 2 on and line 1 is valid.
-abbrev pub read_second : List (List ℕ) → Outcome
-read_second [] = Err (fault_at BadHeader 2)
-read_second (line ∷ rest) = if is_empty line then read_blocks rest else Err (fault_at BadHeader 2)
+abbrev pub read_from_line_2 : List (List ℕ) → Outcome
+read_from_line_2 [] = Err (fault_at BadHeader 2)
+read_from_line_2 (line ∷ rest) = if is_empty line then read_blocks rest else Err (fault_at BadHeader 2)
 
 -- `read_lines lines`: the cases of a list with the lines `lines`, or its first fault.
 abbrev pub read_lines : List (List ℕ) → Outcome
 read_lines [] = Err (fault_at BadHeader 1)
-read_lines (line ∷ rest) = if bytes_eq line header then read_second rest else Err (fault_at BadHeader 1)
+read_lines (line ∷ rest) = if bytes_eq line header then read_from_line_2 rest else Err (fault_at BadHeader 1)
 
 -- `read_list text`: the cases of the list `text`, or its first fault.
 abbrev pub read_list : List ℕ → Outcome

@@ -1,12 +1,12 @@
 -- The running children of a driver, and the cases with a pending cleanup.
 use Rattle.std.specs.Prelude.{map, ℕ, Bool, true, false, ◌==◌, ◌&&◌, List, [], ◌∷◌, ◌++◌, Option, Some, None, if◌then◌else◌}
-use Rattle.kt_child.specs.Types.{CaseAttempt, Role, Watched}
+use Rattle.kt_child.specs.Types.{CaseAttempt, Role, RunningChild}
 use Rattle.kt_sched.specs.Children.{Child as Shown, same_role}
 use Rattle.kt_child.specs.Ending.Ends.{is_over}
 
 -- The running children in the order of their start, and the cases with a pending cleanup.
 pub record ChildrenState : Type 0 where
-  pub children : List Watched
+  pub children : List RunningChild
   pub pending : List CaseAttempt
 
 -- `idle_state`: no child is running and no cleanup is pending.
@@ -14,7 +14,7 @@ abbrev pub idle_state : ChildrenState
 idle_state = record { children = []; pending = [] }
 
 -- `cases_of children`: the cases of `children`.
-abbrev pub cases_of : List Watched → List CaseAttempt
+abbrev pub cases_of : List RunningChild → List CaseAttempt
 cases_of children = map (λ k. k.case) children
 
 -- `shown c`: the interface of the case `c` and whether it declares a cleanup, as the scheduler's

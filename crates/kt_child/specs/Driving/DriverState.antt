@@ -1,41 +1,41 @@
 -- The state of a driver: its running children with their responses, the cases with a pending
 -- cleanup, and the number of the next attempt.
 use Rattle.std.specs.Prelude.{◌≡◌, ℕ, ◌+◌, ◌-◌, ◌<◌, ◌^◌, ◌⊎◌, List, [], ◌∷◌, ◌++◌, Bool, Option, Some, None, Result, map, remove, slice_get}
-use Rattle.kt_child.specs.Types.{Body, CaseAttempt, Chain, Cleanup, Ended, Job, OsFault, Outcome, Polled, Refused as RefusedFor, Role, StartAnswer, Started as StartedAt, Watched}
+use Rattle.kt_child.specs.Types.{Body, CaseAttempt, Chain, Cleanup, Ended, Job, OsFault, Outcome, Polled, Refused as RefusedFor, Role, StartAnswer, Started as StartedAt, RunningChild}
 use Rattle.kt_child.specs.declared.driving.driver.Driver.{Driver}
 use Rattle.kt_base.specs.declared.failed_start.Refused.TheVariants.{Directory}
 use Rattle.kt_child.specs.System.Calls.{Call, Kill, Pause, Poll}
 use Rattle.kt_child.specs.Planning.ChildPlan.{child_of, paths_of}
-use Rattle.kt_child.specs.Polling.ChildOutcome.{Heard, HeardKill, HeardPoll, Yields, answered}
+use Rattle.kt_child.specs.Polling.ChildOutcome.{ChildResponse, KillResponse, PollResponse, Yields, answered}
 use Rattle.kt_child.specs.Polling.Turns.{WaitedOn}
 use Rattle.kt_child.specs.Ending.Ends.{FinishesChild}
 use Rattle.kt_child.specs.Driving.ChildrenState.{ChildrenState, pending_with}
 use Rattle.kt_child.specs.Driving.JobPlan.{case_of, limit_of, spawning_of}
-use Rattle.kt_child.specs.Driving.Starting.{Begun}
+use Rattle.kt_child.specs.Driving.Starting.{StartsByPlan}
 
 -- A running child: its case, its timeout in seconds, and its responses (the results of its polls
 -- and its kill) since its start.
-pub record Alive : Type 0 where
+pub record PolledChild : Type 0 where
   pub case : CaseAttempt
   pub limit : ℕ
-  pub heard : List Heard
+  pub heard : List ChildResponse
 
 -- A state of a driver: the running children in the order of their start, the cases with a pending
 -- cleanup, and the next attempt number.
 pub record DriverState : Type 0 where
-  pub alive : List Alive
+  pub alive : List PolledChild
   pub owed : List CaseAttempt
   pub next : ℕ
 
--- `alive_of children`: the running `children`, each with the responses that its poll counts
+-- `polled_children children`: the running `children`, each with the responses that its poll counts
 -- represent. By `EndsFollow`, a child has no other responses.
-abbrev pub alive_of : List Watched → List Alive
-alive_of children = map (λ k. record { case = k.case; limit = k.limit; heard = answered k.limit k.watch }) children
+abbrev pub polled_children : List RunningChild → List PolledChild
+polled_children children = map (λ k. record { case = k.case; limit = k.limit; heard = answered k.limit k.watch }) children
 
 -- `driver_state_of b next`: the driver state with the children and pending cleanups of `b`, and the
 -- next attempt number `next`.
 abbrev pub driver_state_of : ChildrenState → ℕ → DriverState
-driver_state_of b next = record { alive = alive_of b.children; owed = b.pending; next = next }
+driver_state_of b next = record { alive = polled_children b.children; owed = b.pending; next = next }
 
 -- `driver_state d`: the state of the driver `d`.
 abbrev pub driver_state : {O : Type 0} → Driver O → DriverState
@@ -57,11 +57,11 @@ TakesCase root old job Cleanup c new =
     (place : ℕ) × (owed : CaseAttempt) × (slice_get old.owed place ≡ Some owed) × (owed.position ≡ job.position)
     × (new.next ≡ old.next) × (new.owed ≡ remove old.owed place) × (c ≡ case_of job Cleanup owed.attempt owed.paths)
 
--- `alive_after alive job c result`: the running children `alive` after a start of `job`'s child
+-- `children_after_start alive job c result`: the running children `alive` after a start of `job`'s child
 -- with the case `c`. If `result` is `Started`, the child is appended, without responses.
-abbrev pub alive_after : List Alive → Job → CaseAttempt → StartAnswer → List Alive
-alive_after alive job c (StartedAt moment) = alive ++ record { case = c; limit = limit_of job c.role; heard = [] } ∷ []
-alive_after alive job c (RefusedFor cause) = alive
+abbrev pub children_after_start : List PolledChild → Job → CaseAttempt → StartAnswer → List PolledChild
+children_after_start alive job c (StartedAt moment) = alive ++ record { case = c; limit = limit_of job c.role; heard = [] } ∷ []
+children_after_start alive job c (RefusedFor cause) = alive
 
 -- `source` is the directory of the root Kyuafile, and `root` that of all attempts.
 module _ (source root : List ℕ) where
@@ -71,28 +71,28 @@ module _ (source root : List ℕ) where
   abbrev pub Starts : DriverState → Job → Role → List Call → StartAnswer → DriverState → Type 0
   Starts old job role calls answer new =
       ((role ≡ Body) × (old.next ≡ 2 ^ 64 - 1) × (answer ≡ RefusedFor Directory) × (calls ≡ []) × (new ≡ old))
-      ⊎ ((c : CaseAttempt) × TakesCase root old job role c new × Begun (spawning_of source job c) calls answer
-      × (new.alive ≡ alive_after old.alive job c answer))
+      ⊎ ((c : CaseAttempt) × TakesCase root old job role c new × StartsByPlan (spawning_of source job c) calls answer
+      × (new.alive ≡ children_after_start old.alive job c answer))
 
 -- `hears a answer`: the child `a` with `answer` as one more response.
-abbrev pub hears : Alive → Heard → Alive
+abbrev pub hears : PolledChild → ChildResponse → PolledChild
 hears a answer = record { case = a.case; limit = a.limit; heard = a.heard ++ answer ∷ [] }
 
 -- `IsPolled old call new`: `new` are the running children `old` after `call`: the child that `call`
 -- polls or kills has its result as one more response. A pause changes no child. The names of
 -- children are unique (`IsApart` of Numbers).
-pub data IsPolled : List Alive → Call → List Alive → Type 0 where
-  polled : (a : Alive) (others : List Alive) (answer : Result Polled OsFault)
-      → IsPolled (a ∷ others) (Poll (child_of a.case) answer) (hears a (HeardPoll answer) ∷ others)
-  killed : (a : Alive) (others : List Alive) (done : Bool)
-      → IsPolled (a ∷ others) (Kill (child_of a.case) done) (hears a (HeardKill done) ∷ others)
-  later : (a : Alive) (others after : List Alive) (call : Call) → IsPolled others call after → IsPolled (a ∷ others) call (a ∷ after)
-  paused : (alive : List Alive) (done : Bool) → IsPolled alive (Pause done) alive
+pub data IsPolled : List PolledChild → Call → List PolledChild → Type 0 where
+  polled : (a : PolledChild) (others : List PolledChild) (answer : Result Polled OsFault)
+      → IsPolled (a ∷ others) (Poll (child_of a.case) answer) (hears a (PollResponse answer) ∷ others)
+  killed : (a : PolledChild) (others : List PolledChild) (done : Bool)
+      → IsPolled (a ∷ others) (Kill (child_of a.case) done) (hears a (KillResponse done) ∷ others)
+  later : (a : PolledChild) (others after : List PolledChild) (call : Call) → IsPolled others call after → IsPolled (a ∷ others) call (a ∷ after)
+  paused : (alive : List PolledChild) (done : Bool) → IsPolled alive (Pause done) alive
 
 -- `IsOver old polls after place over outcome`: `polls` take the running children from `old` to
 -- `after`. Of these, the child `over` at index `place` has finished with `outcome`, which follows
 -- from all its responses (`Yields`).
-abbrev pub IsOver : List Alive → List Call → List Alive → ℕ → Alive → Outcome → Type 0
+abbrev pub IsOver : List PolledChild → List Call → List PolledChild → ℕ → PolledChild → Outcome → Type 0
 IsOver old polls after place over outcome =
     Chain IsPolled old polls after × (slice_get after place ≡ Some over) × Yields over.limit over.heard outcome
 
@@ -103,9 +103,9 @@ pub record Ends (old : DriverState) (calls : List Call) (e : Ended) (new : Drive
   pub polls : List Call
   pub leaving : List Call
   pub asked : calls ≡ polls ++ leaving
-  pub after : List Alive
+  pub after : List PolledChild
   pub place : ℕ
-  pub over : Alive
+  pub over : PolledChild
   pub follows : IsOver old.alive polls after place over e.outcome
   pub left : FinishesChild over.case leaving e.outcome e
   pub alive : new.alive ≡ remove after place
@@ -115,6 +115,6 @@ pub record Ends (old : DriverState) (calls : List Call) (e : Ended) (new : Drive
 -- `Waited children old calls e left new`: `calls` are a wait that returns `e`, by two relations
 -- with the same polls. By `Ends`, it takes the driver state from `old` to `new`. By `WaitedOn`, it
 -- takes the running `children` to `left`, which lack the finished child.
-abbrev pub Waited : List Watched → DriverState → List Call → Ended → List Watched → DriverState → Type 0
+abbrev pub Waited : List RunningChild → DriverState → List Call → Ended → List RunningChild → DriverState → Type 0
 Waited children old calls e left new =
-    (end : Ends old calls e new) × (after : List Watched) × WaitedOn children end.polls end.place e.outcome after × (left ≡ remove after end.place)
+    (end : Ends old calls e new) × (after : List RunningChild) × WaitedOn children end.polls end.place e.outcome after × (left ≡ remove after end.place)

@@ -1,6 +1,6 @@
 -- Purposes of children, and plans of their starts.
 use Rattle.std.specs.Prelude.{ℕ, List, [], ◌++◌, codes, if◌then◌else◌, false}
-use Rattle.kt_child.specs.Types.{Atf, Body, CaseAttempt, Cleanup, Job, Paths, Role, Spawning, Variable, Want}
+use Rattle.kt_child.specs.Types.{Atf, Body, CaseAttempt, Cleanup, Job, Paths, Role, SpawnPlan, Variable, Want}
 use Rattle.kt_base.specs.Texts.{is_empty}
 use Rattle.kt_suite.specs.Paths.{parent_of}
 use Rattle.kt_child.specs.declared.planning.Want.TheVariants.{List as Listing, Body as BodyOf, Cleanup as CleanupOf}
@@ -46,7 +46,7 @@ list_purpose program variables = record { want = Listing; program = program; var
 
 -- `spawning_for source p c`: the plan of a child's start for the purpose `p` and the case `c`.
 -- `source` is the directory of the root Kyuafile.
-abbrev pub spawning_for : List ℕ → ChildPurpose → CaseAttempt → Spawning
+abbrev pub spawning_for : List ℕ → ChildPurpose → CaseAttempt → SpawnPlan
 spawning_for source p c =
     record {
       child = child_of c;
@@ -62,7 +62,7 @@ spawning_for source p c =
 
 -- `spawning_of source job c`: the plan of a start of `job`'s child for the case `c`, whose role is
 -- that of the child. `source` is the directory of the root Kyuafile.
-abbrev pub spawning_of : List ℕ → Job → CaseAttempt → Spawning
+abbrev pub spawning_of : List ℕ → Job → CaseAttempt → SpawnPlan
 spawning_of source job c = spawning_for source (job_purpose job c.role) c
 
 -- `list_case root number`: the `CaseAttempt` that represents a list of test cases, with the attempt

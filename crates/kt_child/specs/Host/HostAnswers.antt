@@ -6,7 +6,7 @@ use Rattle.std.specs.declared.io.Error.{Error}
 use Rattle.std.specs.declared.io.ErrorKind.TheVariants.{NotFound}
 use Rattle.std.specs.declared.process.status.ExitStatus.{ExitStatus}
 use Rattle.kt_child.specs.Types.{Child, Exited, FileRead, Missing, OsFault, Part, Polled, Running, Signaled}
-use Rattle.kt_child.specs.Host.HostStands.{Stand, Proceeds, AllProceed, AllStay, OthersStay}
+use Rattle.kt_child.specs.Host.HostStands.{ProcessState, Proceeds, AllProceed, AllStay, OthersStay}
 use Rattle.kt_child.specs.Ending.Reads.{IsReadWithin}
 use Rattle.kt_child.specs.System.Calls.{Call, SetLimit, OpenOutput, Spawn, Poll, Kill, Pause, ReadFile, ReadPart}
 
@@ -16,15 +16,15 @@ abbrev pub IsFilled : ℕ → Result FileRead OsFault → Type 0
 IsFilled limit (Ok (Part bytes true)) = length bytes ≡ limit
 IsFilled limit answer = Unit {0}
 
--- `IsSaidMissing answer`: if `answer` is `Missing`, an error of the system has the kind `NotFound`.
-abbrev pub IsSaidMissing : Result FileRead OsFault → Type 0
-IsSaidMissing (Ok Missing) = (error : Error) × (error_kind error ≡ NotFound)
-IsSaidMissing answer = Unit {0}
+-- `IsMissingByError answer`: if `answer` is `Missing`, an error of the system has the kind `NotFound`.
+abbrev pub IsMissingByError : Result FileRead OsFault → Type 0
+IsMissingByError (Ok Missing) = (error : Error) × (error_kind error ≡ NotFound)
+IsMissingByError answer = Unit {0}
 
 -- `IsHostRead limit answer`: a read with the result `answer` returns at most `limit` bytes, and
 -- exactly `limit` if more follow. A file is `Missing` only by an error of the kind `NotFound`.
 abbrev pub IsHostRead : ℕ → Result FileRead OsFault → Type 0
-IsHostRead limit answer = IsReadWithin limit answer × IsFilled limit answer × IsSaidMissing answer
+IsHostRead limit answer = IsReadWithin limit answer × IsFilled limit answer × IsMissingByError answer
 
 -- `IsFront limit xs result`: `result` of a read has the first `limit` of the file's remaining bytes
 -- `xs`, and whether more follow. It is not `Missing`. The read may fail.
@@ -55,12 +55,12 @@ IsPolledOf bits (Ok (Signaled signal core)) =
     (signal ≡ bits % 128) × (bits % 128 ≢ 0) × (bits % 128 ≢ 127) × (core ≡ (bits / 128 % 2 == 1))
 IsPolledOf bits (Err _) = bits % 128 ≡ 127
 
--- `TellsEnd child old answer new IsLast`: a poll returns the end of `child` as `answer`, by the
+-- `ReportsEnd child old answer new IsLast`: a poll returns the end of `child` as `answer`, by the
 -- wait status of its process. If an earlier check found the end, it is that status.
 -- `IsLast child status` is then true. The states of the children go from `old` to `new`, in which
 -- `child` has no process.
-abbrev pub TellsEnd : Child → (Child → Stand) → Result Polled OsFault → (Child → Stand) → (Child → ExitStatus → Type 0) → Type 0
-TellsEnd child old answer new IsLast =
+abbrev pub ReportsEnd : Child → (Child → ProcessState) → Result Polled OsFault → (Child → ProcessState) → (Child → ExitStatus → Type 0) → Type 0
+ReportsEnd child old answer new IsLast =
     (status : ExitStatus) × IsSome (old child) × Proceeds (old child) (Some (Some status)) × IsPolledOf (status_bits status) answer
     × IsLast child status × (new child ≡ None) × OthersStay child old new
 
@@ -68,17 +68,17 @@ TellsEnd child old answer new IsLast =
 -- states of the children go from `old` to `new`. A child is reported as running only if it has a
 -- process. Unless some child was polled late (`late`), no end of that process was found. A failed
 -- poll may remove the child.
-abbrev pub HostPolls : Child → (Child → Stand) → Result Polled OsFault → (Child → Stand) → (Child → ExitStatus → Type 0) → Option Bool → Type 0
+abbrev pub HostPolls : Child → (Child → ProcessState) → Result Polled OsFault → (Child → ProcessState) → (Child → ExitStatus → Type 0) → Option Bool → Type 0
 HostPolls child old (Ok Running) new IsLast late = IsSome (old child) × (late ≢ Some true → old child ≡ Some None) × AllStay old new
 HostPolls child old (Err fault) new IsLast late = (Proceeds (old child) (new child) ⊎ (new child ≡ None)) × OthersStay child old new
-HostPolls child old answer new IsLast late = TellsEnd child old answer new IsLast
+HostPolls child old answer new IsLast late = ReportsEnd child old answer new IsLast
 
 -- `HostLeads old call new IsLast late`: `call` may take the children from the states `old` to
 -- `new`. `IsLast` is true of the child and status of the last reported end. `late` is the result of
 -- the last check whether some child is polled late. A child whose output is opened has no process,
 -- and a failed start leaves no process. Only a child with a process is killed, and a pause may find
 -- ends. Times are not specified, nor is the success of other calls.
-abbrev pub HostLeads : (Child → Stand) → Call → (Child → Stand) → (Child → ExitStatus → Type 0) → Option Bool → Type 0
+abbrev pub HostLeads : (Child → ProcessState) → Call → (Child → ProcessState) → (Child → ExitStatus → Type 0) → Option Bool → Type 0
 HostLeads old (OpenOutput child path answer) new IsLast late = (new child ≡ None) × OthersStay child old new
 HostLeads old (Spawn child program words env dir (Ok done)) new IsLast late = IsSome (new child) × OthersStay child old new
 HostLeads old (Spawn child program words env dir (Err fault)) new IsLast late = (new child ≡ None) × OthersStay child old new

@@ -14,39 +14,39 @@ same_child a b = (a.attempt == b.attempt) && same_role a.role b.role
 
 -- The state of a child: `None` without a process, `Some None` for a process without a known end,
 -- and `Some (Some status)` after an end with `status`.
-abbrev pub Stand : Type 0
-Stand = Option (Option ExitStatus)
+abbrev pub ProcessState : Type 0
+ProcessState = Option (Option ExitStatus)
 
 module _ {P I O E : Type 0} where
-  -- `stand_of h`: the state of the child `h`.
-  abbrev pub stand_of : HostChild P I O E → Stand
-  stand_of h = option_map child_status h.process
+  -- `process_state h`: the state of the child `h`.
+  abbrev pub process_state : HostChild P I O E → ProcessState
+  process_state h = option_map child_status h.process
 
-  -- `stand_in held c`: the state of the child `c` among `held`. A child that is not among them has
+  -- `process_state_in held c`: the state of the child `c` among `held`. A child that is not among them has
   -- no process.
-  abbrev pub stand_in : List (Child × HostChild P I O E) → Child → Stand
-  stand_in held c = option_and_then stand_of (lookup (same_child c) held)
+  abbrev pub process_state_in : List (Child × HostChild P I O E) → Child → ProcessState
+  process_state_in held c = option_and_then process_state (lookup (same_child c) held)
 
   -- `IsLastEnd last child status`: `last`, the child whose end was reported last, has the name
   -- `child`, and its process ended with `status`.
   abbrev pub IsLastEnd : Option (Child × HostChild P I O E) → Child → ExitStatus → Type 0
-  IsLastEnd last child status = IsSomeAnd last (λ h. (h.0 ≡ child) × (stand_of h.1 ≡ Some (Some status)))
+  IsLastEnd last child status = IsSomeAnd last (λ h. (h.0 ≡ child) × (process_state h.1 ≡ Some (Some status)))
 
 -- `Proceeds old new`: a child's state goes from `old` to `new`: it stays, or a process without a
 -- known end gets one. No process is started.
-abbrev pub Proceeds : Stand → Stand → Type 0
+abbrev pub Proceeds : ProcessState → ProcessState → Type 0
 Proceeds None new = new ≡ None
 Proceeds (Some None) new = IsSome new
 Proceeds (Some (Some status)) new = new ≡ Some (Some status)
 
 -- `AllProceed old new`: the state of each child stays, or a process without a known end gets one.
-abbrev pub AllProceed : (Child → Stand) → (Child → Stand) → Type 0
+abbrev pub AllProceed : (Child → ProcessState) → (Child → ProcessState) → Type 0
 AllProceed old new = (c : Child) → Proceeds (old c) (new c)
 
 -- `AllStay old new`: the state of each child is unchanged.
-abbrev pub AllStay : (Child → Stand) → (Child → Stand) → Type 0
+abbrev pub AllStay : (Child → ProcessState) → (Child → ProcessState) → Type 0
 AllStay old new = (c : Child) → new c ≡ old c
 
 -- `OthersStay child old new`: the state of each child but `child` is unchanged.
-abbrev pub OthersStay : Child → (Child → Stand) → (Child → Stand) → Type 0
+abbrev pub OthersStay : Child → (Child → ProcessState) → (Child → ProcessState) → Type 0
 OthersStay child old new = (c : Child) → same_child child c ≡ false → new c ≡ old c

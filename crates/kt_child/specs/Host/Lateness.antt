@@ -25,13 +25,13 @@ module _ {P I O E : Type 0} (held : List (Child × HostChild P I O E)) where
   abbrev pub IsAnyLate : Instant → Type 0
   IsAnyLate now = (place : ℕ) × IsSomeAnd (slice_get (values_of held) place) (IsLateAt now)
 
-  -- `Sees time late`: `late` is the result of a check for late children at `time`: whether there is
+  -- `IsLateCheck time late`: `late` is the result of a check for late children at `time`: whether there is
   -- one. It is `false` if the clock fails.
-  abbrev pub Sees : Result Instant Error → Bool → Type 0
-  Sees (Ok now) late = IsTrue late ↔ IsAnyLate now
-  Sees (Err error) late = late ≡ false
+  abbrev pub IsLateCheck : Result Instant Error → Bool → Type 0
+  IsLateCheck (Ok now) late = IsTrue late ↔ IsAnyLate now
+  IsLateCheck (Err error) late = late ≡ false
 
-  -- `Looks old new`: the stored result `old` of the last check for late children becomes `new`: it
+  -- `UpdatesLateCheck old new`: the stored result `old` of the last check for late children becomes `new`: it
   -- is kept, cleared, or replaced by that of a new check.
-  abbrev pub Looks : Option Bool → Option Bool → Type 0
-  Looks old new = (new ≡ old) ⊎ (new ≡ None) ⊎ ((late : Bool) × (new ≡ Some late) × (time : Result Instant Error) × Sees time late)
+  abbrev pub UpdatesLateCheck : Option Bool → Option Bool → Type 0
+  UpdatesLateCheck old new = (new ≡ old) ⊎ (new ≡ None) ⊎ ((late : Bool) × (new ≡ Some late) × (time : Result Instant Error) × IsLateCheck time late)

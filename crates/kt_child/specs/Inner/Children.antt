@@ -1,6 +1,6 @@
 -- Definitions for the private functions on running children.
 use Rattle.std.specs.Prelude.{map, ℕ, ◌==◌, Bool, true, false, ◌≡◌, ◌+◌, ◌≤◌, List, [], ◌∷◌, All, ◌*◌, ◌<◌, ◌++◌}
-use Rattle.kt_child.specs.Types.{CaseAttempt, Refused as RefusedFor, StartAnswer, Started as StartedAt, Watch, Watched}
+use Rattle.kt_child.specs.Types.{CaseAttempt, Refused as RefusedFor, StartAnswer, Started as StartedAt, PollCounts, RunningChild}
 use Rattle.kt_child.specs.Driving.ChildrenState.{ChildrenState, cases_of}
 
 -- `IsShort killed limit before after`: a child with these poll counts is still running. If it was
@@ -12,17 +12,17 @@ IsShort false limit before after = (before < 100 * limit) × (after ≡ 0)
 
 -- `IsWatched limit w`: `w` has the poll counts of a running child with the timeout `limit`, in
 -- seconds.
-abbrev pub IsWatched : ℕ → Watch → Type 0
+abbrev pub IsWatched : ℕ → PollCounts → Type 0
 IsWatched limit w = IsShort w.killed limit w.before w.after
 
--- `IsOnBy limit w`: `w` has the poll counts of a running child with the timeout `limit`, at most
+-- `IsRunningWithin limit w`: `w` has the poll counts of a running child with the timeout `limit`, at most
 -- 1,000,000 seconds.
-abbrev pub IsOnBy : ℕ → Watch → Type 0
-IsOnBy limit w = IsWatched limit w × (limit ≤ 1000000)
+abbrev pub IsRunningWithin : ℕ → PollCounts → Type 0
+IsRunningWithin limit w = IsWatched limit w × (limit ≤ 1000000)
 
--- `IsOn k`: the child `k` is running, with a timeout of at most 1,000,000 seconds.
-abbrev pub IsOn : Watched → Type 0
-IsOn k = IsOnBy k.limit k.watch
+-- `IsRunningChild k`: the child `k` is running, with a timeout of at most 1,000,000 seconds.
+abbrev pub IsRunningChild : RunningChild → Type 0
+IsRunningChild k = IsRunningWithin k.limit k.watch
 
 -- `TakesBytes has_taken old new bytes`: `new` is the reader `old` after `bytes` were fed to it.
 -- `has_taken reader bytes`: all bytes fed to `reader` are `bytes`.
@@ -50,8 +50,8 @@ count_in i b = count_at i (cases_of b.children) + count_at i b.pending
 
 -- `IsChildrenState children pending`: each of `children` is running, and no two cases of `children`
 -- and `pending` have the same position.
-pub record IsChildrenState (children : List Watched) (pending : List CaseAttempt) : Type 0 where
-  pub on : All IsOn children
+pub record IsChildrenState (children : List RunningChild) (pending : List CaseAttempt) : Type 0 where
+  pub on : All IsRunningChild children
   pub once : (i : ℕ) → count_at i (cases_of children) + count_at i pending ≤ 1
 
 -- `with_pending b pending`: the children of `b`, with `pending` as the cases with a pending
@@ -61,6 +61,6 @@ with_pending b pending = record { children = b.children; pending = pending }
 
 -- `state_after_start b child result`: the running children and pending cleanups `b` after a start
 -- of `child` with `result`. A started child is appended.
-abbrev pub state_after_start : ChildrenState → Watched → StartAnswer → ChildrenState
+abbrev pub state_after_start : ChildrenState → RunningChild → StartAnswer → ChildrenState
 state_after_start b child (StartedAt moment) = record { children = b.children ++ child ∷ []; pending = b.pending }
 state_after_start b child (RefusedFor cause) = b

@@ -8,7 +8,7 @@ use Rattle.std.specs.Str.{bytes_eq}
 use Rattle.std.specs.Process.{clears_env, command_args, command_dir, command_program, command_var}
 use Rattle.std.specs.declared.process.command.Command.{Command}
 use Rattle.kt_base.specs.Utf8.{utf8}
-use Rattle.kt_child.specs.Host.HostStands.{Stand}
+use Rattle.kt_child.specs.Host.HostStands.{ProcessState}
 
 -- `IsUnopened kind result`: `result` of a read of a file that could not be opened is `Missing` if
 -- the error has the kind `NotFound`. For another `kind` it is an error.
@@ -77,5 +77,5 @@ next_slice children pauses micros =
 
 -- `RunsIn late stand`: a child in the state `stand` may be reported as running: it has a process.
 -- Unless some child is polled late (`late`), no end of that process was found.
-abbrev pub RunsIn : Bool → Stand → Type 0
+abbrev pub RunsIn : Bool → ProcessState → Type 0
 RunsIn late stand = IsSome stand × (late ≡ false → stand ≡ Some None)

@@ -1,20 +1,20 @@
 -- One poll of a child: its calls, its meaning, and the poll counts after it.
 use Rattle.std.specs.Prelude.{ℕ, ◌+◌, ◌*◌, ◌==◌, List, [], ◌∷◌, Bool, true, false, not, ◌&&◌, Result, Ok, Err, if◌then◌else◌}
-use Rattle.kt_child.specs.Types.{Child, Exited as PolledExit, OsFault, Polled, Running, Signaled as PolledSignal, Watch}
+use Rattle.kt_child.specs.Types.{Child, Exited as PolledExit, OsFault, Polled, Running, Signaled as PolledSignal, PollCounts}
 use Rattle.kt_base.specs.declared.child.Outcome.TheVariants.{Exited, Signaled, TimedOut, WaitFailed}
 use Rattle.kt_child.specs.declared.polling.AfterPoll.{AfterPoll}
 use Rattle.kt_child.specs.declared.polling.AfterPoll.TheVariants.{More, Ended}
 use Rattle.kt_child.specs.System.Calls.{Call, Poll, Kill}
-use Rattle.kt_child.specs.Polling.ChildOutcome.{Heard, HeardKill, HeardPoll}
+use Rattle.kt_child.specs.Polling.ChildOutcome.{ChildResponse, KillResponse, PollResponse}
 
 -- `is_due limit w`: for a child with the timeout `limit`, in seconds, and the poll counts `w`, the
 -- next `Running` response is the last before the timeout.
-abbrev pub is_due : ℕ → Watch → Bool
+abbrev pub is_due : ℕ → PollCounts → Bool
 is_due limit w = not w.killed && (w.before + 1 == 100 * limit)
 
 -- `is_killed limit w result`: a poll with this result is followed by a kill. `limit` is the timeout
 -- in seconds, and `w` has the poll counts before the poll.
-abbrev pub is_killed : ℕ → Watch → Result Polled OsFault → Bool
+abbrev pub is_killed : ℕ → PollCounts → Result Polled OsFault → Bool
 is_killed limit w (Err _) = true
 is_killed limit w (Ok Running) = is_due limit w
 is_killed limit w (Ok status) = false
@@ -22,20 +22,20 @@ is_killed limit w (Ok status) = false
 -- `asked_by_poll child limit w answer done`: a poll of `child` with the result `answer`, and the
 -- kill that may follow it, with the result `done`. `limit` is the timeout in seconds, and `w` has
 -- the poll counts before the poll.
-abbrev pub asked_by_poll : Child → ℕ → Watch → Result Polled OsFault → Bool → List Call
+abbrev pub asked_by_poll : Child → ℕ → PollCounts → Result Polled OsFault → Bool → List Call
 asked_by_poll child limit w answer done =
     if is_killed limit w answer then Poll child answer ∷ Kill child done ∷ [] else Poll child answer ∷ []
 
--- `heard_of limit w answer done`: the responses of a child: `answer` to a poll, and `done` to the
+-- `poll_responses limit w answer done`: the responses of a child: `answer` to a poll, and `done` to the
 -- kill that may follow it. `limit` is the timeout in seconds, and `w` has the poll counts before
 -- the poll.
-abbrev pub heard_of : ℕ → Watch → Result Polled OsFault → Bool → List Heard
-heard_of limit w answer done = if is_killed limit w answer then HeardPoll answer ∷ HeardKill done ∷ [] else HeardPoll answer ∷ []
+abbrev pub poll_responses : ℕ → PollCounts → Result Polled OsFault → Bool → List ChildResponse
+poll_responses limit w answer done = if is_killed limit w answer then PollResponse answer ∷ KillResponse done ∷ [] else PollResponse answer ∷ []
 
 -- `after_poll limit w result done`: the child's state after a poll with this result. `done` is the
 -- result of the kill, if there is one. `limit` is the timeout in seconds, and `w` has the poll
 -- counts before the poll.
-abbrev pub after_poll : ℕ → Watch → Result Polled OsFault → Bool → AfterPoll
+abbrev pub after_poll : ℕ → PollCounts → Result Polled OsFault → Bool → AfterPoll
 after_poll limit w (Err _) done = Ended WaitFailed
 after_poll limit w (Ok (PolledExit code)) done = Ended (if w.killed then TimedOut else Exited code)
 after_poll limit w (Ok (PolledSignal signal core)) done = Ended (if w.killed then TimedOut else Signaled signal core)
@@ -45,7 +45,7 @@ after_poll limit w (Ok Running) done =
 
 -- `watch_after limit w`: the poll counts that follow `w` after one more `Running` response. After
 -- the last response before the timeout of `limit` seconds, the child counts as killed.
-abbrev pub watch_after : ℕ → Watch → Watch
+abbrev pub watch_after : ℕ → PollCounts → PollCounts
 watch_after limit w =
     if w.killed then record { before = w.before; killed = true; after = w.after + 1 }
     else record { before = w.before + 1; killed = w.before + 1 == 100 * limit; after = w.after }

@@ -110,7 +110,7 @@ impl<O: Os + Drop> Launcher for Driver<O> {
 
 impl<O: Os + Drop> Driver<O> {
     ghost use Rattle.std.specs.Prelude.{◌≡◌, Bool, ℕ, List, MatchResult, Ok, Err};
-    ghost use Rattle.kt_child.specs.Common.{Chain, Call, RemoveTree, FindsRoot, idle_state, MayStart, running_after_start, HasMoment, IsFit, count_in, Begun, case_of, limit_of, spawned, state_after_start, is_among, shown_in, spawning_of, IsStart};
+    ghost use Rattle.kt_child.specs.Common.{Chain, Call, RemoveTree, FindsRoot, idle_state, MayStart, running_after_start, HasMoment, IsFit, count_in, StartsByPlan, case_of, limit_of, spawned, state_after_start, is_among, shown_in, spawning_of, IsStart};
     ghost use Rattle.kt_base.specs.declared.child.Role.{Role as Part};
 
     /// Creates a driver with a new root directory below `base` (this profile).
@@ -165,7 +165,7 @@ impl<O: Os + Drop> Driver<O> {
         requires fit { IsFit job.now }
         requires free { count_in job.now.position self.old.running ≡ 0 }
         ensures begun { (calls : List Call) × Chain O.leads self.old.os calls self.new.os
-            × Begun (spawning_of self.old.source job.now (case_of job.now role attempt paths))
+            × StartsByPlan (spawning_of self.old.source job.now (case_of job.now role attempt paths))
             calls result }
         ensures state { self.new.running ≡ state_after_start self.old.running
             (spawned (limit_of job.now role) (case_of job.now role attempt paths)) result }
@@ -222,7 +222,7 @@ impl<O: Os + Drop> Driver<O> {
             (is_among self.old.running.pending) job.now.position Role.Cleanup }
         ensures { IsStart O.leads self.old job.now Role.Cleanup result self.new }
     {
-        let owed = self.running.take_owed(job.position);
+        let owed = self.running.take_pending(job.position);
         self.begin(job, Role::Cleanup, owed.attempt, owed.paths)
     }
 }

@@ -1,10 +1,10 @@
 ghost use Rattle.std.specs.Prelude.{◌≡◌, List, IfOk};
-ghost use Rattle.kt_child.specs.Common.{Chain, Call, fresh, list_case, list_purpose, spawning_for, RanList, WatchedList, IsOn, IsOnBy, spawned};
+ghost use Rattle.kt_child.specs.Common.{Chain, Call, fresh, list_case, list_purpose, spawning_for, RunsList, AwaitsList, IsRunningChild, IsRunningWithin, spawned};
 
 use crate::driving::starts::{memory_refusal, set_up, spawned, spawning, take_number};
 use crate::ending::ends::read_list;
-use crate::planning::{CaseAttempt, ChildPurpose, Spawning};
-use crate::polling::polls::first_over;
+use crate::planning::{CaseAttempt, ChildPurpose, SpawnPlan};
+use crate::polling::polls::poll_until_finished;
 use crate::{Driver, Os, Want, workdir_plan};
 use kt_atflist::{ListBytes, Listing};
 use kt_base::{Interface, NoMemory, Outcome, Refused, Role, Text, Variables};
@@ -16,23 +16,23 @@ const LIST_LIMIT: u64 = 300;
 
 /// Waits for the end of a program that lists its test cases, reads its output and removes the
 /// directory of its attempt. Returns the outcome and the output.
-fn watch_list<O: Os>(os: &mut O, plan: &Spawning, case: CaseAttempt) -> (Outcome, ListBytes)
-    requires { IsOn (spawned plan.now.limit case) }
+fn watch_list<O: Os>(os: &mut O, plan: &SpawnPlan, case: CaseAttempt) -> (Outcome, ListBytes)
+    requires { IsRunningChild (spawned plan.now.limit case) }
     ensures { (calls : List Call) × Chain O.leads os.old calls os.new
-        × WatchedList plan.now case calls result.0 result.1 }
+        × AwaitsList plan.now case calls result.0 result.1 }
 {
     let mut children = [spawned(plan.limit, case)];
-    let first = first_over(os, &mut children);
+    let first = poll_until_finished(os, &mut children);
     let bytes = read_list(os, &plan.out);
     let _ = os.remove_tree(&plan.dir);
     (first.outcome, bytes)
 }
 
 /// Starts a program that lists its test cases, waits for its end and returns the result.
-fn run_list<O: Os>(os: &mut O, plan: &Spawning, case: CaseAttempt) -> Listing
-    requires { IsOn (spawned plan.now.limit case) }
+fn run_list<O: Os>(os: &mut O, plan: &SpawnPlan, case: CaseAttempt) -> Listing
+    requires { IsRunningChild (spawned plan.now.limit case) }
     ensures { (calls : List Call) × Chain O.leads os.old calls os.new
-        × RanList plan.now case calls result }
+        × RunsList plan.now case calls result }
 {
     match set_up(os, plan) {
         Err(cause) => Listing::Refused(cause),
@@ -52,11 +52,11 @@ fn plan_list(
     attempt: u64,
     program: &Text,
     variables: &Variables,
-) -> Result<(CaseAttempt, Spawning), NoMemory>
+) -> Result<(CaseAttempt, SpawnPlan), NoMemory>
     ensures case { IfOk result (λ planned. planned.0 ≡ list_case root.now attempt) }
     ensures plan { IfOk result (λ planned. planned.1 ≡ spawning_for source.now
         (list_purpose program.now variables.now) (list_case root.now attempt)) }
-    ensures on { IfOk result (λ planned. IsOnBy planned.1.limit fresh) }
+    ensures on { IfOk result (λ planned. IsRunningWithin planned.1.limit fresh) }
 {
     let case = CaseAttempt {
         position: 0,

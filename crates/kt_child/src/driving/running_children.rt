@@ -1,8 +1,8 @@
 ghost use Rattle.std.specs.Prelude.{◌≡◌, ◌+◌, ◌<◌, ◌≤◌, length, List, slice_get, Some, remove, OnOk, true};
 ghost use Rattle.std.specs.Vec.{vec_len, vec_capacity};
 ghost use Rattle.kt_child.specs.declared.planning.CaseAttempt.{CaseAttempt};
-ghost use Rattle.kt_child.specs.Driving.Starting.{Unbegun};
-ghost use Rattle.kt_child.specs.declared.polling.Watched.{Watched};
+ghost use Rattle.kt_child.specs.Driving.Starting.{FailsBeforeStart};
+ghost use Rattle.kt_child.specs.declared.polling.RunningChild.{RunningChild};
 ghost use Rattle.kt_child.specs.Driving.ChildrenState.{is_among, pending_with};
 ghost use Rattle.kt_base.specs.Chains.{Chain};
 ghost use Rattle.kt_child.specs.System.Calls.{Call};
@@ -10,9 +10,9 @@ ghost use Rattle.kt_child.specs.System.Calls.{Call};
 use crate::Os;
 use crate::driving::starts::{memory_refusal, spawned, start_child};
 use crate::ending::ends::{finish_child, is_over, remove_if};
-use crate::planning::{CaseAttempt, Spawning};
-use crate::polling::Watched;
-use crate::polling::polls::first_over;
+use crate::planning::{CaseAttempt, SpawnPlan};
+use crate::polling::RunningChild;
+use crate::polling::polls::poll_until_finished;
 use kt_base::{NoMemory, Refused, Role, Text};
 use kt_sched::{Ended, StartAnswer};
 use std::alloc::Global;
@@ -23,7 +23,7 @@ use std::marker::Model;
 #[derive(Drop)]
 pub(crate) struct RunningChildren {
     /// The running children, in the order of their start.
-    children: Vec<Watched>,
+    children: Vec<RunningChild>,
     /// The cases with a pending cleanup.
     pending: Vec<CaseAttempt>,
 }
@@ -46,7 +46,10 @@ impl Model for RunningChildren {
 }
 
 /// Reserves capacity for one more child and for the pending cleanup of its case.
-fn make_room(children: &mut Vec<Watched>, pending: &mut Vec<CaseAttempt>) -> Result<(), NoMemory>
+fn make_room(
+    children: &mut Vec<RunningChild>,
+    pending: &mut Vec<CaseAttempt>,
+) -> Result<(), NoMemory>
     requires room { vec_len children.old + vec_len pending.old ≤ vec_capacity pending.old }
     ensures children { children.new.items ≡ children.old.items }
     ensures pending { pending.new.items ≡ pending.old.items }
@@ -75,15 +78,15 @@ fn place_of(cases: &[CaseAttempt], position: u32) -> usize
 }
 
 /// Removes the child at the index `place`. Appends its case to `pending` if a cleanup follows.
-fn forget(children: &mut Vec<Watched>, pending: &mut Vec<CaseAttempt>, place: usize)
+fn forget(children: &mut Vec<RunningChild>, pending: &mut Vec<CaseAttempt>, place: usize)
     requires child { place < vec_len children.old }
     requires room { vec_len children.old + vec_len pending.old ≤ vec_capacity pending.old }
     ensures children { children.new.items ≡ remove children.old.items place }
-    ensures pending { (k : Watched) → slice_get children.old.items place ≡ Some k
+    ensures pending { (k : RunningChild) → slice_get children.old.items place ≡ Some k
         → pending.new.items ≡ pending_with k.case pending.old.items }
     ensures room { vec_len children.new + vec_len pending.new ≤ vec_capacity pending.new }
 {
-    let Watched { case, .. } = children.remove(place);
+    let RunningChild { case, .. } = children.remove(place);
     if is_over(&case) {
         return;
     }
@@ -95,7 +98,7 @@ fn forget(children: &mut Vec<Watched>, pending: &mut Vec<CaseAttempt>, place: us
 pub(crate) fn refuse<O: Os>(os: &mut O, role: Role, dir: &Text, refusal: NoMemory) -> StartAnswer
     ensures refused { result ≡ StartAnswer.Refused Refused.Memory }
     ensures asked { (calls : List Call) × Chain O.leads os.old calls os.new
-        × Unbegun role dir.now calls result }
+        × FailsBeforeStart role dir.now calls result }
 {
     remove_if(os, role == Role::Cleanup, dir);
     StartAnswer::Refused(memory_refusal(refusal))
@@ -103,7 +106,7 @@ pub(crate) fn refuse<O: Os>(os: &mut O, role: Role, dir: &Text, refusal: NoMemor
 
 impl RunningChildren {
     ghost use Rattle.std.specs.Prelude.{◌≡◌, ◌==◌, ℕ, ◌<◌, List, length, slice_get, remove, Some, true, false, if◌then◌else◌};
-    ghost use Rattle.kt_child.specs.Common.{IsEvidence, running_after_end, pending_after_end, IsMoment, HasMoment, Chain, Call, IsOn, count_in, Waited, idle_state, is_among, shown_in, Begun, state_after_start, spawned, with_pending, driver_state_of};
+    ghost use Rattle.kt_child.specs.Common.{IsEvidence, running_after_end, pending_after_end, IsMoment, HasMoment, Chain, Call, IsRunningChild, count_in, Waited, idle_state, is_among, shown_in, StartsByPlan, state_after_start, spawned, with_pending, driver_state_of};
     ghost use Rattle.kt_sched.specs.Children.{Child as Shown};
 
     /// Creates an empty list of running children and an empty list of pending cleanups. Nothing is
@@ -119,7 +122,7 @@ impl RunningChildren {
 
     /// Removes the case with this position in the plan from the pending cleanups, and returns the
     /// case.
-    pub(crate) fn take_owed(&mut self, position: u32) -> CaseAttempt
+    pub(crate) fn take_pending(&mut self, position: u32) -> CaseAttempt
         requires { is_among self.old.pending position ≡ true }
         ensures taken { (place : ℕ) × (slice_get self.old.pending place ≡ Some result)
             × (self.new ≡ with_pending self.old (remove self.old.pending place)) }
@@ -139,12 +142,12 @@ impl RunningChildren {
         &mut self,
         os: &mut O,
         case: CaseAttempt,
-        plan: &Spawning,
+        plan: &SpawnPlan,
     ) -> StartAnswer
-        requires on { IsOn (spawned plan.now.limit case) }
+        requires on { IsRunningChild (spawned plan.now.limit case) }
         requires free { count_in case.position self.old ≡ 0 }
         ensures begun { (calls : List Call) × Chain O.leads os.old calls os.new
-            × Begun plan.now calls result }
+            × StartsByPlan plan.now calls result }
         ensures moment { HasMoment result }
         ensures state { self.new
             ≡ state_after_start self.old (spawned plan.now.limit case) result }
@@ -176,7 +179,7 @@ impl RunningChildren {
         ensures pending { (k : ℕ) → is_among self.new.pending k
             ≡ pending_after_end (shown_in self.old) (is_among self.old.pending) result k }
     {
-        let first = first_over(os, &mut self.children);
+        let first = poll_until_finished(os, &mut self.children);
         let ended = finish_child(alloc, os, &self.children[first.place].case, first.outcome);
         forget(&mut self.children, &mut self.pending, first.place);
         ended

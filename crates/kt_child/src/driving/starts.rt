@@ -1,10 +1,10 @@
 ghost use Rattle.std.specs.Prelude.{◌≡◌, ◌≤◌, List, IfOk};
-ghost use Rattle.kt_child.specs.Common.{Chain, Call, HasMoment, SetUp, SetUpIn, SetUpNew, Started, TakesNumber, Tried, child_asks, furnish_asks, spawned, cause_of, fresh, IsFit, IsOnBy, limit_of, spawning_for, want_of, words_of, program_directory};
+ghost use Rattle.kt_child.specs.Common.{Chain, Call, HasMoment, SetUp, SetUpExisting, SetUpNew, Started, TakesNumber, MakesCalls, child_asks, new_attempt_asks, spawned, cause_of, fresh, IsFit, IsRunningWithin, limit_of, spawning_for, want_of, words_of, program_directory};
 
 use crate::ending::ends::{output_paths, remove_if};
 use crate::planning::words::{absolute_path, program_directory};
-use crate::planning::{CaseAttempt, ChildPurpose, Spawning};
-use crate::polling::{Watch, Watched};
+use crate::planning::{CaseAttempt, ChildPurpose, SpawnPlan};
+use crate::polling::{PollCounts, RunningChild};
 use crate::system::moments::moment;
 use crate::{Os, OsFault, Want, argv_plan, env_plan};
 use kt_base::{Items, NoMemory, Refused, Role, Text};
@@ -48,7 +48,7 @@ fn copies(first: &Text, second: &Text) -> Result<(Text, Text), NoMemory>
 }
 
 /// Returns the arguments of a case's child. `program` is the absolute path of its program.
-fn words_for(
+fn child_args(
     alloc: Global,
     program: &Text,
     purpose: ChildPurpose<'_>,
@@ -77,7 +77,7 @@ pub(crate) fn spawning(
     source: &Text,
     purpose: ChildPurpose<'_>,
     case: &CaseAttempt,
-) -> Result<Spawning, NoMemory>
+) -> Result<SpawnPlan, NoMemory>
     requires some { 1 ≤ purpose.limit }
     requires range { purpose.limit ≤ 1000000 }
     ensures plan { IfOk result (λ plan. plan ≡ spawning_for source.now (record {
@@ -87,16 +87,16 @@ pub(crate) fn spawning(
       case_name = purpose.entry.case_name.now;
       limit = purpose.entry.limit;
     }) case.now) }
-    ensures on { IfOk result (λ plan. IsOnBy plan.limit fresh) }
+    ensures on { IfOk result (λ plan. IsRunningWithin plan.limit fresh) }
 {
     let paths = &case.paths;
     let program = absolute_path(alloc, source, purpose.program)?;
-    let words = words_for(alloc, &program, purpose, case)?;
+    let words = child_args(alloc, &program, purpose, case)?;
     let (dir, work) = copies(&paths.dir, &paths.work)?;
     let (out, err) = output_paths(case.role, paths);
     let (out, err) = copies(out, err)?;
     let env = env_plan(alloc, case.interface, purpose.variables, &paths.work)?;
-    Ok(Spawning {
+    Ok(SpawnPlan {
         child: case.child(),
         limit: purpose.limit,
         program,
@@ -130,21 +130,21 @@ fn cause_of(cause: Refused, fault: OsFault) -> Refused
 
 /// Creates the state of a child that has just started and was not polled yet. `limit` is its
 /// timeout in seconds.
-pub(crate) fn spawned(limit: u64, case: CaseAttempt) -> Watched
+pub(crate) fn spawned(limit: u64, case: CaseAttempt) -> RunningChild
     ensures { result ≡ spawned limit case }
 {
-    let watch = Watch {
+    let watch = PollCounts {
         before: 0,
         killed: false,
         after: 0,
     };
-    Watched { case, limit, watch }
+    RunningChild { case, limit, watch }
 }
 
 /// Opens the two output files and spawns the child. The first failed call ends the start.
-fn open_and_spawn<O: Os>(os: &mut O, plan: &Spawning) -> Result<(), Refused>
+fn open_and_spawn<O: Os>(os: &mut O, plan: &SpawnPlan) -> Result<(), Refused>
     ensures { (calls : List Call) × Chain O.leads os.old calls os.new
-        × Tried (child_asks plan.now) calls result }
+        × MakesCalls (child_asks plan.now) calls result }
 {
     if let Err(fault) = os.open_output(plan.child, &plan.out) {
         return Err(cause_of(Refused::Output, fault));
@@ -166,9 +166,9 @@ fn open_and_spawn<O: Os>(os: &mut O, plan: &Spawning) -> Result<(), Refused>
 
 /// Creates the work directory, opens the output files and spawns the child. The first failed call
 /// ends the start.
-fn furnish<O: Os>(os: &mut O, plan: &Spawning) -> Result<(), Refused>
+fn furnish<O: Os>(os: &mut O, plan: &SpawnPlan) -> Result<(), Refused>
     ensures { (calls : List Call) × Chain O.leads os.old calls os.new
-        × Tried (furnish_asks plan.now) calls result }
+        × MakesCalls (new_attempt_asks plan.now) calls result }
 {
     if let Err(fault) = os.make_dir(&plan.work) {
         return Err(cause_of(Refused::Directory, fault));
@@ -178,9 +178,9 @@ fn furnish<O: Os>(os: &mut O, plan: &Spawning) -> Result<(), Refused>
 
 /// Starts a body, or a program that lists its test cases, in a new directory. Removes the directory
 /// if a later call of the start fails.
-fn set_up_new<O: Os>(os: &mut O, plan: &Spawning) -> Result<(), Refused>
+fn set_up_new<O: Os>(os: &mut O, plan: &SpawnPlan) -> Result<(), Refused>
     ensures { (calls : List Call) × Chain O.leads os.old calls os.new
-        × SetUpNew (furnish_asks plan.now) plan.now.dir calls result }
+        × SetUpNew (new_attempt_asks plan.now) plan.now.dir calls result }
 {
     if let Err(fault) = os.make_dir(&plan.dir) {
         return Err(cause_of(Refused::Directory, fault));
@@ -192,9 +192,9 @@ fn set_up_new<O: Os>(os: &mut O, plan: &Spawning) -> Result<(), Refused>
 
 /// Starts a cleanup in the directory of its body. Removes the directory if a call of the start
 /// fails.
-fn set_up_in<O: Os>(os: &mut O, plan: &Spawning) -> Result<(), Refused>
+fn set_up_existing<O: Os>(os: &mut O, plan: &SpawnPlan) -> Result<(), Refused>
     ensures { (calls : List Call) × Chain O.leads os.old calls os.new
-        × SetUpIn (child_asks plan.now) plan.now.dir calls result }
+        × SetUpExisting (child_asks plan.now) plan.now.dir calls result }
 {
     let tried = open_and_spawn(os, plan);
     remove_if(os, tried.is_err(), &plan.dir);
@@ -202,7 +202,7 @@ fn set_up_in<O: Os>(os: &mut O, plan: &Spawning) -> Result<(), Refused>
 }
 
 /// Sets the timeout of a child and starts the child, without reading the clock.
-pub(crate) fn set_up<O: Os>(os: &mut O, plan: &Spawning) -> Result<(), Refused>
+pub(crate) fn set_up<O: Os>(os: &mut O, plan: &SpawnPlan) -> Result<(), Refused>
     ensures { (calls : List Call) × Chain O.leads os.old calls os.new
         × SetUp plan.now calls result }
 {
@@ -210,13 +210,13 @@ pub(crate) fn set_up<O: Os>(os: &mut O, plan: &Spawning) -> Result<(), Refused>
     os.set_limit(plan.child, plan.limit);
     match plan.child.role {
         Role::Body => set_up_new(os, plan),
-        Role::Cleanup => set_up_in(os, plan),
+        Role::Cleanup => set_up_existing(os, plan),
     }
 }
 
 /// Starts a child and returns the time of its start, in milliseconds since 1970 in UTC, or the
 /// cause of a refusal.
-pub(crate) fn start_child<O: Os>(os: &mut O, plan: &Spawning) -> StartAnswer
+pub(crate) fn start_child<O: Os>(os: &mut O, plan: &SpawnPlan) -> StartAnswer
     ensures asked { (calls : List Call) × Chain O.leads os.old calls os.new
         × Started plan.now calls result }
     ensures moment { HasMoment result }

@@ -1,9 +1,9 @@
 ghost use Rattle.std.specs.Prelude.{◌≡◌, None, Some, Result, Ok, IsSome, IsTrue, IfNone, IfSome, OnOk};
 ghost use Rattle.std.specs.declared.io.Error.{Error};
 ghost use Rattle.std.specs.declared.time.Instant.{Instant as Time};
-ghost use Rattle.kt_child.specs.Common.{AllProceed, AllStay, OthersStay, Sees, stand_in, stand_of};
+ghost use Rattle.kt_child.specs.Common.{AllProceed, AllStay, OthersStay, IsLateCheck, process_state_in, process_state};
 
-use crate::host::command::Asked;
+use crate::host::command::ProgramStart;
 use crate::host::host_child::HostChild;
 use crate::host::pace::{NEWEST, PAUSE, is_due, slice_after};
 use crate::{Child, OsFault};
@@ -25,11 +25,11 @@ pub(crate) fn take_out<P: OpenProcess + Drop>(
     child: Child,
 ) -> Option<(Child, HostChild<P>)>
     ensures own { IfSome result (λ gone. (gone.0 ≡ child)
-        × (stand_of gone.1 ≡ stand_in children.old.entries child)) }
-    ensures none { IfNone result (stand_in children.old.entries child ≡ None) }
-    ensures forgotten { stand_in children.new.entries child ≡ None }
-    ensures others { OthersStay child (stand_in children.old.entries)
-        (stand_in children.new.entries) }
+        × (process_state gone.1 ≡ process_state_in children.old.entries child)) }
+    ensures none { IfNone result (process_state_in children.old.entries child ≡ None) }
+    ensures forgotten { process_state_in children.new.entries child ≡ None }
+    ensures others { OthersStay child (process_state_in children.old.entries)
+        (process_state_in children.new.entries) }
 {
     let held = children.shift_remove(&child)?;
     Some((child, held))
@@ -37,7 +37,7 @@ pub(crate) fn take_out<P: OpenProcess + Drop>(
 
 /// Returns `true` if the next output file that is opened for a child is for its standard error.
 pub(crate) fn wants_errors<P: OpenProcess + Drop>(children: &Children<P>, child: Child) -> bool
-    ensures { IsTrue result → stand_in children.now.entries child ≡ None }
+    ensures { IsTrue result → process_state_in children.now.entries child ≡ None }
 {
     match children.get(&child) {
         Some(held) => held.wants_errors(),
@@ -54,9 +54,9 @@ pub(crate) fn keep_output<P: OpenProcess + Drop, C: Clock>(
     file: File,
     clock: &C,
 ) -> Result<(), NoMemory>
-    ensures unstarted { stand_in children.new.entries child ≡ None }
-    ensures others { OthersStay child (stand_in children.old.entries)
-        (stand_in children.new.entries) }
+    ensures unstarted { process_state_in children.new.entries child ≡ None }
+    ensures others { OthersStay child (process_state_in children.old.entries)
+        (process_state_in children.new.entries) }
 {
     if let Some(held) = children.get_mut(&child) {
         held.keep_file(limit, file, clock);
@@ -71,11 +71,11 @@ pub(crate) fn launch<P: OpenProcess + Drop, R: Processes<Started = P> + Clock + 
     children: &mut Children<P>,
     child: Child,
     rt: &R,
-    asked: Asked<'_>,
+    asked: ProgramStart<'_>,
 ) -> Result<(), OsFault>
-    ensures started { OnOk result (IsSome (stand_in children.new.entries child)) }
-    ensures others { OthersStay child (stand_in children.old.entries)
-        (stand_in children.new.entries) }
+    ensures started { OnOk result (IsSome (process_state_in children.new.entries child)) }
+    ensures others { OthersStay child (process_state_in children.old.entries)
+        (process_state_in children.new.entries) }
 {
     match children.get_mut(&child) {
         Some(held) => held.launch(rt, asked),
@@ -86,7 +86,7 @@ pub(crate) fn launch<P: OpenProcess + Drop, R: Processes<Started = P> + Clock + 
 /// Returns `true` if some child of the map has missed more than two polls, at 100 polls a second.
 /// Returns `false` if the clock fails.
 pub(crate) fn is_any_late<P: OpenProcess + Drop, C: Clock>(children: &Children<P>, rt: &C) -> bool
-    ensures { (time : Result Time Error) × Sees children.now.entries time result }
+    ensures { (time : Result Time Error) × IsLateCheck children.now.entries time result }
 {
     let Ok(now) = Instant::now(rt) else {
         return false;
@@ -105,8 +105,8 @@ pub(crate) fn kill<P: OpenProcess + Drop, C: Clock>(
     child: Child,
     clock: &C,
 ) -> Result<(), OsFault>
-    ensures had { OnOk result (IsSome (stand_in children.old.entries child)) }
-    ensures stay { AllStay (stand_in children.old.entries) (stand_in children.new.entries) }
+    ensures had { OnOk result (IsSome (process_state_in children.old.entries child)) }
+    ensures stay { AllStay (process_state_in children.old.entries) (process_state_in children.new.entries) }
 {
     match children.get_mut(&child) {
         Some(held) => held.kill(clock),
@@ -117,7 +117,7 @@ pub(crate) fn kill<P: OpenProcess + Drop, C: Clock>(
 /// Returns `true` if a child at the index `from` or later has ended and no earlier check found its
 /// end. The search stops at the first such child.
 fn has_new_end<P: OpenProcess + Drop>(children: &mut Children<P>, from: usize) -> bool
-    ensures { AllProceed (stand_in children.old.entries) (stand_in children.new.entries) }
+    ensures { AllProceed (process_state_in children.old.entries) (process_state_in children.new.entries) }
 {
     for place in from..children.len() {
         let held = &mut children[place];
@@ -140,7 +140,7 @@ pub(crate) fn await_end<P: OpenProcess + Drop, R: Files + Clock + AllocGlobal>(
     rt: &R,
     pauses: u32,
 ) -> bool
-    ensures { AllProceed (stand_in children.old.entries) (stand_in children.new.entries) }
+    ensures { AllProceed (process_state_in children.old.entries) (process_state_in children.new.entries) }
 {
     let newest = children.len().saturating_sub(NEWEST);
     let mut looked = 0;

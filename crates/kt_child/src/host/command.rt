@@ -11,7 +11,7 @@ use std::{io, process};
 
 /// A set of values that a program is started with.
 #[derive(Clone, Copy)]
-pub(crate) struct Asked<'a> {
+pub(crate) struct ProgramStart<'a> {
     /// The absolute path of the program.
     pub program: &'a Text,
     /// The arguments.
@@ -108,7 +108,7 @@ fn command_of(alloc: Global, program: &Text, out: File, err: File) -> Result<Com
 }
 
 /// Sets the arguments, the environment and the working directory of a new command.
-fn fill(command: &mut Command, asked: Asked<'_>) -> Result<(), NoMemory>
+fn fill(command: &mut Command, asked: ProgramStart<'_>) -> Result<(), NoMemory>
     requires program { command_program command.old ≡ utf8 asked.program.now }
     requires args { command_args command.old ≡ [] }
     requires inherits { clears_env command.old ≡ false }
@@ -127,7 +127,7 @@ fn fill(command: &mut Command, asked: Asked<'_>) -> Result<(), NoMemory>
 /// streams.
 fn spawn_as<R: Processes>(
     rt: &R,
-    _asked: Asked<'_>,
+    _asked: ProgramStart<'_>,
     command: &mut Command,
 ) -> io::Result<process::Child<R::Started>>
     requires { IsCommandOf _asked.program.now _asked.words.now _asked.env.now _asked.dir.now
@@ -139,7 +139,7 @@ fn spawn_as<R: Processes>(
 /// Sets the arguments, the environment and the working directory of a new command, and spawns it.
 fn fill_and_spawn<R: Processes>(
     rt: &R,
-    asked: Asked<'_>,
+    asked: ProgramStart<'_>,
     command: &mut Command,
 ) -> Result<process::Child<R::Started>, OsFault>
     requires program { command_program command.old ≡ utf8 asked.program.now }
@@ -155,7 +155,7 @@ fn fill_and_spawn<R: Processes>(
 /// given files.
 pub(crate) fn spawn<R: Processes + AllocGlobal>(
     rt: &R,
-    asked: Asked<'_>,
+    asked: ProgramStart<'_>,
     out: File,
     err: File,
 ) -> Result<process::Child<R::Started>, OsFault> {

@@ -1,5 +1,5 @@
 use crate::OsFault;
-use crate::host::command::{Asked, spawn};
+use crate::host::command::{ProgramStart, spawn};
 use crate::host::or_fault;
 use crate::host::pace::Pace;
 use std::fs::File;
@@ -13,7 +13,7 @@ use std::{process, thread};
 const SLICES: u32 = 20;
 
 /// The timeout of a killed child, in seconds: the time of 500 `Running` responses.
-const KILLED_LIMIT: u64 = 5;
+const KILLED_LIMIT_SECONDS: u64 = 5;
 
 /// A child of the host, from the opening of its first output file until its end is reported.
 pub(crate) struct HostChild<P: OpenProcess> {
@@ -49,7 +49,7 @@ impl<P: OpenProcess + Drop> Drop for HostChild<P> {
 
 impl<P: OpenProcess + Drop> HostChild<P> {
     ghost use Rattle.std.specs.Prelude.{◌≡◌, ◌↔◌, ◌+◌, ◌-◌, ◌^◌, min, Some, None, Ok, true, false, IsTrue, IsSome, IsNone, IsOk, IsErr, IfOk, OnOk};
-    ghost use Rattle.kt_child.specs.Common.{IsFree, IsLateAt, Proceeds, RunsIn, stand_of};
+    ghost use Rattle.kt_child.specs.Common.{IsFree, IsLateAt, Proceeds, RunsIn, process_state};
     ghost use Rattle.std.specs.declared.process.status.ExitStatus.{ExitStatus as Status};
 
     /// Creates a child without a process. `limit` is its timeout in seconds, and `out` the file for
@@ -57,7 +57,7 @@ impl<P: OpenProcess + Drop> HostChild<P> {
     pub(crate) fn new<C: Clock>(limit: u64, out: File, clock: &C) -> HostChild<P>
         ensures out { result.out ≡ Some out }
         ensures err { result.err ≡ None }
-        ensures stands { stand_of result ≡ None }
+        ensures stands { process_state result ≡ None }
         ensures limit { result.pace.limit ≡ limit }
         ensures unseen { result.seen ≡ false }
     {
@@ -75,7 +75,7 @@ impl<P: OpenProcess + Drop> HostChild<P> {
     /// open.
     pub(crate) fn wants_errors(&self) -> bool
         ensures { IsTrue result ↔ (IsSome self.now.out × IsNone self.now.err
-            × (stand_of self.now ≡ None)) }
+            × (process_state self.now ≡ None)) }
     {
         self.out.is_some() && self.err.is_none() && self.process.is_none()
     }
@@ -83,7 +83,7 @@ impl<P: OpenProcess + Drop> HostChild<P> {
     /// Stores an opened output file: for standard error if only standard output is open. Otherwise,
     /// a new child with this standard output replaces the child.
     pub(crate) fn keep_file<C: Clock>(&mut self, limit: u64, file: File, clock: &C)
-        ensures stands { stand_of self.new ≡ None }
+        ensures stands { process_state self.new ≡ None }
     {
         if self.wants_errors() {
             self.err = Some(file);
@@ -97,9 +97,9 @@ impl<P: OpenProcess + Drop> HostChild<P> {
     pub(crate) fn launch<R: Processes<Started = P> + Clock + AllocGlobal>(
         &mut self,
         rt: &R,
-        asked: Asked<'_>,
+        asked: ProgramStart<'_>,
     ) -> Result<(), OsFault>
-        ensures started { OnOk result (IsSome (stand_of self.new)) }
+        ensures started { OnOk result (IsSome (process_state self.new)) }
         ensures reset { OnOk result (self.new.pace.answers ≡ 0) }
     {
         let Some((out, err)) = self.out.take().zip(self.err.take()) else {
@@ -117,8 +117,8 @@ impl<P: OpenProcess + Drop> HostChild<P> {
     /// Once the child has ended, later calls return the same status. Fails if the child was not
     /// started.
     fn status(&mut self) -> Result<Option<ExitStatus>, OsFault>
-        ensures proceeds { Proceeds (stand_of self.old) (stand_of self.new) }
-        ensures stands { IfOk result (λ status. stand_of self.new ≡ Some status) }
+        ensures proceeds { Proceeds (process_state self.old) (process_state self.new) }
+        ensures stands { IfOk result (λ status. process_state self.new ≡ Some status) }
         ensures pace { self.new.pace ≡ self.old.pace }
         ensures seen { IfOk result (λ status. IsSome status → self.new.seen ≡ true) }
     {
@@ -144,8 +144,8 @@ impl<P: OpenProcess + Drop> HostChild<P> {
     ///
     /// `late` is `true` if some child is polled late. The child itself must be in the first half of
     /// its responses.
-    fn is_unheard(&self, late: bool) -> bool
-        ensures runs { IsTrue result → IsSome (stand_of self.now) }
+    fn is_assumed_running(&self, late: bool) -> bool
+        ensures runs { IsTrue result → IsSome (process_state self.now) }
         ensures late { IsTrue result → IsTrue late }
         ensures free { IsTrue result → IsFree self.now.pace.limit self.now.pace.answers }
     {
@@ -161,14 +161,14 @@ impl<P: OpenProcess + Drop> HostChild<P> {
         late: bool,
         clock: &C,
     ) -> Result<Option<ExitStatus>, OsFault>
-        ensures proceeds { Proceeds (stand_of self.old) (stand_of self.new) }
-        ensures ended { IfOk result (λ status. IsSome status → stand_of self.new ≡ Some status) }
+        ensures proceeds { Proceeds (process_state self.old) (process_state self.new) }
+        ensures ended { IfOk result (λ status. IsSome status → process_state self.new ≡ Some status) }
         ensures running { result ≡ Ok None
-            → RunsIn late (stand_of self.old) × (stand_of self.new ≡ stand_of self.old) }
+            → RunsIn late (process_state self.old) × (process_state self.new ≡ process_state self.old) }
         ensures counted { result ≡ Ok None → self.new.pace.answers
             ≡ min (self.old.pace.answers + 1) (2 ^ 64 - 1) }
     {
-        if self.is_unheard(late) {
+        if self.is_assumed_running(late) {
             self.pace.count_answer();
             return Ok(None);
         }
@@ -189,9 +189,9 @@ impl<P: OpenProcess + Drop> HostChild<P> {
     /// Kills the child. Its 500 polls after the kill have the pace of a timeout of 5 seconds. Fails
     /// if the child was not started or the system can't kill it.
     pub(crate) fn kill<C: Clock>(&mut self, clock: &C) -> Result<(), OsFault>
-        ensures stands { stand_of self.new ≡ stand_of self.old }
-        ensures had { OnOk result (IsSome (stand_of self.old)) }
-        ensures ended { (status : Status) → stand_of self.old ≡ Some (Some status) → IsOk result }
+        ensures stands { process_state self.new ≡ process_state self.old }
+        ensures had { OnOk result (IsSome (process_state self.old)) }
+        ensures ended { (status : Status) → process_state self.old ≡ Some (Some status) → IsOk result }
         ensures limit { OnOk result (self.new.pace.limit ≡ 5) }
         ensures reset { OnOk result (self.new.pace.answers ≡ 0) }
     {
@@ -199,18 +199,18 @@ impl<P: OpenProcess + Drop> HostChild<P> {
             Some(process) => or_fault(process.kill())?,
             None => return Err(OsFault::Failed),
         }
-        self.pace = Pace::begun(KILLED_LIMIT, clock);
+        self.pace = Pace::begun(KILLED_LIMIT_SECONDS, clock);
         Ok(())
     }
 
     /// Returns `true` if the child has ended and no earlier call found its end. The next poll
     /// returns the exit status.
     pub(crate) fn has_new_end(&mut self) -> bool
-        ensures proceeds { Proceeds (stand_of self.old) (stand_of self.new) }
+        ensures proceeds { Proceeds (process_state self.old) (process_state self.new) }
         ensures unseen { IsTrue result → self.old.seen ≡ false }
         ensures seen { IsTrue result → self.new.seen ≡ true }
         ensures ended { IsTrue result → ((status : Status)
-            × (stand_of self.new ≡ Some (Some status))) }
+            × (process_state self.new ≡ Some (Some status))) }
     {
         !self.seen && matches!(self.status(), Ok(Some(_)))
     }

@@ -2,7 +2,7 @@ ghost use Rattle.kt_child.specs.Common.{status_bits, IsPolledOf};
 
 use crate::host::background::Background;
 use crate::host::children::Children;
-use crate::host::command::Asked;
+use crate::host::command::ProgramStart;
 use crate::host::host_child::HostChild;
 use crate::host::outputs::{Rights, create_directory, create_output, create_root};
 use crate::host::reads::{open_regular, open_unleased, read_opened};
@@ -73,13 +73,13 @@ fn polled(status: ExitStatus) -> Result<Polled, OsFault>
 
 impl<R: Processes + AllocGlobal + Drop, B> HostOs<R, B> {
     ghost use Rattle.std.specs.Prelude.{◌≡◌, None};
-    ghost use Rattle.kt_child.specs.Common.{stand_in};
+    ghost use Rattle.kt_child.specs.Common.{process_state_in};
     ghost use Rattle.kt_child.specs.declared.system.Child.{Child as Name};
 
     /// Creates the system of the host without children. `background` is the program's work while
     /// children run.
     pub fn new(rt: R, background: B) -> HostOs<R, B>
-        ensures { (c : Name) → stand_in result.children.entries c ≡ None }
+        ensures { (c : Name) → process_state_in result.children.entries c ≡ None }
     {
         HostOs {
             children: Children::new(rt.alloc()),
@@ -97,7 +97,7 @@ impl<R: Processes + AllocGlobal + Drop, B> HostOs<R, B> {
 
 impl<R: Processes + Clock + AllocGlobal + Drop, B> HostOs<R, B> {
     ghost use Rattle.std.specs.Prelude.{◌≡◌, Some};
-    ghost use Rattle.kt_child.specs.Common.{Looks};
+    ghost use Rattle.kt_child.specs.Common.{UpdatesLateCheck};
 
     /// Returns `true` if some child is polled late. The result of the last check is used until a
     /// poll or a pause clears it.
@@ -106,7 +106,7 @@ impl<R: Processes + Clock + AllocGlobal + Drop, B> HostOs<R, B> {
         ensures limit { self.new.limit ≡ self.old.limit }
         ensures last { self.new.last ≡ self.old.last }
         ensures late { self.new.late ≡ Some result }
-        ensures looks { Looks self.old.children.entries self.old.late self.new.late }
+        ensures looks { UpdatesLateCheck self.old.children.entries self.old.late self.new.late }
     {
         let late = match self.late {
             Some(late) => late,
@@ -125,12 +125,12 @@ where
     // Specification: the state is `children`; results of polls and reads are those of the standard
     // library.
     ghost use Rattle.std.specs.Prelude.{◌≡◌};
-    ghost use Rattle.kt_child.specs.Common.{IsLastEnd, Looks, stand_in, HostLeads, limit_after};
+    ghost use Rattle.kt_child.specs.Common.{IsLastEnd, UpdatesLateCheck, process_state_in, HostLeads, limit_after};
 
-    ghost leads = { λ old call new. HostLeads (stand_in old.children.entries) call
-        (stand_in new.children.entries) (IsLastEnd new.last) new.late
+    ghost leads = { λ old call new. HostLeads (process_state_in old.children.entries) call
+        (process_state_in new.children.entries) (IsLastEnd new.last) new.late
         × (new.limit ≡ limit_after call old.limit)
-        × Looks old.children.entries old.late new.late };
+        × UpdatesLateCheck old.children.entries old.late new.late };
 
     fn set_limit(&mut self, _child: Child, limit: u64) {
         self.limit = limit;
@@ -177,7 +177,7 @@ where
         dir: &Text,
     ) -> Result<(), OsFault> {
         self.background.advance();
-        let asked = Asked {
+        let asked = ProgramStart {
             program,
             words,
             env,

@@ -69,7 +69,7 @@ impl CaseAttempt {
 
 /// A plan of a child's start, with the values for all calls to the system.
 #[derive(Drop)]
-pub(crate) struct Spawning {
+pub(crate) struct SpawnPlan {
     /// The name of the child.
     pub child: Child,
     /// The timeout of the child, in seconds.

@@ -53,7 +53,7 @@ fn push_both(alloc: Global, texts: &mut Items<Text>, head: &str, tail: &str) -> 
 }
 
 /// Returns the argument `-vNAME=VALUE`, which passes a variable to an ATF program.
-fn word_of_variable(alloc: Global, variable: &Variable) -> Result<Text, NoMemory>
+fn atf_variable_arg(alloc: Global, variable: &Variable) -> Result<Text, NoMemory>
     ensures { IfOk result (λ word. word ≡ variable_argument variable.now) }
 {
     let mut word = joined(alloc, "-v", variable.name.as_str())?;
@@ -63,7 +63,7 @@ fn word_of_variable(alloc: Global, variable: &Variable) -> Result<Text, NoMemory
 }
 
 /// Appends the argument `-vNAME=VALUE` for each variable.
-fn push_variable_words(
+fn push_variable_args(
     alloc: Global,
     words: &mut Items<Text>,
     variables: &Variables,
@@ -71,7 +71,7 @@ fn push_variable_words(
     ensures { OnOk result (words.new ≡ words.old ++ map variable_argument variables.now) }
 {
     for variable in variables.as_slice() {
-        let word = word_of_variable(alloc, variable)?;
+        let word = atf_variable_arg(alloc, variable)?;
         words.push(word)?;
     }
     Ok(())
@@ -82,7 +82,7 @@ fn list_words(alloc: Global, variables: &Variables) -> Result<Items<Text>, NoMem
     ensures { IfOk result (λ words. words ≡ map variable_argument variables.now ++ codes "-l" ∷ []) }
 {
     let mut words = Items::new(alloc);
-    push_variable_words(alloc, &mut words, variables)?;
+    push_variable_args(alloc, &mut words, variables)?;
     push_text(alloc, &mut words, "-l")?;
     Ok(words)
 }
@@ -102,7 +102,7 @@ fn body_words(
     let mut words = Items::new(alloc);
     push_both(alloc, &mut words, "-r", result_file.as_str())?;
     push_both(alloc, &mut words, "-s", source.as_str())?;
-    push_variable_words(alloc, &mut words, variables)?;
+    push_variable_args(alloc, &mut words, variables)?;
     push_text(alloc, &mut words, case_name.as_str())?;
     Ok(words)
 }
@@ -120,7 +120,7 @@ fn cleanup_words(
 {
     let mut words = Items::new(alloc);
     push_both(alloc, &mut words, "-s", source.as_str())?;
-    push_variable_words(alloc, &mut words, variables)?;
+    push_variable_args(alloc, &mut words, variables)?;
     push_both(alloc, &mut words, case_name.as_str(), ":cleanup")?;
     Ok(words)
 }

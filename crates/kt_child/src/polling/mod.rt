@@ -8,7 +8,7 @@ use kt_base::Outcome;
 /// A count of the polls of a running child. The driver measures a timeout in polls, 100 for each
 /// second.
 #[derive(Clone, Copy)]
-pub(crate) struct Watch {
+pub(crate) struct PollCounts {
     /// The number of polls before a kill that reported the child as running.
     pub before: u64,
     /// `true` if the driver has killed the child.
@@ -19,13 +19,13 @@ pub(crate) struct Watch {
 
 /// A running child with its case, its timeout and the count of its polls.
 #[derive(Drop)]
-pub(crate) struct Watched {
+pub(crate) struct RunningChild {
     /// The case of the child.
     pub case: CaseAttempt,
     /// The timeout of the child, in seconds, from 1 to 1,000,000.
     pub limit: u64,
     /// The count of its polls.
-    pub watch: Watch,
+    pub watch: PollCounts,
 }
 
 /// A state of a child after a poll.

@@ -1,7 +1,7 @@
 ghost use Rattle.std.specs.Prelude.{◌≡◌, ℕ, ◌+◌, ◌*◌, ◌<◌, ◌≤◌, ◌^◌, [], ◌∷◌, Ok, Bool, Result, if◌then◌else◌, is_ok, List, All, IfSome, length, None};
-ghost use Rattle.kt_child.specs.Common.{OsFault, Polled, Running, Chain, Kill, IsWatched, asked_by_poll, is_due, after_poll, watch_after, Call, IsOn, PolledAll, PolledUntil, WaitedOn, advanced_below};
+ghost use Rattle.kt_child.specs.Common.{OsFault, Polled, Running, Chain, Kill, IsWatched, asked_by_poll, is_due, after_poll, watch_after, Call, IsRunningChild, PolledAll, PolledUntil, WaitedOn, advanced_below};
 
-use crate::polling::{AfterPoll, Watch, Watched};
+use crate::polling::{AfterPoll, PollCounts, RunningChild};
 use crate::{Child, Os, Polled};
 use kt_base::Outcome;
 
@@ -15,7 +15,12 @@ const REAPING_POLLS: u64 = 500;
 /// Polls a child once and returns its state.
 ///
 /// Kills the child if the poll fails or its timeout is reached. `limit` is the timeout in seconds.
-pub(crate) fn poll_once<O: Os>(os: &mut O, child: Child, limit: u64, watch: &mut Watch) -> AfterPoll
+pub(crate) fn poll_once<O: Os>(
+    os: &mut O,
+    child: Child,
+    limit: u64,
+    watch: &mut PollCounts,
+) -> AfterPoll
     requires in_range { limit ≤ 1000000 }
     requires watched { IsWatched limit watch.old }
     ensures asked { (answer : Result Polled OsFault) × (done : Bool)
@@ -40,7 +45,7 @@ pub(crate) fn poll_once<O: Os>(os: &mut O, child: Child, limit: u64, watch: &mut
 /// Counts a poll that reported a child as running, and returns the child's state.
 ///
 /// Kills the child if its timeout is reached. `limit` is the timeout in seconds.
-fn still_running<O: Os>(os: &mut O, child: Child, limit: u64, watch: &mut Watch) -> AfterPoll
+fn still_running<O: Os>(os: &mut O, child: Child, limit: u64, watch: &mut PollCounts) -> AfterPoll
     requires in_range { limit ≤ 1000000 }
     requires watched { IsWatched limit watch.old }
     ensures asked { (done : Bool)
@@ -78,8 +83,8 @@ pub(crate) struct Over {
 
 /// Polls the children once, in order, until a child has finished, and returns that child. Returns
 /// `None` if all are still running.
-fn turn<O: Os>(os: &mut O, children: &mut [Watched]) -> Option<Over>
-    requires { All IsOn children.old }
+fn turn<O: Os>(os: &mut O, children: &mut [RunningChild]) -> Option<Over>
+    requires { All IsRunningChild children.old }
     ensures none { result ≡ None → (calls : List Call) × Chain O.leads os.old calls os.new
         × PolledAll children.old calls }
     ensures went_on { result ≡ None → children.new
@@ -87,7 +92,7 @@ fn turn<O: Os>(os: &mut O, children: &mut [Watched]) -> Option<Over>
     ensures over { IfSome result (λ over. (calls : List Call) × Chain O.leads os.old calls os.new
         × PolledUntil children.old over.place calls over.outcome) }
     ensures before { IfSome result (λ over. children.new ≡ advanced_below over.place children.old) }
-    ensures on { All IsOn children.new }
+    ensures on { All IsRunningChild children.new }
     ensures place { IfSome result (λ over. over.place < length children.old) }
 {
     for i in 0..children.len() {
@@ -103,12 +108,12 @@ fn turn<O: Os>(os: &mut O, children: &mut [Watched]) -> Option<Over>
 
 /// Polls the children in turns until a child has finished, and returns that child. After each turn
 /// without a finished child, the system pauses.
-pub(crate) fn first_over<O: Os>(os: &mut O, children: &mut [Watched]) -> Over
+pub(crate) fn poll_until_finished<O: Os>(os: &mut O, children: &mut [RunningChild]) -> Over
     requires some { 0 < length children.old }
-    requires on { All IsOn children.old }
+    requires on { All IsRunningChild children.old }
     ensures waited { (calls : List Call) × Chain O.leads os.old calls os.new
         × WaitedOn children.old calls result.place result.outcome children.new }
-    ensures on { All IsOn children.new }
+    ensures on { All IsRunningChild children.new }
     ensures place { result.place < length children.old }
     ensures same { length children.new ≡ length children.old }
 {

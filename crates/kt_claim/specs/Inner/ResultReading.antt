@@ -4,7 +4,7 @@ use Rattle.std.specs.List.{prefix_len, starts_with, ends_with, list_any}
 use Rattle.kt_base.specs.Digits.{is_digit, up_to}
 use Rattle.kt_base.specs.Lossy.{lossy}
 use Rattle.kt_base.specs.Lines.{is_newline}
-use Rattle.kt_claim.specs.Bytes.{newline, is_word_byte, number}
+use Rattle.kt_claim.specs.Bytes.{newline, is_keyword_byte, number}
 use Rattle.kt_claim.specs.ResultFile.{limit, line}
 use Rattle.kt_claim.specs.declared.evidence.Claim.{Claim}
 use Rattle.kt_claim.specs.declared.evidence.Claim.TheVariants as claim
@@ -97,15 +97,15 @@ abbrev pub claim_after : Word → List ℕ → Claim
 claim_after w [] = plainly w []
 claim_after w (b ∷ rest) = if b == 40 then after_bracket w rest else plainly w (b ∷ rest)
 
--- `after_known w rest`: the claim of the keyword `w` and `rest`, or the error `UnknownWord` if
+-- `claim_of_keyword w rest`: the claim of the keyword `w` and `rest`, or the error `UnknownWord` if
 -- there is no keyword.
-abbrev pub after_known : Option Word → List ℕ → Claim
-after_known None rest = claim.Malformed UnknownWord
-after_known (Some w) rest = claim_after w rest
+abbrev pub claim_of_keyword : Option Word → List ℕ → Claim
+claim_of_keyword None rest = claim.Malformed UnknownWord
+claim_of_keyword (Some w) rest = claim_after w rest
 
 -- `claim_of_line text`: the claim of the line `text`, which has no newline.
 unfoldable pub claim_of_line : List ℕ → Claim
-claim_of_line text = after_known (word_of (take (prefix_len is_word_byte text) text)) (drop (prefix_len is_word_byte text) text)
+claim_of_line text = claim_of_keyword (word_of (take (prefix_len is_keyword_byte text) text)) (drop (prefix_len is_keyword_byte text) text)
 
 -- `claim_of file`: the claim of the result file `file`, or `Malformed` with its first error.
 unfoldable pub claim_of : List ℕ → Claim

@@ -2,7 +2,7 @@
 use Rattle.std.specs.Prelude.{◌≡◌, ℕ, ◌+◌, ◌≤◌, Bool, true, false, if◌then◌else◌, List, [], ◌∷◌, ◌++◌, map, length, Option, Some, None, is_some}
 use Rattle.std.specs.List.{list_any, filter_map}
 use Rattle.kt_base.specs.Lines.{is_newline, lines}
-use Rattle.kt_claim.specs.Inner.LineStates.{LineState, Knows}
+use Rattle.kt_claim.specs.Inner.LineStates.{LineState, IsStateAfter}
 use Rattle.kt_claim.specs.TapStream.{is_bail, is_test, is_unexcused, plan, count, heard, without_return}
 use Rattle.kt_claim.specs.declared.begun.OpenLine.{OpenLine}
 use Rattle.kt_claim.specs.declared.tally.Tally.{Tally}
@@ -44,7 +44,7 @@ pub record HasLines (tally : Tally) (line : LineState) (fed : List ℕ) : Type 0
   pub one_line : list_any is_newline open_line ≡ false
   pub rest : (more : List ℕ) → lines (fed ++ more) ≡ whole ++ lines (open_line ++ more)
   pub fits : length whole + length open_line ≤ length fed
-  pub known : Knows line.begun line.kept line.held open_line
+  pub known : IsStateAfter line.begun line.kept line.held open_line
 
 -- `with_plan tally tests reason`: `tally` with one more plan, of `tests` tests with the reason
 -- `reason`. A plan after the first only sets `second`.

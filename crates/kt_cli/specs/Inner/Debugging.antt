@@ -20,9 +20,9 @@ DebugEnds plan T entries (Err (NoMemory refusal)) = (T ≡ NoEvent) × (entries 
 DebugEnds plan T entries (Err (SinkFailed fault)) = ⊥
 
 module _ {L : Type 0} (l : launcher.Ghosts L) (plan : List Job) where
-  -- `Debugged old new was now failed answer`: `plan` was executed one case at a time, and each case
+  -- `ExecutesDebug old new was now failed answer`: `plan` was executed one case at a time, and each case
   -- was printed.
-  pub record Debugged (old new : L) (was now : Option (List ℕ)) (failed : Bool) (answer : Result Totals RunFault) : Type 0 where
+  pub record ExecutesDebug (old new : L) (was now : Option (List ℕ)) (failed : Bool) (answer : Result Totals RunFault) : Type 0 where
     pub trace : Trace
     pub leads : Leads l.starts l.waits plan trace old new
     pub entries : List Entry

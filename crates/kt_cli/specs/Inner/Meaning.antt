@@ -1,21 +1,21 @@
 -- Commands that make no calls of a store.
 use Rattle.std.specs.Prelude.{ℕ, List, [], ◌≡◌, ◌⊎◌, Option}
-use Rattle.kt_cli.specs.Types.{Command, NoEvent, Question}
+use Rattle.kt_cli.specs.Types.{Command, NoEvent, WorldCall}
 use Rattle.kt_cli.specs.Pages.{Printed}
-use Rattle.kt_cli.specs.Meaning.{Course, CutShort, Means, Seen}
+use Rattle.kt_cli.specs.Meaning.{LeadsWorld, EndsEarly, Means, CommandCalls}
 use Rattle.kt_cli.specs.Scenes.{World}
 
 -- `asked_only questions`: the calls of a command that made only the calls `questions` of its world.
-abbrev pub asked_only : List Question → Seen
+abbrev pub asked_only : List WorldCall → CommandCalls
 asked_only questions = record { questions = questions; plan = []; trace = NoEvent; calls = [] }
 
 module _ {W : Type 0} (w : World W) where
-  -- `AsksOnly c old new was now exit`: `execute` ran `c`, which makes no calls of a store.
-  pub record AsksOnly (c : Command) (old new : W) (was now : Option (List ℕ)) (exit : ℕ) : Type 0 where
-    pub seen : Seen
-    pub course : Course w seen old new
+  -- `ExecutesWithoutStore c old new was now exit`: `execute` ran `c`, which makes no calls of a store.
+  pub record ExecutesWithoutStore (c : Command) (old new : W) (was now : Option (List ℕ)) (exit : ℕ) : Type 0 where
+    pub seen : CommandCalls
+    pub course : LeadsWorld w seen old new
     pub uncalled : seen.calls ≡ []
     pub bytes : List ℕ
     pub due : ℕ
     pub printed : Printed was now exit bytes due
-    pub is : Means seen c bytes due ⊎ CutShort seen printed.failed c bytes due
+    pub is : Means seen c bytes due ⊎ EndsEarly seen printed.failed c bytes due

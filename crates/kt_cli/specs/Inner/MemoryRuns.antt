@@ -1,13 +1,13 @@
 -- Calls of a store of runs in memory.
 use Rattle.std.specs.Prelude.{ℕ, suc, nat_lt, nat_le, if◌then◌else◌, Option, List, [], ◌∷◌, ◌≡◌, ◌<◌, Some, None, Result, Ok, Err, length}
-use Rattle.kt_cli.specs.Types.{Agrees, AreNumbered, Entry, Run, StoreCall, StoreFault, changed_by}
+use Rattle.kt_cli.specs.Types.{Agrees, AreNumbered, Entry, Run, StoreCall, StoreFault, runs_after}
 use Rattle.kt_store.specs.Runs.{run_at, has_position}
 use Rattle.kt_store.specs.declared.store_fault.StoreFault.TheVariants.{NoRun, RunClosed, BadPosition, RepeatedPosition, Incomplete}
 
 -- `ServesInMemory old call new`: the result of `call` agrees with `old`, and `new` is `old` changed
 -- by `call`.
 abbrev pub ServesInMemory : List Run → StoreCall → List Run → Type 0
-ServesInMemory old call new = Agrees old call × (AreNumbered 1 old → new ≡ changed_by call old)
+ServesInMemory old call new = Agrees old call × (AreNumbered 1 old → new ≡ runs_after call old)
 
 -- `FindsPlace runs number result`: `result` is the index of run `number`, or `NoRun`.
 abbrev pub FindsPlace : List Run → ℕ → Result ℕ StoreFault → Type 0

@@ -6,17 +6,17 @@ use Rattle.kt_store.specs.declared.result_store.StoreSpec as keeping
 use Rattle.kt_store.specs.declared.store_fault.StoreFault.TheVariants.{NoMemory}
 use Rattle.kt_cli.specs.Inner.Pages.{Says}
 use Rattle.kt_cli.specs.Inner.Stores.{put_all}
-use Rattle.kt_cli.specs.Stores.{Stored}
+use Rattle.kt_cli.specs.Stores.{CallsStore}
 
 -- `sink_fault_of fault`: the fault of the scheduler's sink for `fault` of the store.
 abbrev pub sink_fault_of : StoreFault → SinkFault
 sink_fault_of (NoMemory shortage) = Memory
 sink_fault_of other = Other
 
--- `Took Stands number store put`: the store contains some runs, with the entries `put` added to run
+-- `HasRecorded Stands number store put`: the store contains some runs, with the entries `put` added to run
 -- `number`.
-abbrev pub Took : {R : Type 0} → (R → List Run → Type 0) → ℕ → R → List Entry → Type 0
-Took Stands number store put = (first : List Run) × Stands store (put_all number put first)
+abbrev pub HasRecorded : {R : Type 0} → (R → List Run → Type 0) → ℕ → R → List Entry → Type 0
+HasRecorded Stands number store put = (first : List Run) × Stands store (put_all number put first)
 
 -- The state of a recorder: the store, the number of the run, whether a write failed, and the
 -- content of the writer.
@@ -35,6 +35,6 @@ module _ {R : Type 0} (r : keeping.Ghosts R) where
   -- failed and nothing was written.
   abbrev pub Recorded : Recording R → Entry → Result (Unit {0}) SinkFault → Recording R → Type 0
   Recorded old e (Ok x) new =
-      (new.number ≡ old.number) × Stored r (Put old.number e (Ok tt) ∷ []) old.store new.store × Says old.held old.failed new.held new.failed (line_bytes e)
+      (new.number ≡ old.number) × CallsStore r (Put old.number e (Ok tt) ∷ []) old.store new.store × Says old.held old.failed new.held new.failed (line_bytes e)
   Recorded old e (Err f) new =
-      (new.number ≡ old.number) × ((fault : StoreFault) × (f ≡ sink_fault_of fault) × Stored r (Put old.number e (Err fault) ∷ []) old.store new.store) × (new.failed ≡ old.failed) × (new.held ≡ old.held)
+      (new.number ≡ old.number) × ((fault : StoreFault) × (f ≡ sink_fault_of fault) × CallsStore r (Put old.number e (Err fault) ∷ []) old.store new.store) × (new.failed ≡ old.failed) × (new.held ≡ old.held)

@@ -7,7 +7,7 @@ use Rattle.kt_store.specs.declared.result_store.StoreSpec as keeping
 use Rattle.kt_cli.specs.Inner.Pages.{Says}
 use Rattle.kt_cli.specs.Inner.Recording.{sink_fault_of}
 use Rattle.kt_cli.specs.Scenes.{Scene}
-use Rattle.kt_cli.specs.Stores.{Stored, puts}
+use Rattle.kt_cli.specs.Stores.{CallsStore, puts}
 use Rattle.kt_cli.specs.Totals.{lines}
 use Rattle.kt_cli.specs.Recordings.{AllRecorded, IsStopped}
 
@@ -48,6 +48,6 @@ module _ {L R : Type 0} (l : launcher.Ghosts L) (r : keeping.Ghosts R) (plan : L
     pub leads : Leads l.starts l.waits plan trace old.world new.world
     pub entries : List Entry
     pub last : List StoreCall
-    pub stored : Stored r (puts number entries ++ last) old.store new.store
+    pub stored : CallsStore r (puts number entries ++ last) old.store new.store
     pub says : Says old.held false new.held failed (lines entries)
     pub ends : RecordEnds plan n number trace entries last answer

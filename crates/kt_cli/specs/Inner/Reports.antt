@@ -1,10 +1,10 @@
 -- Output of the reports, as private functions write it.
 use Rattle.std.specs.Prelude.{ℕ, Bool, true, false, List, [], ◌∷◌, ◌++◌, ◌≡◌, ◌⊎◌, Option, None, Result, Ok, Err, drop, flat_map}
-use Rattle.kt_cli.specs.Types.{Date, Entry, IsDateOf, Kind, Outputs, Pairs, Run, Shows, StoreCall, by_section, case_bytes, ending, heading, last_kind, opening, summary, titled_lines}
+use Rattle.kt_cli.specs.Types.{Date, Entry, IsDateOf, Kind, Outputs, Pairs, Run, Shows, StoreCall, entries_by_section, case_bytes, ending, heading, last_kind, opening, summary, titled_lines}
 use Rattle.kt_store.specs.declared.result_store.StoreSpec as keeping
 use Rattle.kt_cli.specs.Pages.{Printed}
-use Rattle.kt_cli.specs.Stores.{Stored}
-use Rattle.kt_cli.specs.Reports.{DifferInOutputs, DifferInPairs, JunitCut, TextCut, Unread, asked_outputs, asked_pairs, ending_of, next_bytes}
+use Rattle.kt_cli.specs.Stores.{CallsStore}
+use Rattle.kt_cli.specs.Reports.{DifferInOutputs, DifferInPairs, JunitEndsEarly, TextEndsEarly, RunIsUnreadable, asked_outputs, asked_pairs, ending_of, next_bytes}
 use Rattle.kt_cli.specs.declared.commands.report_stop.JunitStop.{JunitStop}
 use Rattle.kt_cli.specs.declared.commands.report_stop.JunitStop.TheVariants.{Refused, Report}
 use Rattle.kt_cli.specs.declared.commands.report_stop.TextStop.{TextStop}
@@ -12,25 +12,25 @@ use Rattle.kt_cli.specs.declared.commands.report_stop.TextStop.TheVariants.{NoPa
 
 -- A predicate on reports that end early: whether a write failed, the calls, the bytes, and the exit
 -- status.
-abbrev pub Cuts : Type 1
-Cuts = Bool → List StoreCall → List ℕ → ℕ → Type 0
+abbrev pub EarlyEnd : Type 1
+EarlyEnd = Bool → List StoreCall → List ℕ → ℕ → Type 0
 
 -- `TextOrUnread number kinds verbose`: the run could not be read, or the text report ended early.
-abbrev pub TextOrUnread : Option ℕ → List Kind → Bool → Cuts
+abbrev pub TextOrUnread : Option ℕ → List Kind → Bool → EarlyEnd
 TextOrUnread number kinds verbose = λ failed calls bytes exit.
-    Unread number calls bytes exit ⊎ ((verbose ≡ true) × TextCut number kinds failed calls bytes exit)
+    RunIsUnreadable number calls bytes exit ⊎ ((verbose ≡ true) × TextEndsEarly number kinds failed calls bytes exit)
 
 -- `JunitOrUnread number`: the run could not be read, or the JUnit report ended early.
-abbrev pub JunitOrUnread : Option ℕ → Cuts
-JunitOrUnread number = λ failed calls bytes exit. Unread number calls bytes exit ⊎ JunitCut number failed calls bytes exit
+abbrev pub JunitOrUnread : Option ℕ → EarlyEnd
+JunitOrUnread number = λ failed calls bytes exit. RunIsUnreadable number calls bytes exit ⊎ JunitEndsEarly number failed calls bytes exit
 
 module _ {R : Type 0} (r : keeping.Ghosts R) where
   module _ (store after : R) (was now : Option (List ℕ)) where
-    -- `DidReport exit Means Cut`: a report made calls of the store and printed its output, by
+    -- `WritesReport exit Means Cut`: a report made calls of the store and printed its output, by
     -- `Means` or by `Cut`.
-    pub record DidReport (exit : ℕ) (Means : List StoreCall → List ℕ → ℕ → Type 0) (Cut : Cuts) : Type 0 where
+    pub record WritesReport (exit : ℕ) (Means : List StoreCall → List ℕ → ℕ → Type 0) (Cut : EarlyEnd) : Type 0 where
       pub calls : List StoreCall
-      pub stored : Stored r calls store after
+      pub stored : CallsStore r calls store after
       pub bytes : List ℕ
       pub due : ℕ
       pub printed : Printed was now exit bytes due
@@ -41,13 +41,13 @@ module _ {R : Type 0} (r : keeping.Ghosts R) where
     -- only some of the entries were written.
     abbrev pub EndsEntries : ℕ → Option Kind → List Entry → Result (Option Kind) TextStop → Type 0
     EndsEntries number before due (Ok last) =
-        (shown : List Entry) × DifferInPairs shown due × (last ≡ last_kind before shown) × Stored r (asked_pairs number shown) store after × Shows was now false (titled_lines true before shown)
+        (shown : List Entry) × DifferInPairs shown due × (last ≡ last_kind before shown) × CallsStore r (asked_pairs number shown) store after × Shows was now false (titled_lines true before shown)
     EndsEntries number before due (Err (NoPairs fault)) =
-        (shown rest : List Entry) × (e : Entry) × DifferInPairs (shown ++ e ∷ rest) due × Stored r
+        (shown rest : List Entry) × (e : Entry) × DifferInPairs (shown ++ e ∷ rest) due × CallsStore r
         (asked_pairs number shown ++ Pairs number e.position (Err fault) ∷ []) store after
         × Shows was now false (titled_lines true before shown ++ opening (last_kind before shown) e.verdict.kind)
     EndsEntries number before due (Err (Output fault)) =
-        (shown rest : List Entry) × DifferInPairs (shown ++ rest) due × Stored r (asked_pairs number shown) store after
+        (shown rest : List Entry) × DifferInPairs (shown ++ rest) due × CallsStore r (asked_pairs number shown) store after
         × ((end : List ℕ) → Shows was now true (titled_lines true before shown ++ next_bytes (last_kind before shown) rest end))
 
     -- `WritesEntries number before due answer`: `EndsEntries`, as a record.
@@ -58,12 +58,12 @@ module _ {R : Type 0} (r : keeping.Ghosts R) where
     -- or `answer` is the fault that ended the report.
     abbrev pub EndsText : List Kind → Run → Result (Unit {0}) TextStop → Type 0
     EndsText kinds run (Ok done) =
-        (shown : List Entry) × (date : Date) × IsDateOf run.started date × DifferInPairs shown (by_section kinds run.entries) × Stored r (asked_pairs run.number shown) store after
+        (shown : List Entry) × (date : Date) × IsDateOf run.started date × DifferInPairs shown (entries_by_section kinds run.entries) × CallsStore r (asked_pairs run.number shown) store after
         × Shows was now false (titled_lines true None shown ++ summary date run)
-    EndsText kinds run (Err (NoPairs fault)) = EndsEntries run.number None (by_section kinds run.entries) (Err (NoPairs fault))
+    EndsText kinds run (Err (NoPairs fault)) = EndsEntries run.number None (entries_by_section kinds run.entries) (Err (NoPairs fault))
     EndsText kinds run (Err (Output fault)) =
         (shown rest : List Entry) × (date : Date) × IsDateOf run.started date × DifferInPairs (shown ++ rest)
-        (by_section kinds run.entries) × Stored r (asked_pairs run.number shown) store after
+        (entries_by_section kinds run.entries) × CallsStore r (asked_pairs run.number shown) store after
         × Shows was now true (titled_lines true None shown ++ next_bytes (last_kind None shown) rest (summary date run))
 
     -- `WritesText kinds run answer`: `EndsText`, as a record.
@@ -73,21 +73,21 @@ module _ {R : Type 0} (r : keeping.Ghosts R) where
     -- `WritesFirst run count`: the heading of `run` and its first `count` cases were written.
     abbrev pub WritesFirst : Run → ℕ → Type 0
     WritesFirst run count =
-        (shown : List Entry) × DifferInOutputs (shown ++ drop count run.entries) run.entries × Stored r (asked_outputs run.number shown) store after
+        (shown : List Entry) × DifferInOutputs (shown ++ drop count run.entries) run.entries × CallsStore r (asked_outputs run.number shown) store after
         × Shows was now false (heading run ++ flat_map case_bytes shown)
 
     -- `EndsJunit run answer`: the outputs of each entry were read, and the JUnit report of `run`
     -- was written, or `answer` is the fault that ended the report.
     abbrev pub EndsJunit : Run → Result (Unit {0}) JunitStop → Type 0
     EndsJunit run (Ok done) =
-        (shown : List Entry) × DifferInOutputs shown run.entries × Stored r (asked_outputs run.number shown) store after
+        (shown : List Entry) × DifferInOutputs shown run.entries × CallsStore r (asked_outputs run.number shown) store after
         × Shows was now false (heading run ++ flat_map case_bytes shown ++ ending)
     EndsJunit run (Err (Refused fault)) =
         (shown rest : List Entry) × (e : Entry) × DifferInOutputs (shown ++ e ∷ rest) run.entries
-        × Stored r (asked_outputs run.number shown ++ Outputs run.number e.position (Err fault) ∷ []) store after
+        × CallsStore r (asked_outputs run.number shown ++ Outputs run.number e.position (Err fault) ∷ []) store after
         × Shows was now false (heading run ++ flat_map case_bytes shown)
     EndsJunit run (Err (Report fault)) =
-        (shown rest : List Entry) × DifferInOutputs (shown ++ rest) run.entries × Stored r (asked_outputs run.number shown) store after
+        (shown rest : List Entry) × DifferInOutputs (shown ++ rest) run.entries × CallsStore r (asked_outputs run.number shown) store after
         × Shows was now true (heading run ++ flat_map case_bytes shown ++ ending_of rest)
 
     -- `WritesJunit run answer`: `EndsJunit`, as a record.

@@ -5,18 +5,18 @@ use Rattle.kt_cli.specs.Types.{Leads, StoreCall, Trace}
 use Rattle.kt_store.specs.declared.result_store.StoreSpec as keeping
 use Rattle.kt_cli.specs.Pages.{Printed}
 use Rattle.kt_cli.specs.Scenes.{Scene}
-use Rattle.kt_cli.specs.Stores.{Stored}
-use Rattle.kt_cli.specs.Testing.{PlannedRun, TestCut, Tested}
+use Rattle.kt_cli.specs.Stores.{CallsStore}
+use Rattle.kt_cli.specs.Testing.{PlannedRun, TestEndsEarly, Tested}
 
 module _ {L R : Type 0} (l : launcher.Ghosts L) (r : keeping.Ghosts R) where
-  -- `RanPlan planned old new exit`: `planned` was run, with the events of the launcher, the calls
+  -- `ExecutesPlan planned old new exit`: `planned` was run, with the events of the launcher, the calls
   -- of the store, and the output.
-  pub record RanPlan (planned : PlannedRun) (old new : Scene L R) (exit : ℕ) : Type 0 where
+  pub record ExecutesPlan (planned : PlannedRun) (old new : Scene L R) (exit : ℕ) : Type 0 where
     pub trace : Trace
     pub leads : Leads l.starts l.waits planned.plan trace old.world new.world
     pub calls : List StoreCall
-    pub stored : Stored r calls old.store new.store
+    pub stored : CallsStore r calls old.store new.store
     pub bytes : List ℕ
     pub due : ℕ
-    pub is : Tested planned trace calls bytes due ⊎ TestCut planned trace calls bytes due
+    pub is : Tested planned trace calls bytes due ⊎ TestEndsEarly planned trace calls bytes due
     pub printed : Printed old.held new.held exit bytes due

@@ -1,5 +1,5 @@
 ghost use Rattle.std.specs.Prelude.{is_err};
-ghost use Rattle.kt_cli.specs.Common.{IsIdle, IsPlan, Debugged, AsksOnly};
+ghost use Rattle.kt_cli.specs.Common.{IsIdle, IsPlan, ExecutesDebug, ExecutesWithoutStore};
 ghost use Rattle.kt_args.specs.declared.command.Command.TheVariants as command;
 
 use crate::Exit;
@@ -24,7 +24,7 @@ fn print_cases<L: Launcher, O: Write>(
 ) -> (Result<Totals, RunFault>, Result<(), OutputFault>)
     requires plan { IsPlan plan }
     requires idle { IsIdle (L.running launcher.old) (L.pending launcher.old) }
-    ensures debugged { Debugged L.Launcher plan launcher.old launcher.new
+    ensures debugged { ExecutesDebug L.Launcher plan launcher.old launcher.new
         (O.contents out.old) (O.contents out.new) (is_err result.1) result.0 }
     ensures idle { IsIdle (L.running launcher.new) (L.pending launcher.new) }
 {
@@ -49,7 +49,7 @@ pub fn debug<W: World, O: Write>(
     out: &mut O,
 ) -> Exit
     requires { IsIdle (W.running world.old) (W.pending world.old) }
-    ensures asked { AsksOnly W.World (command.Debug options.now) world.old world.new
+    ensures asked { ExecutesWithoutStore W.World (command.Debug options.now) world.old world.new
         (O.contents out.old) (O.contents out.new) result.status }
     ensures idle { IsIdle (W.running world.new) (W.pending world.new) }
 {

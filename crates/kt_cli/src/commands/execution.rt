@@ -1,5 +1,5 @@
 ghost use Rattle.std.specs.Prelude.{IfOk, OnErr, ◌≡◌, ℕ, List};
-ghost use Rattle.kt_cli.specs.Common.{IsIdle, CommandResult, Scene, scene, DidAll, Run, Command, Left};
+ghost use Rattle.kt_cli.specs.Common.{IsIdle, CommandResult, Scene, scene, ExecutesAllCommands, Run, Command, StoreIsSound};
 
 use crate::Exit;
 use crate::commands::debugging::debug;
@@ -65,7 +65,7 @@ pub fn execute_all<W: World, R: ResultStore, O: Write>(
     out: &mut O,
 ) -> Result<Vec<Exit>, NoMemory>
     requires { IsIdle (W.running world.old) (W.pending world.old) }
-    ensures did { IfOk result (λ exits. DidAll W.World R.StoreSpec commands.now
+    ensures did { IfOk result (λ exits. ExecutesAllCommands W.World R.StoreSpec commands.now
         (scene world.old results.old (O.contents out.old))
         (scene world.new results.new (O.contents out.new)) exits.items) }
     ensures idle { IsIdle (W.running world.new) (W.pending world.new) }
@@ -91,5 +91,5 @@ pub fn execute_all<W: World, R: ResultStore, O: Write>(
 pub fn theorem_of_sound_stores<W: World, R: ResultStore>()
     ensures { (c : Command) (old new : Scene W R) (exit : ℕ) (runs : List Run)
         (did : CommandResult W.World R.StoreSpec c old new exit) → R.stands old.store runs
-        → R.sound new.store → Left did runs }
+        → R.sound new.store → StoreIsSound did runs }
 {}

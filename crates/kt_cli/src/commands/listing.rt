@@ -1,5 +1,5 @@
 ghost use Rattle.std.specs.Prelude.{is_err};
-ghost use Rattle.kt_cli.specs.Common.{Shows, IsIdle, listing, AsksOnly};
+ghost use Rattle.kt_cli.specs.Common.{Shows, IsIdle, listing, ExecutesWithoutStore};
 ghost use Rattle.kt_args.specs.declared.command.Command.TheVariants as command;
 
 use crate::Exit;
@@ -37,7 +37,7 @@ pub fn list<W: World, O: Write>(
     out: &mut O,
 ) -> Exit
     requires { IsIdle (W.running world.old) (W.pending world.old) }
-    ensures asked { AsksOnly W.World (command.List options.now) world.old world.new
+    ensures asked { ExecutesWithoutStore W.World (command.List options.now) world.old world.new
         (O.contents out.old) (O.contents out.new) result.status }
     ensures idle { IsIdle (W.running world.new) (W.pending world.new) }
 {

@@ -31,9 +31,9 @@ pub fn sink_fault(fault: StoreFault) -> SinkFault
 
 impl<R: ResultStore, O: Write> Sink for Recorder<'_, R, O> {
     ghost use Rattle.std.specs.Prelude.{◌≡◌, is_err};
-    ghost use Rattle.kt_cli.specs.Common.{Recorded, recording, Took};
+    ghost use Rattle.kt_cli.specs.Common.{Recorded, recording, HasRecorded};
 
-    ghost entries = { λ s put. Took R.stands s.number s.results.now put };
+    ghost entries = { λ s put. HasRecorded R.stands s.number s.results.now put };
 
     ghost puts = { λ s e r t. (t.results.ghost_name ≡ s.results.ghost_name)
         × (t.out.ghost_name ≡ s.out.ghost_name) × Recorded R.StoreSpec

@@ -1,5 +1,5 @@
 ghost use Rattle.std.specs.Prelude.{◌≡◌, ◌∷◌, [], None, is_err};
-ghost use Rattle.kt_cli.specs.Common.{utf8, Shows, TextOrUnread, JunitOrUnread, DidReport, WritesEntries, WritesJunit, WritesText, by_section, chosen_of, Reported, ReportedJunit, IsMissing, ReadsRun, not_shown_line};
+ghost use Rattle.kt_cli.specs.Common.{utf8, Shows, TextOrUnread, JunitOrUnread, WritesReport, WritesEntries, WritesJunit, WritesText, entries_by_section, chosen_of, Reported, ReportedJunit, IsMissing, ReadsRun, not_shown_line};
 
 use crate::Exit;
 use crate::commands::report_stop::{JunitStop, ReportError, TextStop};
@@ -52,7 +52,7 @@ fn read_run<R: ResultStore>(number: Option<u64>, results: &mut R) -> Result<Run,
 }
 
 /// Writes the error line of a run that can't be shown.
-fn write_not_shown<O: Write>(why: ReportError, out: &mut O) -> Result<(), OutputFault>
+fn write_report_error<O: Write>(why: ReportError, out: &mut O) -> Result<(), OutputFault>
     ensures { Shows (O.contents out.old) (O.contents out.new) (is_err result)
         (utf8 (not_shown_line why)) }
 {
@@ -122,7 +122,7 @@ fn write_sections<R: ResultStore, O: Write>(
     out: &mut O,
 ) -> Result<Option<Kind>, TextStop>
     ensures { WritesEntries R.StoreSpec results.old results.new (O.contents out.old)
-        (O.contents out.new) run.now.number None (by_section kinds.now run.now.entries) result }
+        (O.contents out.new) run.now.number None (entries_by_section kinds.now run.now.entries) result }
 {
     let mut last = None;
     for kind in text_order() {
@@ -160,13 +160,13 @@ pub fn report<R: ResultStore, O: Write>(
     results: &mut R,
     out: &mut O,
 ) -> Exit
-    ensures { DidReport R.StoreSpec results.old results.new (O.contents out.old)
+    ensures { WritesReport R.StoreSpec results.old results.new (O.contents out.old)
         (O.contents out.new) result.status (Reported number kinds.now verbose)
         (TextOrUnread number kinds.now verbose) }
 {
     let run = match read_run(number, results) {
         Ok(run) => run,
-        Err(why) => return ended(write_not_shown(why, out), FAILED),
+        Err(why) => return ended(write_report_error(why, out), FAILED),
     };
     if !verbose {
         return ended(text(&run, kinds, false, out), 0);
@@ -208,12 +208,12 @@ pub fn report_junit<R: ResultStore, O: Write>(
     results: &mut R,
     out: &mut O,
 ) -> Exit
-    ensures { DidReport R.StoreSpec results.old results.new (O.contents out.old)
+    ensures { WritesReport R.StoreSpec results.old results.new (O.contents out.old)
         (O.contents out.new) result.status (ReportedJunit number) (JunitOrUnread number) }
 {
     let run = match read_run(number, results) {
         Ok(run) => run,
-        Err(why) => return ended(write_not_shown(why, out), FAILED),
+        Err(why) => return ended(write_report_error(why, out), FAILED),
     };
     match write_junit(alloc, &run, results, out) {
         Ok(()) => Exit { status: 0 },

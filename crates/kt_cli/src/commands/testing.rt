@@ -1,5 +1,5 @@
 ghost use Rattle.std.specs.Prelude.{◌≤◌, length, is_err, false};
-ghost use Rattle.kt_cli.specs.Common.{Shows, utf8, IsIdle, IsMoment, IsPlan, IsWidth, most_items, CommandResult, Says, Records, RanPlan, scene, ending, run_for, totals_text};
+ghost use Rattle.kt_cli.specs.Common.{Shows, utf8, IsIdle, IsMoment, IsPlan, IsWidth, item_limit, CommandResult, Says, Records, ExecutesPlan, scene, ending, run_for, totals_text};
 ghost use Rattle.kt_args.specs.declared.command.Command.TheVariants as command;
 
 use crate::Exit;
@@ -8,7 +8,7 @@ use crate::messages::{stopped, write_memory, write_refusal, write_run_fault, wri
 use crate::output::exit::{FAILED, ended, status_of};
 use kt_args::CaseOptions;
 use kt_base::{Decimal, Items, OutputFault, Text, emit_all};
-use kt_plan::{Chosen, Picked, World, prepare, select_cases};
+use kt_plan::{Chosen, CommandSelection, World, prepare, select_cases};
 use kt_sched::{Job, Launcher, RunFault, Totals, run_cases};
 use kt_store::ResultStore;
 use std::alloc::Global;
@@ -102,7 +102,7 @@ fn write_ending<O: Write>(
 struct PlannedRun<'a> {
     plan: Items<Job>,
     options: &'a CaseOptions,
-    picked: &'a Picked,
+    picked: &'a CommandSelection,
     moment: u64,
 }
 
@@ -115,10 +115,10 @@ fn run_plan<L: Launcher, R: ResultStore, O: Write>(
     out: &mut O,
 ) -> Exit
     requires plan { IsPlan planned.plan }
-    requires few { length planned.plan ≤ most_items }
+    requires few { length planned.plan ≤ item_limit }
     requires moment { IsMoment planned.moment }
     requires idle { IsIdle (L.running launcher.old) (L.pending launcher.old) }
-    ensures ran { RanPlan L.Launcher R.StoreSpec
+    ensures ran { ExecutesPlan L.Launcher R.StoreSpec
         (run_for planned.entry.plan planned.entry.options.now planned.entry.picked.now
         planned.entry.moment)
         (scene launcher.old results.old (O.contents out.old))

@@ -1,7 +1,7 @@
 ghost use Rattle.std.specs.Prelude.{Result, drop, map};
 ghost use Rattle.kt_args.specs.Common.{into_iter_items, string_bytes};
 ghost use Rattle.kt_args.specs.declared.command_fault.CommandFault.{CommandFault as Fault};
-ghost use Rattle.kt_cli.specs.Common.{CarriedOut, Command, IsSaid, line_state, program, state};
+ghost use Rattle.kt_cli.specs.Common.{RunsArguments, Command, IsCommandOfArgs, line_state, program, state};
 
 use crate::host::performing::run_command;
 use crate::{HostFiles, HostHandles, LineOutput, ResultsHost};
@@ -24,8 +24,8 @@ pub fn run_args<M: HostFiles + Drop, O: Os + Drop, P: ResultsHost, W: Write, E: 
     errors: &mut E,
 ) -> (u8, HostHandles<M, O>)
     ensures { (command : Result Command Fault)
-        × IsSaid (λ all. map (λ word. string_bytes word) (drop 1 (into_iter_items all))) words command
-        × CarriedOut (program M.HostFiles O.Os P.ResultsHost P.Results.StoreSpec) command
+        × IsCommandOfArgs (λ all. map (λ word. string_bytes word) (drop 1 (into_iter_items all))) words command
+        × RunsArguments (program M.HostFiles O.Os P.ResultsHost P.Results.StoreSpec) command
         (state platform.old outside) (state platform.new result.1)
         (record { out = line_state W.contents out.old; errors = E.contents errors.old })
         (record { out = line_state W.contents out.new; errors = E.contents errors.new })

@@ -1,5 +1,5 @@
 ghost use Rattle.std.specs.Prelude.{◌≡◌, IfOk, IfErr, OnErr};
-ghost use Rattle.kt_cli.specs.Common.{chars, IsIdle, is_among, shown_in, IsMade, NoDriver, NoRoot, OnDriver, source_directory, scene};
+ghost use Rattle.kt_cli.specs.Common.{chars, IsIdle, is_among, shown_in, IsMade, NoDriver, NoRoot, ExecutesOverDriver, source_directory, scene};
 
 use crate::{Exit, HostFiles, HostHandles, HostWorld, ProcessEnv, execute};
 use kt_args::{CaseOptions, Command};
@@ -67,7 +67,7 @@ pub fn execute_over_cases<M: HostFiles + Drop, O: Os + Drop, S: ResultStore, W: 
     results: &mut S,
     out: &mut W,
 ) -> Result<(Exit, HostHandles<M, O>), (DriverFault, HostHandles<M, O>)>
-    ensures did { IfOk result (λ done. OnDriver M.HostFiles O.Os S.StoreSpec
+    ensures did { IfOk result (λ done. ExecutesOverDriver M.HostFiles O.Os S.StoreSpec
         (scene outside results.old (W.contents out.old))
         (scene done.1 results.new (W.contents out.new))
         around options.now command.now done.0.status) }

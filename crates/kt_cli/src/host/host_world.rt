@@ -23,9 +23,9 @@ pub struct HostWorld<M: Drop, O: Os + Drop> {
 }
 
 impl<M: HostFiles + Drop, O: Os + Drop> Tree for HostWorld<M, O> {
-    ghost use Rattle.kt_cli.specs.HostAnswers.{IsLook};
+    ghost use Rattle.kt_cli.specs.HostAnswers.{IsFileCall};
 
-    ghost asks = { IsLook M.answers };
+    ghost asks = { IsFileCall M.answers };
 
     fn read(&mut self, path: &Text) -> Result<Bytes, ReadFault> {
         let mut room = [0u8; LONGEST_PATH];

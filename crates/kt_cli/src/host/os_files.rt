@@ -2,7 +2,7 @@ ghost use Rattle.std.specs.Prelude.{◌≡◌, ◌≤◌, IfOk, length};
 ghost use Rattle.kt_cli.specs.Common.{may_execute, read_limit};
 
 use crate::HostFiles;
-use kt_base::{Bytes, LATEST_MOMENT, NoMemory};
+use kt_base::{Bytes, LATEST_MOMENT_MILLIS, NoMemory};
 use kt_child::read_start;
 use kt_suite::ReadFault;
 use std::fs::File;
@@ -85,7 +85,7 @@ impl<R: Files<File = File> + Clock + AllocGlobal> HostFiles for OsFiles<'_, R> {
             return 0;
         };
         match u64::try_from(since.as_millis()) {
-            Ok(millis) if millis <= LATEST_MOMENT => millis,
+            Ok(millis) if millis <= LATEST_MOMENT_MILLIS => millis,
             _ => 0,
         }
     }

@@ -1,5 +1,5 @@
 ghost use Rattle.std.specs.Prelude.{◌≡◌};
-ghost use Rattle.kt_cli.specs.Common.{access_of, given_bytes, line_state, CarriedOut, WithResults, OverProcesses, program, scene, state, Rejected};
+ghost use Rattle.kt_cli.specs.Common.{access_of, given_bytes, line_state, RunsArguments, WithResults, OverProcesses, program, scene, state, Rejected};
 
 use crate::commands::reporting::{report, report_junit};
 use crate::host::host_execution::execute_over_cases;
@@ -121,7 +121,7 @@ pub fn run_command<M: HostFiles + Drop, O: Os + Drop, P: ResultsHost, W: Write, 
     out: &mut LineOutput<W>,
     errors: &mut E,
 ) -> (Exit, HostHandles<M, O>)
-    ensures { CarriedOut (program M.HostFiles O.Os P.ResultsHost P.Results.StoreSpec) command
+    ensures { RunsArguments (program M.HostFiles O.Os P.ResultsHost P.Results.StoreSpec) command
         (state platform.old outside) (state platform.new result.1)
         (record { out = line_state W.contents out.old; errors = E.contents errors.old })
         (record { out = line_state W.contents out.new; errors = E.contents errors.new })

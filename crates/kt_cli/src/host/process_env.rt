@@ -67,7 +67,7 @@ fn variable<R: Env + AllocGlobal>(
 /// Copies the path of the working directory out of the system's result.
 ///
 /// Fails with `NoWorkDirectory` if the system returned an error other than out of memory.
-fn here_of(alloc: Global, answer: io::Result<PathBuf>) -> Result<Text, DriverFault>
+fn working_directory_of(alloc: Global, answer: io::Result<PathBuf>) -> Result<Text, DriverFault>
     ensures { IsWorkingDirectory (result_map_both path_buf_bytes (λ error. error) answer) result }
 {
     match answer {
@@ -109,7 +109,7 @@ impl ProcessEnv {
     pub fn of_process<R: Env + AllocGlobal>(rt: &R) -> Result<ProcessEnv, DriverFault>
         ensures { IsFound result }
     {
-        let here = here_of(rt.alloc(), env::current_dir(rt))?;
+        let here = working_directory_of(rt.alloc(), env::current_dir(rt))?;
         match ProcessEnv::new(rt, here) {
             Ok(around) => Ok(around),
             Err(refusal) => Err(DriverFault::NoMemory(refusal)),

@@ -1,4 +1,4 @@
-ghost use Rattle.kt_cli.specs.Machines.{InDirectory, IsSought, Searched, directories};
+ghost use Rattle.kt_cli.specs.Machines.{HasProgram, IsFoundByPath, SearchesDirectories, directories};
 
 use crate::HostFiles;
 use crate::host::host_path::{LONGEST_PATH, joined_path};
@@ -6,7 +6,7 @@ use kt_base::{Text, has_slash, is_absolute};
 
 /// Returns `true` if a directory has a program. The empty directory is the working directory.
 fn is_in<M: HostFiles>(machine: &mut M, directory: &str, name: &str) -> bool
-    ensures { InDirectory M.answers name.now directory.now result machine.old machine.new }
+    ensures { HasProgram M.answers name.now directory.now result machine.old machine.new }
 {
     let mut room = [0u8; LONGEST_PATH];
     let between = if directory.is_empty() { "" } else { "/" };
@@ -18,7 +18,7 @@ fn is_in<M: HostFiles>(machine: &mut M, directory: &str, name: &str) -> bool
 
 /// Returns `true` if one of the directories in `among`, separated by colons, has a program.
 fn is_among<M: HostFiles>(machine: &mut M, among: &str, name: &str) -> bool
-    ensures { Searched M.answers name.now (directories among.now) result machine.old machine.new }
+    ensures { SearchesDirectories M.answers name.now (directories among.now) result machine.old machine.new }
 {
     let mut rest = among;
     while let Some((directory, behind)) = rest.split_once(':') {
@@ -35,7 +35,7 @@ fn is_among<M: HostFiles>(machine: &mut M, among: &str, name: &str) -> bool
 /// A program with an absolute path must be at that path. A name without a slash must be in a
 /// directory of `path`, the value of `PATH`. Other names are not found.
 pub fn is_found<M: HostFiles>(machine: &mut M, path: &Option<Text>, name: &Text) -> bool
-    ensures { IsSought M.answers path.now name.now result machine.old machine.new }
+    ensures { IsFoundByPath M.answers path.now name.now result machine.old machine.new }
 {
     let word = name.as_str();
     if is_absolute(word) {

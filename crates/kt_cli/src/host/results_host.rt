@@ -8,13 +8,13 @@ use kt_store::{Access, ResultStore, StoreFault};
 /// An implementation may return any result that the contracts allow. The contracts of commands are
 /// about the results that were returned.
 pub trait ResultsHost {
-    ghost use Rattle.kt_cli.specs.Platforms.{Provided, Opened, Closed, Found};
+    ghost use Rattle.kt_cli.specs.Platforms.{HostCall, Opened, Closed, Found};
 
     /// A store of the runs in an open results file.
     type Results: ResultStore + Drop;
 
     /// A relation: a call with its result leads from the first state to the second.
-    ghost provides: { Self → Provided Self.Results → Self → Type 0 };
+    ghost provides: { Self → HostCall Self.Results → Self → Type 0 };
 
     /// Opens a results file, to add a run or only to read runs.
     ///

@@ -59,7 +59,7 @@ impl HeldBytes {
     /// Writes the buffered bytes, and returns `true` if a write failed.
     ///
     /// Bytes that were not written stay, moved to the start of the buffer.
-    pub fn hand_on<W: Write>(&mut self, out: &mut W) -> bool
+    pub fn write_buffered<W: Write>(&mut self, out: &mut W) -> bool
         ensures bytes { Keeps (append_known (W.contents out.old) self.old)
             (append_known (W.contents out.new) self.new) }
         ensures all { result ≡ false → self.new ≡ [] }

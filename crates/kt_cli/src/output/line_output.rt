@@ -32,7 +32,7 @@ fn broken() -> io::Error {
 
 impl<W: Write> LineOutput<W> {
     ghost use Rattle.std.specs.Prelude.{◌≡◌, [], false};
-    ghost use Rattle.kt_cli.specs.Common.{Keeps, given_bytes, is_broken, unwritten, line_state, Flushed};
+    ghost use Rattle.kt_cli.specs.Common.{Keeps, given_bytes, is_broken, unwritten, line_state, FlushesOutput};
 
     /// Creates a writer with an empty buffer. Allocates nothing.
     ///
@@ -67,7 +67,7 @@ impl<W: Write> LineOutput<W> {
 
     /// Flushes the output of a command, and returns its exit status, or 2 if the flush fails.
     pub fn finish(&mut self, exit: Exit) -> Exit
-        ensures { Flushed (given_bytes W.contents self.old) (line_state W.contents self.new)
+        ensures { FlushesOutput (given_bytes W.contents self.old) (line_state W.contents self.new)
             exit.status result.status }
     {
         match self.flush() {
@@ -79,7 +79,7 @@ impl<W: Write> LineOutput<W> {
 
 impl<W: Write> Write for LineOutput<W> {
     ghost use Rattle.std.specs.Prelude.{◌≡◌, ◌<◌, true, is_err, length, IfOk};
-    ghost use Rattle.kt_cli.specs.Common.{WritesAtMost, Keeps, WriteAppends, HandedOn, given_bytes, has_failed, is_broken, unflushed, unwritten};
+    ghost use Rattle.kt_cli.specs.Common.{WritesAtMost, Keeps, WriteAppends, FlushResult, given_bytes, has_failed, is_broken, unflushed, unwritten};
 
     ghost contents = { given_bytes W.contents };
 
@@ -102,13 +102,13 @@ impl<W: Write> Write for LineOutput<W> {
         if self.held.len() < ROOM && !has_line {
             return Ok(taken);
         }
-        self.failed = self.held.hand_on(&mut self.out);
+        self.failed = self.held.write_buffered(&mut self.out);
         Ok(taken)
     }
 
     fn flush(&mut self) -> io::Result<()>
         ensures bytes { Keeps (given_bytes W.contents self.old) (given_bytes W.contents self.new) }
-        ensures ends { HandedOn (has_failed self.new) (unflushed self.new) (unwritten self.new)
+        ensures ends { FlushResult (has_failed self.new) (unflushed self.new) (unwritten self.new)
             (is_err result) }
         ensures silent { is_broken self.old ≡ true → (self.new ≡ self.old)
             × (is_err result ≡ true) }
@@ -116,7 +116,7 @@ impl<W: Write> Write for LineOutput<W> {
         if self.is_broken() {
             return Err(broken());
         }
-        self.failed = self.held.hand_on(&mut self.out);
+        self.failed = self.held.write_buffered(&mut self.out);
         if self.failed {
             return Err(broken());
         }

@@ -217,7 +217,7 @@ impl ResultStore for MemRuns {
 ghost use Rattle.std.specs.Prelude.{◌≡◌, ◌≤◌, ◌==◌, IfSome, length, insert, OnOk, OnErr};
 ghost use Rattle.kt_cli.specs.Common.{find, option_copied, IsStoreFault, head_of, has_position, insert_at, entry_refusal, closing_refusal, place_among};
 ghost use Rattle.kt_base.specs.declared.entry.Entry.{Entry as Recorded};
-ghost use Rattle.kt_base.specs.declared.entry.Run.{Run as Stored};
+ghost use Rattle.kt_base.specs.declared.entry.Run.{Run as RunValue};
 
 /// Converts a failed allocation to a fault of the store.
 fn short(refusal: NoMemory) -> StoreFault
@@ -240,7 +240,7 @@ fn head(run: &Run) -> RunHead
 
 /// Returns the first run with the number.
 fn run_numbered(runs: &[Run], number: u64) -> Option<&Run>
-    ensures found { option_copied result ≡ find (λ (r : Stored). r.number == number) runs.now }
+    ensures found { option_copied result ≡ find (λ (r : RunValue). r.number == number) runs.now }
     ensures numbered { IfSome (option_copied result) (λ r. r.number ≡ number) }
 {
     runs.iter().find(|run| run.number == number)

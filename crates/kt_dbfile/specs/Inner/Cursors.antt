@@ -43,33 +43,33 @@ pub record Places (columns : List ℕ) (key : Row) (mine table index : List Row)
 abbrev pub in_columns : List ℕ → Row → Row
 in_columns columns row = map (column row) columns
 
--- `Shows columns mine shown`: `shown` are `columns` of rows that are `mine` without their rowids
-abbrev pub Shows : List ℕ → List Row → List Row → Type 0
-Shows columns mine shown = (rows : List Row) × (map (drop 1) rows ≡ mine) × (shown ≡ map (in_columns columns) rows)
+-- `SelectsColumns columns mine shown`: `shown` are `columns` of rows that are `mine` without their rowids
+abbrev pub SelectsColumns : List ℕ → List Row → List Row → Type 0
+SelectsColumns columns mine shown = (rows : List Row) × (map (drop 1) rows ≡ mine) × (shown ≡ map (in_columns columns) rows)
 
--- `ShowsUnder table index key columns trees shown`: `shown` are `columns` of the rows that the
+-- `SelectsUnderKey table index key columns trees shown`: `shown` are `columns` of the rows that the
 -- index has under `key`, if `Places` holds
-abbrev pub ShowsUnder : ℕ → ℕ → Row → List ℕ → Trees → List Row → Type 0
-ShowsUnder table index key columns trees shown = (cs : List ℕ) (mine : List Row)
-    → (IsShaped Table (trees table) → IsIndex plain (trees index) → Places cs key mine (trees table) (trees index)) → Shows columns mine shown
+abbrev pub SelectsUnderKey : ℕ → ℕ → Row → List ℕ → Trees → List Row → Type 0
+SelectsUnderKey table index key columns trees shown = (cs : List ℕ) (mine : List Row)
+    → (IsShaped Table (trees table) → IsIndex plain (trees index) → Places cs key mine (trees table) (trees index)) → SelectsColumns columns mine shown
 
--- `FindsUnder table index key trees found`: `found` is the first row that the index has under
+-- `FindsFirstUnderKey table index key trees found`: `found` is the first row that the index has under
 -- `key`, if there is one and `Places` holds
-abbrev pub FindsUnder : ℕ → ℕ → Row → Trees → Option Row → Type 0
-FindsUnder table index key trees found = (cs : List ℕ) (mine : List Row)
+abbrev pub FindsFirstUnderKey : ℕ → ℕ → Row → Trees → Option Row → Type 0
+FindsFirstUnderKey table index key trees found = (cs : List ℕ) (mine : List Row)
     → (IsShaped Table (trees table) → IsIndex plain (trees index) → Places cs key mine (trees table) (trees index)) → option_map (drop 1) found ≡ slice_get mine 0
 
--- `Goes key table old place row new found`: a cursor over the index entries `old` returned `place`,
+-- `CursorReturns key table old place row new found`: a cursor over the index entries `old` returned `place`,
 -- which begins with `key`, and its `row`, and has `new` left; or its next entry, if any, doesn't
 -- begin with `key`
-abbrev pub Goes : Row → List Row → List Row → Row → Row → List Row → Bool → Type 0
-Goes key table old place row new true =
+abbrev pub CursorReturns : Row → List Row → List Row → Row → Row → List Row → Bool → Type 0
+CursorReturns key table old place row new true =
     (old ≡ place ∷ new) × (begins key place ≡ true) × ((front : Row) (id : ℤ) → place ≡ front ++ Int id ∷ [] → filter (has_rowid id) table ≡ row ∷ [])
-Goes key table old place row new false = AllByRecursion (λ e. begins key e ≡ false) (take 1 old)
+CursorReturns key table old place row new false = AllByRecursion (λ e. begins key e ≡ false) (take 1 old)
 
--- `CountsUnder table index key trees n`: the index has `n` entries under `key`, if `Places` holds
-abbrev pub CountsUnder : ℕ → ℕ → Row → Trees → ℕ → Type 0
-CountsUnder table index key trees n = (cs : List ℕ) (mine : List Row)
+-- `CountsUnderKey table index key trees n`: the index has `n` entries under `key`, if `Places` holds
+abbrev pub CountsUnderKey : ℕ → ℕ → Row → Trees → ℕ → Type 0
+CountsUnderKey table index key trees n = (cs : List ℕ) (mine : List Row)
     → (IsShaped Table (trees table) → IsIndex plain (trees index) → Places cs key mine (trees table) (trees index)) → n ≡ length mine
 
 -- `IsLast rows found`: `found` is the last of `rows`, or `None` if there is no row
@@ -77,17 +77,17 @@ abbrev pub IsLast : List Row → Option Row → Type 0
 IsLast rows None = rows ≡ []
 IsLast rows (Some row) = (front : List Row) × (rows ≡ front ++ row ∷ [])
 
--- `LooksThrough old new`: the transaction was not broken, and only cursors moved
-abbrev pub LooksThrough : View → View → Type 0
-LooksThrough old new = (old.is_broken ≡ false) × (new ≡ record old { cursors = new.cursors })
+-- `OnlyMovesCursors old new`: the transaction was not broken, and only cursors moved
+abbrev pub OnlyMovesCursors : View → View → Type 0
+OnlyMovesCursors old new = (old.is_broken ≡ false) × (new ≡ record old { cursors = new.cursors })
 
 -- `HoldsCommit old new`: the last commit is unchanged, while the store is open
 abbrev pub HoldsCommit : View → View → Type 0
 HoldsCommit old new = IsTrue new.is_open → IsTrue old.is_open × (new.committed ≡ old.committed)
 
--- `Looks g old new`: the store was only read. It shows the same trees unless it is broken now, and
+-- `OnlyReadsStore g old new`: the store was only read. It shows the same trees unless it is broken now, and
 -- a crash leaves what it left before.
-pub record Looks {S : Type 0} (g : Ghosts S) (old new : S) : Type 0 where
+pub record OnlyReadsStore {S : Type 0} (g : Ghosts S) (old new : S) : Type 0 where
   pub clean : IsClean (g.view new) → IsClean (g.view old)
   pub schema : KeepsSchema (g.view old) (g.view new)
   pub same : IsClean (g.view new) → (g.view new).is_broken ≡ false → g.view new ≡ record (g.view old) { cursors = (g.view new).cursors }

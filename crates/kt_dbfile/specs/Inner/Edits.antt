@@ -13,14 +13,14 @@ use Rattle.kt_dbfile.specs.Inner.Cursors.{HoldsCommit}
 use Rattle.kt_store.specs.Inner.Runs.{HasTexts}
 use Rattle.kt_store.specs.Runs.{Keeps, entry_row, pair_rows}
 use Rattle.kt_dbfile.specs.Inner.Known.{HasRuns}
-use Rattle.kt_store.specs.Serving.{Agrees, changed_by}
+use Rattle.kt_store.specs.Serving.{Agrees, runs_after}
 use Rattle.kt_store.specs.StoreCalls.{StoreCall}
 use Rattle.kt_dbfile.specs.declared.places.Places.{Places}
 use Rattle.kt_store.specs.Types.{Entry, Ghosts, Int, IsClean, Null, Row, Run, Trees, View}
 use Rattle.kt_store.specs.declared.store_fault.StoreFault.{StoreFault}
 
--- `Obeys v schema`: the transaction is not broken, and its trees list `schema` and obey it
-pub record Obeys (v : View) (schema : Schema) : Type 0 where
+-- `ObeysSchema v schema`: the transaction is not broken, and its trees list `schema` and obey it
+pub record ObeysSchema (v : View) (schema : Schema) : Type 0 where
   pub unbroken : v.is_broken ≡ false
   pub sound : IsSound schema v.trees
 
@@ -41,33 +41,33 @@ module _ (schema : Schema) where
 abbrev pub unnumbered : Row → Row
 unnumbered row = Null ∷ row
 
--- `begun_row total started`: the row of a new run, without a rowid
-abbrev pub begun_row : ℕ → ℕ → Row
-begun_row total started = Null ∷ Null ∷ Int (pos started) ∷ Int (pos total) ∷ Int (pos 0) ∷ []
+-- `new_run_row total started`: the row of a new run, without a rowid
+abbrev pub new_run_row : ℕ → ℕ → Row
+new_run_row total started = Null ∷ Null ∷ Int (pos started) ∷ Int (pos total) ∷ Int (pos 0) ∷ []
 
--- `Fills schema places run e old new`: the entry `e` was written into its table, then its pairs
+-- `WritesEntryRows schema places run e old new`: the entry `e` was written into its table, then its pairs
 -- into their table
-abbrev pub Fills : Schema → Places → ℕ → Entry → Trees → Trees → Type 0
-Fills schema places run' e old new =
+abbrev pub WritesEntryRows : Schema → Places → ℕ → Entry → Trees → Trees → Type 0
+WritesEntryRows schema places run' e old new =
     HasTexts e × ((mid : Trees) × PutsRows schema places.entries.at [] Chosen 0 (unnumbered (entry_row run' e) ∷ []) old mid
     × PutsRows schema places.props.at [] Chosen 0 (map unnumbered (pair_rows run' e)) mid new)
 
 module _ {S : Type 0} (g : Ghosts S) (schema : Schema) where
-  -- `Wrote g schema call old new result`: a call wrote its rows or failed, and committed nothing.
+  -- `WritesRows g schema call old new result`: a call wrote its rows or failed, and committed nothing.
   -- The last commit is unchanged, and a crash leaves what it left before. On success, the trees are
   -- those of the changed runs.
-  pub record Wrote {T : Type 0} (call : Result T StoreFault → StoreCall) (old new : S) (result : Result T StoreFault) : Type 0 where
+  pub record WritesRows {T : Type 0} (call : Result T StoreFault → StoreCall) (old new : S) (result : Result T StoreFault) : Type 0 where
     pub clean : IsClean (g.view new) → IsClean (g.view old)
     pub held : IsClean (g.view new) → HoldsCommit (g.view old) (g.view new)
     pub outcomes : (db : Trees) → g.recovers new db → g.recovers old db
-    pub obeys : IsClean (g.view new) → OnOk result (Obeys (g.view new) schema)
+    pub obeys : IsClean (g.view new) → OnOk result (ObeysSchema (g.view new) schema)
     pub agrees : (runs : List Run) → HasRuns (g.view old) runs → IsClean (g.view new) → Agrees runs (call result)
-    pub rows : (runs : List Run) → HasRuns (g.view old) runs → IsClean (g.view new) → OnOk result (Keeps (changed_by (call result) runs) (g.view new).trees)
+    pub rows : (runs : List Run) → HasRuns (g.view old) runs → IsClean (g.view new) → OnOk result (Keeps (runs_after (call result) runs) (g.view new).trees)
 
 module _ {S : Type 0} (g : Ghosts S) where
-  -- `Ended g old new written result`: the written rows were committed. If `written` is an error or
+  -- `EndsTransaction g old new written result`: the written rows were committed. If `written` is an error or
   -- the commit failed, the transaction was rolled back.
-  pub record Ended {T : Type 0} (old new : S) (written result : Result T StoreFault) : Type 0 where
+  pub record EndsTransaction {T : Type 0} (old new : S) (written result : Result T StoreFault) : Type 0 where
     pub value : IfOk result (λ value. written ≡ Ok value)
     pub fault : IfErr result (λ e. (written ≡ Err e) ⊎ IsStoreFault e)
     pub clean : IsClean (g.view new) → IsClean (g.view old)

@@ -1,6 +1,6 @@
 -- The runs that the trees of a store represent, and the indexes of their tables.
 use Rattle.std.specs.Prelude.{◌≡◌, false, List, ℕ, suc, [], ◌∷◌, ⊤, Some}
-use Rattle.kt_store.specs.Runs.{AreNumbered, AreOrdered, Keeps, KeepsOne}
+use Rattle.kt_store.specs.Runs.{AreNumbered, AreOrdered, Keeps, IsSchema2OfOne}
 use Rattle.kt_store.specs.Seeks.{HasCommitted}
 use Rattle.kt_store.specs.declared.result_store.StoreSpec as store
 use Rattle.sqlite_schema.specs.Names.{column_named}
@@ -13,10 +13,10 @@ use Rattle.kt_store.specs.Types.{Ghosts, IsClean, Run, Trees, View}
 abbrev pub HasRuns : View → List Run → Type 0
 HasRuns v runs = IsClean v → v.is_broken ≡ false → Keeps runs v.trees
 
--- `OnTrees g old new P`: `P` holds for the runs that the trees represented before a call, if the
+-- `HoldsForTrees g old new P`: `P` holds for the runs that the trees represented before a call, if the
 -- disk is clean after the call
-abbrev pub OnTrees : {S : Type 0} → Ghosts S → S → S → (List Run → Type 0) → Type 0
-OnTrees g old new P = (runs : List Run) → HasRuns (g.view old) runs → IsClean (g.view new) → P runs
+abbrev pub HoldsForTrees : {S : Type 0} → Ghosts S → S → S → (List Run → Type 0) → Type 0
+HoldsForTrees g old new P = (runs : List Run) → HasRuns (g.view old) runs → IsClean (g.view new) → P runs
 
 module _ {S : Type 0} (g : Ghosts S) where
   -- `by_trees Has`: the specification of a store that represents `runs` if `Has` holds for its view
@@ -26,7 +26,7 @@ module _ {S : Type 0} (g : Ghosts S) where
     answers = λ _ _ _. Unit {0};
     stands = λ s runs. Has (g.view s) runs × AreNumbered 1 runs × (IsClean (g.view s) → AreOrdered runs);
     sound = λ s. IsClean (g.view s);
-    leaves = λ s may. IsClean (g.view s) → (trees : Trees) → g.recovers s trees → KeepsOne may trees;
+    leaves = λ s may. IsClean (g.view s) → (trees : Trees) → g.recovers s trees → IsSchema2OfOne may trees;
     numbered = λ s runs h. h.1;
     ordered = λ s runs h sound. h.2 sound;
   }
@@ -48,7 +48,7 @@ AreNamed table at (name ∷ names) = (column_named table name ≡ Some at) × Ar
 abbrev pub places_2 : Places
 places_2 = record { runs = record { at = 1; tree = 2 }; entries = record { at = 2; tree = 3 }; entry_keys = 4; props = record { at = 3; tree = 5 }; pair_keys = 6 }
 
--- `StandAt places v`: `places` are those of schema 2, if the store represents runs and is not
+-- `ArePlacesOf places v`: `places` are those of schema 2, if the store represents runs and is not
 -- broken
-abbrev pub StandAt : Places → View → Type 0
-StandAt places v = IsClean v → v.is_broken ≡ false → (runs : List Run) → Keeps runs v.trees → places ≡ places_2
+abbrev pub ArePlacesOf : Places → View → Type 0
+ArePlacesOf places v = IsClean v → v.is_broken ≡ false → (runs : List Run) → Keeps runs v.trees → places ≡ places_2

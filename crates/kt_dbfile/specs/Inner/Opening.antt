@@ -9,8 +9,8 @@ use Rattle.sqlite_store.specs.declared.store.open.Unopened.{Unopened}
 use Rattle.sqlite_store.specs.Listing.{file_trees, IsOurs}
 use Rattle.sqlite_store.specs.Unopened.{state_of, wanted_by, image}
 use Rattle.sqlite.specs.Opening.{HoldsAt}
-use Rattle.kt_store.specs.Runs.{Keeps, SaysIn}
-use Rattle.kt_store.specs.Attaching.{DatabaseBefore, IsOf, TakesTables}
+use Rattle.kt_store.specs.Runs.{Keeps, HasSchemaNumber}
+use Rattle.kt_store.specs.Attaching.{DatabaseBefore, IsOf, AttachSucceeds}
 use Rattle.kt_store.specs.Files.{Follows, IsReadAs}
 use Rattle.kt_store.specs.Seeks.{HasCommitted, HoldsRuns}
 use Rattle.kt_store.specs.Stands.{StandsFor}
@@ -24,9 +24,9 @@ module _ {D : Type 0} {g : Ghosts D} (image : Image) (store : FileStore D g) whe
     pub holds : (runs : List Run) → HoldsRuns image runs → (view store).is_broken ≡ false → Keeps runs (view store).trees
     pub leaves : (runs : List Run) → HoldsRuns image runs → (trees : Trees) → recovers store trees → Keeps runs trees
 
--- `SaysAnother trees`: the schema number in `trees` isn't 2
-abbrev pub SaysAnother : Trees → Type 0
-SaysAnother trees = (n : ℤ) × (n ≢ pos 2) × SaysIn n trees
+-- `HasOtherSchema trees`: the schema number in `trees` isn't 2
+abbrev pub HasOtherSchema : Trees → Type 0
+HasOtherSchema trees = (n : ℤ) × (n ≢ pos 2) × HasSchemaNumber n trees
 
 -- `IsOfOptions pages options`: a store with `options` caches `pages` read pages and 2,000 written
 -- pages
@@ -35,15 +35,15 @@ pub record IsOfOptions (pages : ℕ) (options : Options) : Type 0 where
   pub written : options.spill_pages ≡ 2000
 
 module _ {D : Type 0} (g : Ghosts D) (old left : Files D) where
-  -- `IsLeft g old left`: the files were only read
-  pub record IsLeft : Type 0 where
+  -- `IsOnlyRead g old left`: the files were only read
+  pub record IsOnlyRead : Type 0 where
     pub log : IsTrue (g.is_usable left.log)
     pub db : IsTrue (g.is_usable left.db)
     pub read : AreClean g left.log left.db → AreClean g old.log old.db × IsReadAs (image_of g old) (image_of g left)
 
 module _ {D : Type 0} {g : Ghosts D} (old new : Unopened D g) where
-  -- `RecoversAgain old new`: the files recover as before
-  pub record RecoversAgain : Type 0 where
+  -- `RecoversAsBefore old new`: the files recover as before
+  pub record RecoversAsBefore : Type 0 where
     pub honest : IsTrue (state_of old).is_clean
     pub pages : PageMap
     pub found : Recovers (state_of old).page_size (image old) pages
@@ -61,14 +61,14 @@ module _ {D : Type 0} {g : Ghosts D} (old new : Unopened D g) where
     pub fits : (runs : List Run) (db : Trees) → HoldsAt (state_of old).page_size (image old) db → Keeps runs db
         → IsOurs (state_of old).page_size true (wanted_by new) pages × (db ≡ file_trees (state_of old).page_size (wanted_by new) pages)
 
--- `IsTaken g conn it`: the tables of `conn` were attached, and the store `it` has the last commit
+-- `IsAttached g conn it`: the tables of `conn` were attached, and the store `it` has the last commit
 -- of the results; a crash leaves what it left of the results
-abbrev pub IsTaken : {S : Type 0} → StoreGhosts S → Held S → S → Type 0
-IsTaken g conn it = (results : Held _) × ((was : DatabaseBefore) → IsOf was (state g conn) → TakesTables was (state g conn) (state g results))
+abbrev pub IsAttached : {S : Type 0} → StoreGhosts S → Held S → S → Type 0
+IsAttached g conn it = (results : Held _) × ((was : DatabaseBefore) → IsOf was (state g conn) → AttachSucceeds was (state g conn) (state g results))
     × ((runs : List Run) → StandsFor (state g results) runs → HasCommitted (g.view it) runs)
     × (IsClean (g.view it) → HasCleanDisk (state g results)) × ((trees : Trees) → g.recovers it trees → (state g results).may_leave trees)
     × (IsClean (g.view it) → IsTrue (g.view it).is_numbered)
 
--- `IsTakenOf conn it`: `IsTaken` for a store over files
-abbrev pub IsTakenOf : {D : Type 0} {g : Ghosts D} → Held (FileStore D g) → FileStore D g → Type 0
-IsTakenOf conn it = (results : Held _) × ((was : DatabaseBefore) → IsOf was (file_state conn) → TakesTables was (file_state conn) (file_state results)) × Follows results it
+-- `IsAttachedFiles conn it`: `IsAttached` for a store over files
+abbrev pub IsAttachedFiles : {D : Type 0} {g : Ghosts D} → Held (FileStore D g) → FileStore D g → Type 0
+IsAttachedFiles conn it = (results : Held _) × ((was : DatabaseBefore) → IsOf was (file_state conn) → AttachSucceeds was (file_state conn) (file_state results)) × Follows results it

@@ -11,15 +11,15 @@ use Rattle.kt_plan.specs.Stops.{IsShort}
 use Rattle.kt_plan.specs.Reply.{Reply, Lists}
 use Rattle.kt_plan.specs.Collecting.{Collects, CollectsFirst, item_of, variables_for}
 
--- `RanShort outcome`: `outcome` is the error of an allocation that failed while the tree was
+-- `LoadStopsForMemory outcome`: `outcome` is the error of an allocation that failed while the tree was
 -- loaded.
-abbrev pub RanShort : Outcome → Type 0
-RanShort outcome = (fault : SuiteFault) × IsNoMemory fault × (outcome ≡ Err fault)
+abbrev pub LoadStopsForMemory : Outcome → Type 0
+LoadStopsForMemory outcome = (fault : SuiteFault) × IsNoMemory fault × (outcome ≡ Err fault)
 
 -- `LoadsOrShort kyuafile asked outcome`: `outcome` is the result of loading `kyuafile` by the calls
 -- `asked`, or the error of a failed allocation. In that case, `asked` are the first calls.
 abbrev pub LoadsOrShort : List ℕ → List Asked → Outcome → Type 0
-LoadsOrShort kyuafile asked outcome = (RanShort outcome × LoadsFirst kyuafile asked) ⊎ Loads kyuafile asked outcome
+LoadsOrShort kyuafile asked outcome = (LoadStopsForMemory outcome × LoadsFirst kyuafile asked) ⊎ Loads kyuafile asked outcome
 
 -- `places_from filters place cases`: the indexes of those `cases` that `filters` select. The first
 -- case has the index `place`.

@@ -8,14 +8,14 @@ use Rattle.kt_suite.specs.Disjoint.{IsDisjoint}
 use Rattle.kt_plan.specs.declared.stop.Stop.TheVariants as stop
 use Rattle.kt_plan.specs.Stops.{IsShort}
 use Rattle.kt_plan.specs.Reply.{Reply}
-use Rattle.kt_plan.specs.Configuring.{IsClash, ReadsFirst, Settles, behind, in_front}
+use Rattle.kt_plan.specs.Configuring.{IsClash, ReadsFirst, ReadsSettings, behind, cons_result}
 
--- `unread_stop fault`: the `Stop` of a command that can't read its configuration file because of
+-- `config_read_stop fault`: the `Stop` of a command that can't read its configuration file because of
 -- `fault`.
-abbrev pub unread_stop : ReadFault → Stop
-unread_stop Missing = stop.UnreadConfiguration
-unread_stop Failed = stop.UnreadConfiguration
-unread_stop (Memory refusal) = stop.NoMemory refusal
+abbrev pub config_read_stop : ReadFault → Stop
+config_read_stop Missing = stop.UnreadConfiguration
+config_read_stop Failed = stop.UnreadConfiguration
+config_read_stop (Memory refusal) = stop.NoMemory refusal
 
 -- `Gives outcome meant`: if `meant` has definitions, `outcome` is a configuration with the last
 -- values of these definitions. If `meant` is a `Stop`, `outcome` is this `Stop`.
@@ -25,22 +25,22 @@ Gives (Ok config) (Err fault) = ⊥
 Gives (Err found) (Ok definitions) = ⊥
 Gives (Err found) (Err fault) = found ≡ fault
 
--- `Configured Means outcome`: `Means` holds of some definitions or `Stop`, and `Gives` relates
+-- `HasConfiguration Means outcome`: `Means` holds of some definitions or `Stop`, and `Gives` relates
 -- `outcome` to them.
-pub record Configured (Means : Result (List Definition) Stop → Type 0) (outcome : Result Values Stop) : Type 0 where
+pub record HasConfiguration (Means : Result (List Definition) Stop → Type 0) (outcome : Result Values Stop) : Type 0 where
   pub meant : Result (List Definition) Stop
   pub means : Means meant
   pub gives : Gives outcome meant
 
--- `GivesMore config outcome meant`: `outcome` is `config` with the definitions `meant` after its
+-- `AppendsDefinitions config outcome meant`: `outcome` is `config` with the definitions `meant` after its
 -- own definitions, or the `Stop` of `meant`.
-abbrev pub GivesMore : Values → Result Values Stop → Result (List Definition) Stop → Type 0
-GivesMore config outcome meant = (before : List Definition) → Holds config before → Gives outcome (behind before meant)
+abbrev pub AppendsDefinitions : Values → Result Values Stop → Result (List Definition) Stop → Type 0
+AppendsDefinitions config outcome meant = (before : List Definition) → Holds config before → Gives outcome (behind before meant)
 
--- `GivesOne config outcome meant`: `outcome` is `config` with the definition `meant` after its own
+-- `AppendsDefinition config outcome meant`: `outcome` is `config` with the definition `meant` after its own
 -- definitions, or the `Stop` of `meant`.
-abbrev pub GivesOne : Values → Result Values Stop → Result Definition Stop → Type 0
-GivesOne config outcome meant = GivesMore config outcome (in_front meant (Ok []))
+abbrev pub AppendsDefinition : Values → Result Values Stop → Result Definition Stop → Type 0
+AppendsDefinition config outcome meant = AppendsDefinitions config outcome (cons_result meant (Ok []))
 
 -- `config_or_stop config stop`: `stop` as an error if there is one, else `config`.
 abbrev pub config_or_stop : Values → Option Stop → Result Values Stop
@@ -60,13 +60,13 @@ pub data ChecksTogether (words : List (List ℕ)) (filters : List Filter) : Opti
   apart : IsDisjoint filters → ChecksTogether words filters None
   shared : (word : List ℕ) (fault : FilterFault) → IsClash words filters word fault → ChecksTogether words filters (Some (stop.Filter word fault))
 
--- `OrShort result path answers fact`: `fact` holds, or `result` is the error of a failed
+-- `HoldsOrShort result path answers fact`: `fact` holds, or `result` is the error of a failed
 -- allocation. In that case, `answers` has no call, or only the read of the configuration file at
 -- `path`.
-abbrev pub OrShort : {T : Type 0} → Result T Stop → Option (List ℕ) → List Reply → Type 0 → Type 0
-OrShort result path answers fact = (IsShort result × ReadsFirst path answers) ⊎ fact
+abbrev pub HoldsOrShort : {T : Type 0} → Result T Stop → Option (List ℕ) → List Reply → Type 0 → Type 0
+HoldsOrShort result path answers fact = (IsShort result × ReadsFirst path answers) ⊎ fact
 
--- `SettlesOrShort needs_case options answers result`: `result` is the result of `Settles`, or the
+-- `ReadsSettingsOrShort needs_case options answers result`: `result` is the result of `ReadsSettings`, or the
 -- error of a failed allocation. In that case, `answers` are the first calls for the settings.
-abbrev pub SettlesOrShort : Bool → CaseOptions → List Reply → Result Settings Stop → Type 0
-SettlesOrShort needs_case options answers result = OrShort result options.config answers (Settles needs_case options answers result)
+abbrev pub ReadsSettingsOrShort : Bool → CaseOptions → List Reply → Result Settings Stop → Type 0
+ReadsSettingsOrShort needs_case options answers result = HoldsOrShort result options.config answers (ReadsSettings needs_case options answers result)

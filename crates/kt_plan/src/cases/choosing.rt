@@ -1,5 +1,5 @@
 ghost use Rattle.std.specs.Prelude.{◌≡◌, ◌≤◌, ◌<◌, ◌+◌, ◌⊎◌, ◌∷◌, ◌++◌, List, ℕ, length, map, IfOk, IfErr, OnOk};
-ghost use Rattle.kt_plan.specs.Common.{Filter, most_items, Candidate, item_of, selected_cases, chosen_of, places_from, RanOut};
+ghost use Rattle.kt_plan.specs.Common.{Filter, item_limit, Candidate, item_of, selected_cases, chosen_of, places_from, StopsForMemory};
 ghost use Rattle.kt_plan.specs.declared.stop.Stop.TheVariants as stop;
 
 use crate::{Candidate, Chosen, Stop};
@@ -50,7 +50,7 @@ fn kept(
     found: Items<Candidate>,
     places: &[usize],
 ) -> Result<Items<Candidate>, NoMemory>
-    requires { length found ≤ most_items }
+    requires { length found ≤ item_limit }
     ensures { (filters : List Filter) → places.now ≡ places_from filters 0 found
         → IfOk result (λ cases. cases ≡ selected_cases filters found) }
 {
@@ -72,9 +72,9 @@ fn kept(
 /// - `NoMemory`: an allocation fails.
 pub fn choose(alloc: Global, filters: &[Filter], found: Items<Candidate>) -> Result<Chosen, Stop>
     ensures chosen { IfOk result (λ chosen. chosen ≡ chosen_of filters.now found) }
-    ensures few { OnOk result (length found ≤ most_items) }
-    ensures stopped { IfErr result (λ fault. RanOut fault
-        ⊎ ((fault ≡ stop.TooManyCases) × (most_items < length found))) }
+    ensures few { OnOk result (length found ≤ item_limit) }
+    ensures stopped { IfErr result (λ fault. StopsForMemory fault
+        ⊎ ((fault ≡ stop.TooManyCases) × (item_limit < length found))) }
 {
     let items = items_of(alloc, found.as_slice())?;
     match select(alloc, items.as_slice(), filters) {

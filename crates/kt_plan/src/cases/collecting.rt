@@ -1,12 +1,12 @@
 ghost use Rattle.std.specs.Prelude.{◌≡◌, ◌≤◌, ◌⊎◌, length, IfOk};
-ghost use Rattle.kt_plan.specs.Common.{IsIdle, IsNoMemory, most_items, Collected, Answered, Blames, no_memory, program_limit, LoadsOrShort, SelectsOrShort, leads_by};
+ghost use Rattle.kt_plan.specs.Common.{IsIdle, IsNoMemory, item_limit, Collected, Answered, Blames, no_memory, program_limit, LoadsOrShort, SelectsOrShort, leads_by};
 ghost use Rattle.kt_base.specs.declared.no_memory.NoMemory.{NoMemory as OutOfMemory};
 ghost use Rattle.kt_plan.specs.declared.stop.Stop.TheVariants as stop;
 
 use crate::cases::choosing::choose;
 use crate::cases::offering::offered;
 use crate::options::configuring::settle;
-use crate::{Chosen, Picked, Settings, Stop, World};
+use crate::{Chosen, CommandSelection, Settings, Stop, World};
 use kt_args::CaseOptions;
 use kt_base::{Items, NoMemory, Text};
 use kt_suite::{Program, SuiteCause, SuiteFault, Tree, load, split_path};
@@ -48,7 +48,7 @@ fn fault_of(alloc: Global, file: &Text, cause: SuiteCause) -> SuiteFault
 /// - [`SuiteFault`] with the first error of the Kyuafiles. A path that ends in a slash has the
 ///   cause `Unreadable`.
 /// - [`SuiteFault`] with the cause `NoMemory`: an allocation fails.
-pub fn programs_of<T: Tree>(
+pub fn load_programs<T: Tree>(
     alloc: Global,
     kyuafile: &Text,
     tree: &mut T,
@@ -103,10 +103,10 @@ pub fn collect<W: World>(
     requires { IsIdle (W.running world.old) (W.pending world.old) }
     ensures collected { Collected W.asks W.replies settings.now kyuafile.now
         world.old world.new result }
-    ensures few { IfOk result (λ chosen. length chosen.cases ≤ most_items) }
+    ensures few { IfOk result (λ chosen. length chosen.cases ≤ item_limit) }
     ensures idle { IsIdle (W.running world.new) (W.pending world.new) }
 {
-    let programs = match programs_of(alloc, kyuafile, world) {
+    let programs = match load_programs(alloc, kyuafile, world) {
         Ok(programs) => programs,
         Err(fault) => return Err(tree_stop(fault)),
     };
@@ -138,14 +138,14 @@ pub fn select_cases<W: World>(
     needed: bool,
     options: &CaseOptions,
     world: &mut W,
-) -> Result<Picked, Stop>
+) -> Result<CommandSelection, Stop>
     requires { IsIdle (W.running world.old) (W.pending world.old) }
     ensures selects { Answered (leads_by W.asks W.replies) world.old world.new
         (λ questions. SelectsOrShort needed options.now questions result) }
-    ensures few { IfOk result (λ picked. length picked.chosen.cases ≤ most_items) }
+    ensures few { IfOk result (λ picked. length picked.chosen.cases ≤ item_limit) }
     ensures idle { IsIdle (W.running world.new) (W.pending world.new) }
 {
     let settings = settle(alloc, needed, options, world)?;
     let chosen = collect(alloc, &settings, &options.kyuafile, world)?;
-    Ok(Picked { settings, chosen })
+    Ok(CommandSelection { settings, chosen })
 }

@@ -45,7 +45,7 @@ pub struct Chosen {
 
 /// A selection of cases, with the settings of its command.
 #[derive(Drop)]
-pub struct Picked {
+pub struct CommandSelection {
     /// The settings of the command.
     pub settings: Settings,
     /// The selected cases.

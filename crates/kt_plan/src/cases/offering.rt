@@ -32,7 +32,7 @@ fn listed_cases<W: World>(
 ///
 /// The result is empty for an ATF program of which no filter may match a case. Such a program is
 /// not run.
-fn own_cases<W: World>(
+fn cases_of_program<W: World>(
     alloc: Global,
     settings: &Settings,
     program: &Program,
@@ -102,14 +102,14 @@ pub fn offered<W: World>(
 {
     let mut found = Items::new(alloc);
     for program in programs {
-        let cases = own_cases(alloc, settings, program, world)?;
+        let cases = cases_of_program(alloc, settings, program, world)?;
         add_candidates(program, cases, &mut found)?;
     }
     Ok(found)
 }
 
 /// Returns `true` if one of `filters` may match a case of the program at `path`.
-fn may_match_any(filters: &[Filter], path: &Text) -> bool
+fn any_may_match(filters: &[Filter], path: &Text) -> bool
     ensures { IsTrue result ↔ ((one : Filter) × Contains filters.now one × MayMatch one path.now) }
 {
     for filter in filters {
@@ -126,5 +126,5 @@ fn may_match_any(filters: &[Filter], path: &Text) -> bool
 fn is_wanted(filters: &[Filter], program: &Program) -> bool
     ensures { IsTrue result ↔ IsWanted filters.now program.now }
 {
-    filters.is_empty() || may_match_any(filters, &program.path)
+    filters.is_empty() || any_may_match(filters, &program.path)
 }

@@ -48,7 +48,7 @@ fn position_of(fault: FilterFault) -> usize
 /// Returns the `Stop` of the first filter that matches a case of an earlier filter, if any.
 ///
 /// `words` are the arguments of `filters`.
-fn clash_of(words: &[Text], filters: &[Filter]) -> Result<Option<Stop>, NoMemory>
+fn overlap_stop(words: &[Text], filters: &[Filter]) -> Result<Option<Stop>, NoMemory>
     requires { length words.now ≡ length filters.now }
     ensures { IfOk result (λ found. ChecksTogether words.now filters.now found) }
 {
@@ -97,7 +97,7 @@ pub fn read_filters(alloc: Global, needs_case: bool, words: &[Text]) -> Result<I
     ensures { IsShort result ⊎ Filters needs_case words.now result }
 {
     let filters = parse_filters(alloc, words)??;
-    if let Some(fault) = clash_of(words, filters.as_slice())? {
+    if let Some(fault) = overlap_stop(words, filters.as_slice())? {
         return Err(fault);
     }
     if lacks_case(needs_case, filters.as_slice()) {

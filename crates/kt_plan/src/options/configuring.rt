@@ -1,5 +1,5 @@
 ghost use Rattle.std.specs.Prelude.{◌≡◌, Some, IfOk};
-ghost use Rattle.kt_plan.specs.Common.{IsIdle, Answered, unread_stop, Configured, GivesMore, config_or_stop, OrShort, SettlesOrShort, GivesOne, words_meaning, Configures, IsConfiguration, ReadsConfig, or_stop, word_meaning, definition_named, variables_for};
+ghost use Rattle.kt_plan.specs.Common.{IsIdle, Answered, config_read_stop, HasConfiguration, AppendsDefinitions, config_or_stop, HoldsOrShort, ReadsSettingsOrShort, AppendsDefinition, argument_definitions, Configures, IsConfiguration, ReadsConfig, or_stop, argument_definition, definition_named, variables_for};
 
 use crate::options::case_filters::read_filters;
 use crate::{Settings, Stop, World};
@@ -29,7 +29,7 @@ pub fn variables_for(alloc: Global, config: &Config, suite: &Text) -> Result<Var
 ///
 /// Returns a `Stop` with the name if the configuration rejects the variable.
 fn set(config: &mut Config, name: Text, value: &Text) -> Result<Option<Stop>, NoMemory>
-    ensures { IfOk result (λ stop. GivesOne config.old (config_or_stop config.new stop)
+    ensures { IfOk result (λ stop. AppendsDefinition config.old (config_or_stop config.new stop)
         (or_stop (Stop.Variable name) (definition_named name value.now))) }
 {
     match config.set(&name, value) {
@@ -42,9 +42,9 @@ fn set(config: &mut Config, name: Text, value: &Text) -> Result<Option<Stop>, No
 /// Sets the variable of `word`, an argument `NAME=VALUE`.
 ///
 /// Returns a `Stop` if the argument lacks a `=`, or if the configuration rejects the variable.
-fn set_word(config: &mut Config, word: &Text) -> Result<Option<Stop>, NoMemory>
+fn set_argument(config: &mut Config, word: &Text) -> Result<Option<Stop>, NoMemory>
     ensures { IfOk result (λ stop.
-        GivesOne config.old (config_or_stop config.new stop) (word_meaning word.now)) }
+        AppendsDefinition config.old (config_or_stop config.new stop) (argument_definition word.now)) }
 {
     let (name, value) = word.split_at_first('=')?;
     match value {
@@ -57,7 +57,7 @@ fn set_word(config: &mut Config, word: &Text) -> Result<Option<Stop>, NoMemory>
 ///
 /// The inner error is the `Stop` of a file that is not valid.
 fn config_of(alloc: Global, bytes: &[u8]) -> Result<Result<Config, Stop>, NoMemory>
-    ensures { IfOk result (Configured (IsConfiguration bytes.now)) }
+    ensures { IfOk result (HasConfiguration (IsConfiguration bytes.now)) }
 {
     match Config::read(alloc, bytes) {
         Ok(config) => Ok(Ok(config)),
@@ -67,8 +67,8 @@ fn config_of(alloc: Global, bytes: &[u8]) -> Result<Result<Config, Stop>, NoMemo
 }
 
 /// Returns the `Stop` of a command that can't read its configuration file because of `fault`.
-fn unread_stop(fault: ReadFault) -> Stop
-    ensures { result ≡ unread_stop fault }
+fn config_read_stop(fault: ReadFault) -> Stop
+    ensures { result ≡ config_read_stop fault }
 {
     match fault {
         ReadFault::Memory(refusal) => Stop::NoMemory(refusal),
@@ -78,24 +78,24 @@ fn unread_stop(fault: ReadFault) -> Stop
 
 /// Reads and parses a configuration file.
 fn read_config<W: World>(alloc: Global, path: &Text, world: &mut W) -> Result<Config, Stop>
-    ensures { Answered W.replies world.old world.new (λ answers. OrShort result (Some path.now)
-        answers (Configured (ReadsConfig (Some path.now) answers) result)) }
+    ensures { Answered W.replies world.old world.new (λ answers. HoldsOrShort result (Some path.now)
+        answers (HasConfiguration (ReadsConfig (Some path.now) answers) result)) }
 {
     match world.config(path) {
         Ok(bytes) => config_of(alloc, bytes.as_slice())?,
-        Err(fault) => Err(unread_stop(fault)),
+        Err(fault) => Err(config_read_stop(fault)),
     }
 }
 
 /// Reads and parses the configuration file of a command, or creates an empty configuration if no
 /// file is given.
-fn config_given<W: World>(
+fn read_given_config<W: World>(
     alloc: Global,
     options: &CaseOptions,
     world: &mut W,
 ) -> Result<Config, Stop>
-    ensures { Answered W.replies world.old world.new (λ answers. OrShort result
-        options.now.config answers (Configured (ReadsConfig options.now.config answers) result)) }
+    ensures { Answered W.replies world.old world.new (λ answers. HoldsOrShort result
+        options.now.config answers (HasConfiguration (ReadsConfig options.now.config answers) result)) }
 {
     match &options.config {
         None => Ok(Config::new(alloc)),
@@ -106,12 +106,12 @@ fn config_given<W: World>(
 /// Sets the variables of the arguments of `-v`, in order.
 ///
 /// The inner error is the `Stop` of the first argument with an error.
-fn set_words(config: Config, words: &[Text]) -> Result<Result<Config, Stop>, NoMemory>
-    ensures { IfOk result (λ outcome. GivesMore config outcome (words_meaning words.now)) }
+fn set_arguments(config: Config, words: &[Text]) -> Result<Result<Config, Stop>, NoMemory>
+    ensures { IfOk result (λ outcome. AppendsDefinitions config outcome (argument_definitions words.now)) }
 {
     let mut config = config;
     for word in words {
-        if let Some(stop) = set_word(&mut config, word)? {
+        if let Some(stop) = set_argument(&mut config, word)? {
             return Ok(Err(stop));
         }
     }
@@ -120,11 +120,11 @@ fn set_words(config: Config, words: &[Text]) -> Result<Result<Config, Stop>, NoM
 
 /// Creates the configuration of a command: reads its file, and then sets the variables of `-v`.
 fn configure<W: World>(alloc: Global, options: &CaseOptions, world: &mut W) -> Result<Config, Stop>
-    ensures { Answered W.replies world.old world.new (λ answers. OrShort result
-        options.now.config answers (Configured (Configures options.now answers) result)) }
+    ensures { Answered W.replies world.old world.new (λ answers. HoldsOrShort result
+        options.now.config answers (HasConfiguration (Configures options.now answers) result)) }
 {
-    let config = config_given(alloc, options, world)?;
-    set_words(config, options.variables.as_slice())?
+    let config = read_given_config(alloc, options, world)?;
+    set_arguments(config, options.variables.as_slice())?
 }
 
 /// Reads the settings of a command over test cases: its configuration and its filters.
@@ -152,7 +152,7 @@ pub fn settle<W: World>(
 ) -> Result<Settings, Stop>
     requires { IsIdle (W.running world.old) (W.pending world.old) }
     ensures settled { Answered W.replies world.old world.new
-        (λ answers. SettlesOrShort needs_case options.now answers result) }
+        (λ answers. ReadsSettingsOrShort needs_case options.now answers result) }
     ensures idle { IsIdle (W.running world.new) (W.pending world.new) }
 {
     let config = configure(alloc, options, world)?;

@@ -1,5 +1,5 @@
 ghost use Rattle.std.specs.Prelude.{◌≡◌, ◌∷◌, [], MatchResult};
-ghost use Rattle.kt_plan.specs.Common.{Answered, Notes, LooksFor, meta_in, needs_among, needs_by, needs_in, needs_of, Surveys, SurveysFirst, AreFirst, Finds, IsIdle};
+ghost use Rattle.kt_plan.specs.Common.{Answered, RecordsFound, ChecksNeeds, meta_in, needs_among, needs_by, needs_in, needs_of, Surveys, SurveysFirst, IsCallPrefix, Finds, IsIdle};
 
 use crate::{Candidate, World};
 use kt_base::{NoMemory, Text};
@@ -17,15 +17,15 @@ fn is_found<W: World>(need: Need, word: &Text, world: &mut W) -> bool
 }
 
 /// Checks that the required file or program `word` exists, and records it in `host` if it does.
-fn look_for_word<W: World>(
+fn check_need<W: World>(
     need: Need,
     word: &Text,
     world: &mut W,
     host: &mut Host,
 ) -> Result<(), NoMemory>
     ensures { Answered W.replies world.old world.new (λ answers. MatchResult result
-        (λ _. LooksFor ((need, word.now) ∷ []) answers × Notes answers host.old host.new)
-        (λ _. AreFirst (LooksFor ((need, word.now) ∷ [])) answers)) }
+        (λ _. ChecksNeeds ((need, word.now) ∷ []) answers × RecordsFound answers host.old host.new)
+        (λ _. IsCallPrefix (ChecksNeeds ((need, word.now) ∷ [])) answers)) }
 {
     if !is_found(need, word, world) {
         return Ok(());
@@ -37,18 +37,18 @@ fn look_for_word<W: World>(
 /// Checks which of the required files or programs `words` exist, in order.
 ///
 /// Records those that exist in `host`.
-fn look_for_words<W: World>(
+fn check_needs<W: World>(
     need: Need,
     words: &[Text],
     world: &mut W,
     host: &mut Host,
 ) -> Result<(), NoMemory>
     ensures { Answered W.replies world.old world.new (λ answers. MatchResult result
-        (λ _. LooksFor (needs_in need words.now) answers × Notes answers host.old host.new)
-        (λ _. AreFirst (LooksFor (needs_in need words.now)) answers)) }
+        (λ _. ChecksNeeds (needs_in need words.now) answers × RecordsFound answers host.old host.new)
+        (λ _. IsCallPrefix (ChecksNeeds (needs_in need words.now)) answers)) }
 {
     for word in words {
-        look_for_word(need, word, world, host)?;
+        check_need(need, word, world, host)?;
     }
     Ok(())
 }
@@ -69,20 +69,20 @@ fn kinds_of(candidate: &Candidate) -> &'static [Need]
 /// Checks which of the files and programs that a case requires exist, in order.
 ///
 /// Records those that exist in `host`.
-fn look_for_case<W: World>(
+fn check_case_needs<W: World>(
     candidate: &Candidate,
     world: &mut W,
     host: &mut Host,
 ) -> Result<(), NoMemory>
     ensures { Answered W.replies world.old world.new (λ answers. MatchResult result
-        (λ _. LooksFor (needs_by candidate.now.case.fault (meta_in candidate.now)) answers
-        × Notes answers host.old host.new)
-        (λ _. AreFirst (LooksFor (needs_by candidate.now.case.fault (meta_in candidate.now)))
+        (λ _. ChecksNeeds (needs_by candidate.now.case.fault (meta_in candidate.now)) answers
+        × RecordsFound answers host.old host.new)
+        (λ _. IsCallPrefix (ChecksNeeds (needs_by candidate.now.case.fault (meta_in candidate.now)))
         answers)) }
 {
     let props = &candidate.case.props;
     for need in kinds_of(candidate) {
-        look_for_words(*need, props.needed(*need), world, host)?;
+        check_needs(*need, props.needed(*need), world, host)?;
     }
     Ok(())
 }
@@ -90,17 +90,17 @@ fn look_for_case<W: World>(
 /// Checks which of the files and programs that the cases require exist, in the order of the cases.
 ///
 /// Records those that exist in `host`.
-fn look_for_all<W: World>(
+fn check_all_needs<W: World>(
     cases: &[Candidate],
     world: &mut W,
     host: &mut Host,
 ) -> Result<(), NoMemory>
     ensures { Answered W.replies world.old world.new (λ answers. MatchResult result
-        (λ _. LooksFor (needs_of cases.now) answers × Notes answers host.old host.new)
-        (λ _. AreFirst (LooksFor (needs_of cases.now)) answers)) }
+        (λ _. ChecksNeeds (needs_of cases.now) answers × RecordsFound answers host.old host.new)
+        (λ _. IsCallPrefix (ChecksNeeds (needs_of cases.now)) answers)) }
 {
     for candidate in cases {
-        look_for_case(candidate, world, host)?;
+        check_case_needs(candidate, world, host)?;
     }
     Ok(())
 }
@@ -127,6 +127,6 @@ pub fn survey<W: World>(alloc: Global, cases: &[Candidate], world: &mut W) -> Re
     let memory = world.memory();
     let disk = world.disk();
     let mut host = Host::new(alloc, root, memory, disk);
-    look_for_all(cases, world, &mut host)?;
+    check_all_needs(cases, world, &mut host)?;
     Ok(host)
 }

@@ -1,5 +1,5 @@
 ghost use Rattle.std.specs.Prelude.{◌≡◌, ◌≤◌, ◌&&◌, length, IfOk, MatchResult};
-ghost use Rattle.kt_plan.specs.Common.{Values, meta_in, first_reason, rows, variables_for, IsPlan, most_items, is_atf, ArePlanned, IsDecided, IsJobOf, IsIdle, Answered, Surveys, SurveysFirst};
+ghost use Rattle.kt_plan.specs.Common.{Values, meta_in, first_reason, rows, variables_for, IsPlan, item_limit, is_atf, ArePlanned, IsDecided, IsJobOf, IsIdle, Answered, Surveys, SurveysFirst};
 ghost use Rattle.kt_metadata.specs.declared.host.Host.{Host as Surveyed};
 
 use crate::plan::looking::survey;
@@ -133,7 +133,7 @@ pub fn make_plan(
     host: &Host,
     cases: &[Candidate],
 ) -> Result<Items<Job>, NoMemory>
-    requires { length cases.now ≤ most_items }
+    requires { length cases.now ≤ item_limit }
     ensures planned { IfOk result (λ plan. ArePlanned config.now host.now 0 cases.now plan) }
     ensures plan { IfOk result (λ plan. IsPlan plan × (length plan ≡ length cases.now)) }
 {
@@ -163,7 +163,7 @@ pub fn prepare<W: World>(
     cases: &[Candidate],
     world: &mut W,
 ) -> Result<Items<Job>, NoMemory>
-    requires few { length cases.now ≤ most_items }
+    requires few { length cases.now ≤ item_limit }
     requires idle { IsIdle (W.running world.old) (W.pending world.old) }
     ensures planned { Answered W.replies world.old world.new (λ answers. MatchResult result
         (λ plan. (host : Surveyed) × Surveys cases.now answers host

@@ -7,16 +7,16 @@ abbrev pub IsSpent : ℕ → ℕ → Option ℕ → Type 0
 IsSpent micros steps (Some taken) = micros ≤ taken
 IsSpent micros steps None = micros / 100 ≤ steps
 
--- `at_once`: the time limit for the removal of a case's directory, in microseconds.
-abbrev pub at_once : ℕ
-at_once = 5000
+-- `case_limit`: the time limit for the removal of a case's directory, in microseconds.
+abbrev pub case_limit : ℕ
+case_limit = 5000
 
--- `at_close waiting`: the time limit for the removal of the root, in microseconds, while `waiting`
+-- `closing_limit waiting`: the time limit for the removal of the root, in microseconds, while `waiting`
 -- directories are in the queue.
-abbrev pub at_close : ℕ → ℕ
-at_close waiting = 5000000 + 10000 * waiting
+abbrev pub closing_limit : ℕ → ℕ
+closing_limit waiting = 5000000 + 10000 * waiting
 
--- `steps_at_close waiting`: the minimum number of steps for the removal of the root, while
+-- `closing_steps_least waiting`: the minimum number of steps for the removal of the root, while
 -- `waiting` directories are in the queue.
-abbrev pub steps_at_close : ℕ → ℕ
-steps_at_close waiting = 20000 + 50 * waiting
+abbrev pub closing_steps_least : ℕ → ℕ
+closing_steps_least waiting = 20000 + 50 * waiting

@@ -6,10 +6,10 @@ use Rattle.kt_base.specs.Digits.{is_digit}
 use Rattle.kt_base.specs.Utf8.{utf8}
 use Rattle.kt_removal.specs.declared.state.Removals.{Removals}
 
--- `moved_dir place number`: the path of the directory with this number in the queue directory
+-- `queued_dir place number`: the path of the directory with this number in the queue directory
 -- `place`.
-abbrev pub moved_dir : List ℕ → ℕ → List ℕ
-moved_dir place number = place ++ codes "/" ++ decimal number
+abbrev pub queued_dir : List ℕ → ℕ → List ℕ
+queued_dir place number = place ++ codes "/" ++ decimal number
 
 -- `IsNumber name`: `name` consists of one or more decimal digits.
 abbrev pub IsNumber : List ℕ → Type 0
@@ -20,20 +20,20 @@ IsNumber name = (0 < length name) × (list_all is_digit name ≡ true)
 abbrev pub IsCaseOf : List ℕ → List ℕ → Type 0
 IsCaseOf root path = (name : List ℕ) × (utf8 path ≡ utf8 root ++ 47 ∷ name) × IsNumber name
 
--- `IsMoved r`: the queue `r` has a next directory: its number `r.done` is less than `r.moved`, and
+-- `HasNextDirectory r`: the queue `r` has a next directory: its number `r.done` is less than `r.moved`, and
 -- the move to it did not fail.
-abbrev pub IsMoved : Removals → Type 0
-IsMoved r = (r.done < r.moved) × (list_any (λ n. n == r.done) r.gaps.items ≡ false)
+abbrev pub HasNextDirectory : Removals → Type 0
+HasNextDirectory r = (r.done < r.moved) × (list_any (λ n. n == r.done) r.gaps.items ≡ false)
 
--- `IsHeld r path`: for the removals `r`, `path` is a case's directory, the queue directory or the
+-- `IsRemovable r path`: for the removals `r`, `path` is a case's directory, the queue directory or the
 -- next directory of the queue.
-abbrev pub IsHeld : Removals → List ℕ → Type 0
-IsHeld r path = IsCaseOf r.root path ⊎ (path ≡ r.place) ⊎ (IsMoved r × (path ≡ moved_dir r.place r.done))
+abbrev pub IsRemovable : Removals → List ℕ → Type 0
+IsRemovable r path = IsCaseOf r.root path ⊎ (path ≡ r.place) ⊎ (HasNextDirectory r × (path ≡ queued_dir r.place r.done))
 
 -- `MayEmpty r path`: a step of the removals `r` may remove the entries of `path`. It is the root, a
 -- case's directory, the queue directory or the next directory of the queue.
 abbrev pub MayEmpty : Removals → List ℕ → Type 0
-MayEmpty r path = (path ≡ r.root) ⊎ IsHeld r path
+MayEmpty r path = (path ≡ r.root) ⊎ IsRemovable r path
 
 -- `is_name name`: `name` is the name of an entry: not empty, without a slash, and neither `.` nor
 -- `..`.
@@ -47,15 +47,15 @@ IsEntryOf directory path = (name : List ℕ) × (path ≡ utf8 directory ++ 47 �
 -- `MayRemove r path`: a step of the removals `r` may remove or move `path`. It is an entry of a
 -- directory that the step may empty (`MayEmpty`), or that directory itself if it isn't the root.
 abbrev pub MayRemove : Removals → List ℕ → Type 0
-MayRemove r path = (directory : List ℕ) × ((IsHeld r directory × (path ≡ utf8 directory)) ⊎ (MayEmpty r directory × IsEntryOf directory path))
+MayRemove r path = (directory : List ℕ) × ((IsRemovable r directory × (path ≡ utf8 directory)) ⊎ (MayEmpty r directory × IsEntryOf directory path))
 
--- `Stays old new`: a step takes the removals from `old` to `new`, with the same root, queue
+-- `KeepsQueue old new`: a step takes the removals from `old` to `new`, with the same root, queue
 -- directory and next number. A directory that was moved to this number is still there.
-pub record Stays (old new : Removals) : Type 0 where
+pub record KeepsQueue (old new : Removals) : Type 0 where
   pub root : new.root ≡ old.root
   pub place : new.place ≡ old.place
   pub done : new.done ≡ old.done
-  pub moved : IsMoved old → IsMoved new
+  pub moved : HasNextDirectory old → HasNextDirectory new
 
 -- `waiting moved done`: the number of directories in the queue, at most 2^32 - 1. `moved` is the
 -- number of the next move, and `done` that of the next directory to empty.

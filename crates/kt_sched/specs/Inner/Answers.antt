@@ -6,10 +6,10 @@ use Rattle.kt_base.specs.Kinds.{good as is_good}
 use Rattle.kt_sched.specs.Trace.{event_count}
 use Rattle.kt_sched.specs.Fed.{Fed}
 
--- `after_put fed failed`: the responses `fed` with one more put, which failed if `failed` is true.
-abbrev pub after_put : Fed → Bool → Fed
-after_put fed true = record fed { stopped = Some (event_count fed.trace) }
-after_put fed false = record fed { stored = fed.stored + 1 }
+-- `responses_after_put fed failed`: the responses `fed` with one more put, which failed if `failed` is true.
+abbrev pub responses_after_put : Fed → Bool → Fed
+responses_after_put fed true = record fed { stopped = Some (event_count fed.trace) }
+responses_after_put fed false = record fed { stored = fed.stored + 1 }
 
 -- `counted totals kind`: `totals` with one more entry, whose verdict is of the kind `kind`.
 abbrev pub counted : Totals → Kind → Totals

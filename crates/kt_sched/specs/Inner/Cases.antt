@@ -2,7 +2,7 @@
 use Rattle.std.specs.Prelude.{ℕ, Bool, true, false, List, ◌≡◌, ◌-◌, Option, Some, None, filter, map, not, ◌&&◌, slice_get, slice_set, if◌then◌else◌}
 use Rattle.kt_sched.specs.Types.{Body, Case, CaseRecord, Cleaning, Cleanup, Decided, Ended, EndedBody, Entry, Finished, Job, Judged, Output, Owing, Refused, Role, Running, Stage, Started, Taken, Waiting}
 use Rattle.kt_status.specs.declared.cleanup_end.CleanupEnd.TheVariants as end
-use Rattle.kt_status.specs.Tables.{IsVerdict, IsVerdictOfRefusal, IsVerdictAfter}
+use Rattle.kt_status.specs.Tables.{IsVerdict, IsVerdictOfRefusal, IsVerdictAfterCleanup}
 use Rattle.kt_sched.specs.EntryOf.{no_output}
 use Rattle.kt_sched.specs.Trace.{Event, Start, End}
 use Rattle.kt_sched.specs.SchedState.{decided_record, ended_body, entry_with, record_in}
@@ -30,9 +30,9 @@ pub record Replaced (old new : List Case) (i : ℕ) (stage was : Stage) : Type 0
   pub found : slice_get old i ≡ Some (record { job = job; stage = was })
   pub changed : new ≡ slice_set old i (record { job = job; stage = stage })
 
--- `TookEntry old new i entry`: `entry` is the entry of case `i` in `old`. `new` is `old`, but the
+-- `TakesEntry old new i entry`: `entry` is the entry of case `i` in `old`. `new` is `old`, but the
 -- entry of case `i` is taken.
-pub record TookEntry (old new : List Case) (i : ℕ) (entry : Entry) : Type 0 where
+pub record TakesEntry (old new : List Case) (i : ℕ) (entry : Entry) : Type 0 where
   pub had : Job
   pub was : Stage
   pub left : Job
@@ -67,13 +67,13 @@ IsAfter cleanup Waiting (Start i Body (Started m)) (Running k) = k ≡ m
 IsAfter cleanup Waiting (Start i Body (Refused c)) (Finished t) = IsVerdictOfRefusal c t.verdict × (t ≡ decided_record t.verdict)
 IsAfter cleanup (Owing b) (Start i Cleanup (Started m)) (Cleaning x) = x ≡ b
 IsAfter cleanup (Owing b) (Start i Cleanup (Refused c)) (Finished t) =
-    IsVerdictAfter b.verdict end.Refused t.verdict × (t ≡ record_of t.verdict b b.ended no_output)
+    IsVerdictAfterCleanup b.verdict end.Refused t.verdict × (t ≡ record_of t.verdict b b.ended no_output)
 IsAfter cleanup (Running m) (End e) (Owing b) =
     (stage_runs e.role (Running m) ≡ true) × (cleanup ≡ true) × IsVerdict e.evidence e.outcome b.verdict × (b ≡ ended_body b.verdict m e)
 IsAfter cleanup (Running m) (End e) (Finished t) =
     (stage_runs e.role (Running m) ≡ true) × (cleanup ≡ false) × IsVerdict e.evidence e.outcome t.verdict × (t ≡ plain_record t.verdict m e)
 IsAfter cleanup (Cleaning b) (End e) (Finished t) =
-    (stage_runs e.role (Cleaning b) ≡ true) × IsVerdictAfter b.verdict (end.Ended e.outcome) t.verdict × (t ≡ record_of t.verdict b e.moment e.output)
+    (stage_runs e.role (Cleaning b) ≡ true) × IsVerdictAfterCleanup b.verdict (end.Ended e.outcome) t.verdict × (t ≡ record_of t.verdict b e.moment e.output)
 IsAfter cleanup was e now = ⊥
 
 -- `owing_at stage i`: `i` if a case in the stage `stage` owes its cleanup, else `None`.

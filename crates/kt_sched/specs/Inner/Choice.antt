@@ -4,16 +4,16 @@ use Rattle.kt_sched.specs.Types.{Body, Cleanup, Next}
 use Rattle.kt_sched.specs.declared.next.Next.TheVariants as next
 use Rattle.kt_sched.specs.SchedState.{SchedState, HasExclusive, HasTurn}
 
--- `IsHeld b`: no case can have its turn in the state `b`. Either a put failed, no case is left, or
+-- `HasNoTurn b`: no case can have its turn in the state `b`. Either a put failed, no case is left, or
 -- there is no free slot for the case at the turn.
-abbrev pub IsHeld : SchedState → Type 0
-IsHeld b =
+abbrev pub HasNoTurn : SchedState → Type 0
+HasNoTurn b =
     (b.failed ≡ true) ⊎ ((length b.order ≤ b.turn) ⊎ ((b.width ≤ b.active) ⊎ ((0 < b.active) × ((i : ℕ) × (slice_get b.order b.turn ≡ Some i) × HasExclusive b.cases i true))))
 
 -- `IsTurn b case`: `case` is the position of the case at the turn if there is a free slot for it,
 -- else `None`.
 abbrev pub IsTurn : SchedState → Option ℕ → Type 0
-IsTurn b None = IsHeld b
+IsTurn b None = HasNoTurn b
 IsTurn b (Some i) = HasTurn b i
 
 -- `IsChosen b next`: the scheduler chooses the step `next` in the state `b`.
@@ -21,5 +21,5 @@ abbrev pub IsChosen : SchedState → Next → Type 0
 IsChosen b (next.Put i) = b.ready ≡ Some i
 IsChosen b (next.Start i Cleanup) = (b.ready ≡ None) × (b.pending ≡ Some i)
 IsChosen b (next.Start i Body) = (b.ready ≡ None) × (b.pending ≡ None) × HasTurn b i
-IsChosen b next.Wait = (b.ready ≡ None) × (b.pending ≡ None) × (0 < b.active) × IsHeld b
-IsChosen b next.Done = (b.ready ≡ None) × (b.pending ≡ None) × (b.active ≡ 0) × IsHeld b
+IsChosen b next.Wait = (b.ready ≡ None) × (b.pending ≡ None) × (0 < b.active) × HasNoTurn b
+IsChosen b next.Done = (b.ready ≡ None) × (b.pending ≡ None) × (b.active ≡ 0) × HasNoTurn b

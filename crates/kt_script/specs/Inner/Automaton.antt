@@ -86,14 +86,14 @@ next Start t = begin t.line t.kind
 next Whole t = go_on t.line t.kind
 next (Within line q) t = option_map (landed line) (step q t.kind)
 
--- `place_of to`: the position after the transition `to`, or nothing without a transition.
-abbrev pub place_of : Option (ScriptState × Option Stmt) → Option ScriptState
-place_of to = option_map (λ x. x.0) to
+-- `position_after to`: the position after the transition `to`, or nothing without a transition.
+abbrev pub position_after : Option (ScriptState × Option Stmt) → Option ScriptState
+position_after to = option_map (λ x. x.0) to
 
--- `ended_by to`: a list of the statement that the transition `to` completes, or of no statement.
-abbrev pub ended_by : Option (ScriptState × Option Stmt) → List Stmt
-ended_by None = []
-ended_by (Some to) = option_to_list to.1
+-- `completed_statements to`: a list of the statement that the transition `to` completes, or of no statement.
+abbrev pub completed_statements : Option (ScriptState × Option Stmt) → List Stmt
+completed_statements None = []
+completed_statements (Some to) = option_to_list to.1
 
 -- `run p ts`: the position after the tokens `ts` from the position `p`, and the statements that
 -- they complete. Nothing if the grammar does not allow a token.
@@ -106,8 +106,8 @@ abbrev pub IsWithin : ScriptState → ℕ → Type 0
 IsWithin (Within line q) n = line ≡ n
 IsWithin _ n = ⊥
 
--- `IsResting p`: the position `p` is not within a statement.
-abbrev pub IsResting : ScriptState → Type 0
-IsResting Start = Unit {0}
-IsResting Whole = Unit {0}
-IsResting (Within line q) = ⊥
+-- `IsBetweenStatements p`: the position `p` is not within a statement.
+abbrev pub IsBetweenStatements : ScriptState → Type 0
+IsBetweenStatements Start = Unit {0}
+IsBetweenStatements Whole = Unit {0}
+IsBetweenStatements (Within line q) = ⊥

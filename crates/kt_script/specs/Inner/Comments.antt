@@ -6,11 +6,11 @@ use Rattle.kt_base.specs.Lines.{is_newline}
 use Rattle.kt_script.specs.TokenRules.{is_level}
 use Rattle.kt_script.specs.Inner.Pieces.{blank, broken}
 
--- `closes_at text`: the number of bytes in `text` up to the end of its first `]]`, or nothing
+-- `long_comment_end text`: the number of bytes in `text` up to the end of its first `]]`, or nothing
 -- without a `]]`.
-abbrev pub closes_at : List ℕ → Option ℕ
-closes_at [] = None
-closes_at (c ∷ cs) = if starts_with nat_eq (c ∷ cs) (codes "]]") then Some 2 else option_map suc (closes_at cs)
+abbrev pub long_comment_end : List ℕ → Option ℕ
+long_comment_end [] = None
+long_comment_end (c ∷ cs) = if starts_with nat_eq (c ∷ cs) (codes "]]") then Some 2 else option_map suc (long_comment_end cs)
 
 -- `long_comment text n`: the comment at the beginning of `text` whose `]]` ends `n` bytes after its
 -- `--[[`. Without `n`, a broken token.
@@ -22,7 +22,7 @@ long_comment text (Some n) = blank (n + 4)
 -- line. A broken token if `text` does not begin with such a comment.
 abbrev pub comment_at : List ℕ → Lexeme
 comment_at text =
-    if starts_with nat_eq text (codes "--[[") then long_comment text (closes_at (drop 4 text))
+    if starts_with nat_eq text (codes "--[[") then long_comment text (long_comment_end (drop 4 text))
     else if starts_with nat_eq text (codes "--[") && is_level (drop 3 text) then broken text Leveled
     else if starts_with nat_eq text (codes "--") then blank (2 + prefix_len (λ c. not (is_newline c)) (drop 2 text))
     else broken text Bad

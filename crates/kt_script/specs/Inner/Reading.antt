@@ -3,7 +3,7 @@ use Rattle.std.specs.Prelude.{◌≡◌, ℕ, List, [], Option, Some, None}
 use Rattle.kt_script.specs.Types.{TokenKind, ScriptState, ScriptFault, Start, Token}
 use Rattle.kt_script.specs.declared.parser.Parser.{Parser}
 use Rattle.kt_script.specs.Inner.Automaton.{run, next}
-use Rattle.kt_script.specs.Faults.{open_lines, own_fault}
+use Rattle.kt_script.specs.Faults.{open_lines, token_kind_fault}
 
 -- `HasRead place parser tokens`: `parser` has read `tokens` from the start of a script up to the
 -- position `place`. It has their statements and the lines of their open brackets.
@@ -11,8 +11,8 @@ pub record HasRead (place : ScriptState) (parser : Parser) (tokens : List Token)
   pub runs : run Start tokens ≡ Some (place, parser.statements)
   pub brackets : parser.brackets.items ≡ open_lines [] tokens
 
--- `IsMisfit place line kind fault`: the grammar does not allow a token of `kind` at `place`, and
+-- `IsUnexpectedToken place line kind fault`: the grammar does not allow a token of `kind` at `place`, and
 -- `fault` is the token's fault.
-abbrev pub IsMisfit : ScriptState → ℕ → Option TokenKind → ScriptFault → Type 0
-IsMisfit place line None fault = ⊥
-IsMisfit place line (Some kind) fault = (fault ≡ own_fault line kind) × (next place (record { line = line; kind = kind }) ≡ None)
+abbrev pub IsUnexpectedToken : ScriptState → ℕ → Option TokenKind → ScriptFault → Type 0
+IsUnexpectedToken place line None fault = ⊥
+IsUnexpectedToken place line (Some kind) fault = (fault ≡ token_kind_fault line kind) × (next place (record { line = line; kind = kind }) ≡ None)

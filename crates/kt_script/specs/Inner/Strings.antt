@@ -1,8 +1,8 @@
 -- Strings.
 use Rattle.std.specs.Prelude.{ℕ, ◌+◌, ◌==◌, Bool, true, false, List, [], ◌∷◌, ◌++◌, drop, Option, Some, None, Result, Ok, Err, chars, if◌then◌else◌}
 use Rattle.kt_script.specs.Types.{Bad, Endless, Flaw, Lexeme, Quoted}
-use Rattle.kt_script.specs.declared.token.StringStop.{StringStop}
-use Rattle.kt_script.specs.declared.token.StringStop.TheVariants as stop
+use Rattle.kt_script.specs.declared.token.StringEnd.{StringEnd}
+use Rattle.kt_script.specs.declared.token.StringEnd.TheVariants as stop
 use Rattle.kt_script.specs.Letters.{escape_of}
 use Rattle.kt_script.specs.Inner.Pieces.{token, broken}
 
@@ -44,19 +44,19 @@ quoted text (Err flaw) = broken text flaw
 abbrev pub quoted_at : ℕ → List ℕ → Lexeme
 quoted_at quote text = quoted text (decoded (string_at quote false (drop 1 text)))
 
--- `escape_stop c`: the end of plain bytes at an escape that represents `c`. Without `c`, the escape
+-- `escape_end c`: the end of plain bytes at an escape that represents `c`. Without `c`, the escape
 -- is unknown, which is a flaw.
-abbrev pub escape_stop : Option ℕ → StringStop
-escape_stop None = stop.Flawed Bad
-escape_stop (Some c) = stop.Escape c
+abbrev pub escape_end : Option ℕ → StringEnd
+escape_end None = stop.Flawed Bad
+escape_end (Some c) = stop.Escape c
 
 -- `escape_at bytes`: the end of plain bytes at a backslash that is followed by `bytes`.
-abbrev pub escape_at : List ℕ → StringStop
+abbrev pub escape_at : List ℕ → StringEnd
 escape_at [] = stop.Flawed Bad
-escape_at (c ∷ cs) = escape_stop (escape_of c)
+escape_at (c ∷ cs) = escape_end (escape_of c)
 
--- `stop_at quote text`: the end of a string's plain bytes before `text`: the last `quote`, an
+-- `string_end_at quote text`: the end of a string's plain bytes before `text`: the last `quote`, an
 -- escape, or a flaw.
-abbrev pub stop_at : ℕ → List ℕ → StringStop
-stop_at quote [] = stop.Flawed Endless
-stop_at quote (c ∷ cs) = if c == quote then stop.Quote else if c == 92 then escape_at cs else stop.Flawed Endless
+abbrev pub string_end_at : ℕ → List ℕ → StringEnd
+string_end_at quote [] = stop.Flawed Endless
+string_end_at quote (c ∷ cs) = if c == quote then stop.Quote else if c == 92 then escape_at cs else stop.Flawed Endless

@@ -17,11 +17,11 @@ abbrev pub marked : List ℕ → Option TokenKind → Lexeme
 marked text None = broken text Bad
 marked text (Some kind) = token 1 kind
 
--- `piece_at text`: the lexeme at the beginning of `text`: white space, a comment or a token. An
+-- `lexeme_at text`: the lexeme at the beginning of `text`: white space, a comment or a token. An
 -- empty text has a lexeme of 0 bytes.
-unfoldable pub piece_at : List ℕ → Lexeme
-piece_at [] = blank 0
-piece_at (c ∷ cs) =
+unfoldable pub lexeme_at : List ℕ → Lexeme
+lexeme_at [] = blank 0
+lexeme_at (c ∷ cs) =
     if is_space c then blank (prefix_len is_space (c ∷ cs))
     else if is_letter c then name_at (c ∷ cs)
     else if is_digit c then number_at (c ∷ cs)
@@ -38,5 +38,5 @@ tokens_in line (Some kind) = record { line = line; kind = kind } ∷ []
 -- These bytes belong to a lexeme that began before `text`.
 unfoldable pub tokens : ℕ → ℕ → List ℕ → List Token
 tokens line n [] = []
-tokens line zero (c ∷ cs) = let piece = piece_at (c ∷ cs) in tokens_in line piece.kind ++ tokens (line_after line c) (piece.length - 1) cs
+tokens line zero (c ∷ cs) = let piece = lexeme_at (c ∷ cs) in tokens_in line piece.kind ++ tokens (line_after line c) (piece.length - 1) cs
 tokens line (suc n) (c ∷ cs) = tokens (line_after line c) n cs

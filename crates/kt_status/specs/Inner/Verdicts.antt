@@ -5,7 +5,7 @@ use Rattle.std.specs.Fmt.{decimal}
 use Rattle.kt_base.specs.declared.child.Outcome.{Outcome}
 use Rattle.kt_base.specs.declared.child.Outcome.TheVariants.{Exited, Signaled, TimedOut, WaitFailed}
 use Rattle.kt_base.specs.declared.failed_start.Refused.{Refused}
-use Rattle.kt_base.specs.Reasons.{ending_text, reason_text, refused_reason}
+use Rattle.kt_base.specs.Reasons.{outcome_text, reason_text, refused_reason}
 use Rattle.kt_base.specs.Kinds.{good}
 use Rattle.kt_base.specs.Verdicts.{Judged, passed, skipped, expected_failure, failed, broken}
 use Rattle.kt_claim.specs.declared.evidence.Claim.{Claim}
@@ -29,7 +29,7 @@ abbrev pub expected_exit : Option ℕ → List ℕ → Outcome → Judged
 expected_exit None reason (Exited _) = expected_failure reason
 expected_exit (Some due) reason (Exited code) =
     if nat_eq due code then expected_failure reason else failed (codes "Expected exit code " ++ decimal due ++ codes " but got " ++ decimal code)
-expected_exit _ _ ending = broken (codes "Expected clean exit but " ++ ending_text ending)
+expected_exit _ _ ending = broken (codes "Expected clean exit but " ++ outcome_text ending)
 
 -- `expected_signal due reason ending`: the verdict if the result file claims an expected signal for
 -- `reason`, the signal `due` or any signal, and the outcome is `ending`.
@@ -37,35 +37,35 @@ abbrev pub expected_signal : Option ℕ → List ℕ → Outcome → Judged
 expected_signal None reason (Signaled _ _) = expected_failure reason
 expected_signal (Some due) reason (Signaled signal _) =
     if nat_eq due signal then expected_failure reason else failed (codes "Expected signal " ++ decimal due ++ codes " but got " ++ decimal signal)
-expected_signal _ _ ending = broken (codes "Expected signal but " ++ ending_text ending)
+expected_signal _ _ ending = broken (codes "Expected signal but " ++ outcome_text ending)
 
--- `atf_ended claim ending`: the verdict on an ATF case with the claim `claim` whose body exited or
+-- `atf_exit_verdict claim ending`: the verdict on an ATF case with the claim `claim` whose body exited or
 -- received a signal. `ending` is the exit status or the signal.
-abbrev pub atf_ended : Claim → Outcome → Judged
-atf_ended Missing ending = broken (codes "Premature exit; test case " ++ ending_text ending)
-atf_ended Unreadable ending = broken (codes "Results file could not be read")
-atf_ended (Malformed fault) ending = broken (codes "Invalid result file: " ++ claim_fault_text fault)
-atf_ended Passed ending = if exits_with 0 ending then passed else broken (codes "Passed test case should have reported success but " ++ ending_text ending)
-atf_ended (Skipped reason) ending = if exits_with 0 ending then skipped reason else broken (codes "Skipped test case should have reported success but " ++ ending_text ending)
-atf_ended (ExpectedFailure reason) ending =
-    if exits_with 0 ending then expected_failure reason else broken (codes "Expected failure should have reported success but " ++ ending_text ending)
-atf_ended (Failed reason) ending = if exits_with 1 ending then failed reason else broken (codes "Failed test case should have reported failure but " ++ ending_text ending)
-atf_ended (ExpectedDeath reason) ending = expected_failure reason
-atf_ended (ExpectedExit due reason) ending = expected_exit due reason ending
-atf_ended (ExpectedSignal due reason) ending = expected_signal due reason ending
-atf_ended (ExpectedTimeout reason) ending = broken (codes "Expected timeout but " ++ ending_text ending)
+abbrev pub atf_exit_verdict : Claim → Outcome → Judged
+atf_exit_verdict Missing ending = broken (codes "Premature exit; test case " ++ outcome_text ending)
+atf_exit_verdict Unreadable ending = broken (codes "Results file could not be read")
+atf_exit_verdict (Malformed fault) ending = broken (codes "Invalid result file: " ++ claim_fault_text fault)
+atf_exit_verdict Passed ending = if exits_with 0 ending then passed else broken (codes "Passed test case should have reported success but " ++ outcome_text ending)
+atf_exit_verdict (Skipped reason) ending = if exits_with 0 ending then skipped reason else broken (codes "Skipped test case should have reported success but " ++ outcome_text ending)
+atf_exit_verdict (ExpectedFailure reason) ending =
+    if exits_with 0 ending then expected_failure reason else broken (codes "Expected failure should have reported success but " ++ outcome_text ending)
+atf_exit_verdict (Failed reason) ending = if exits_with 1 ending then failed reason else broken (codes "Failed test case should have reported failure but " ++ outcome_text ending)
+atf_exit_verdict (ExpectedDeath reason) ending = expected_failure reason
+atf_exit_verdict (ExpectedExit due reason) ending = expected_exit due reason ending
+atf_exit_verdict (ExpectedSignal due reason) ending = expected_signal due reason ending
+atf_exit_verdict (ExpectedTimeout reason) ending = broken (codes "Expected timeout but " ++ outcome_text ending)
 
--- `atf_late claim`: the verdict on an ATF case with the claim `claim` whose body timed out.
-abbrev pub atf_late : Claim → Judged
-atf_late (ExpectedTimeout reason) = expected_failure reason
-atf_late _ = broken (codes "Test case body timed out")
+-- `atf_timeout_verdict claim`: the verdict on an ATF case with the claim `claim` whose body timed out.
+abbrev pub atf_timeout_verdict : Claim → Judged
+atf_timeout_verdict (ExpectedTimeout reason) = expected_failure reason
+atf_timeout_verdict _ = broken (codes "Test case body timed out")
 
 -- `atf_verdict claim ending`: the verdict on an ATF case with the claim `claim` whose body has the
 -- outcome `ending`.
 abbrev pub atf_verdict : Claim → Outcome → Judged
 atf_verdict claim WaitFailed = broken (codes "Test case could not be waited for")
-atf_verdict claim TimedOut = atf_late claim
-atf_verdict claim ending = atf_ended claim ending
+atf_verdict claim TimedOut = atf_timeout_verdict claim
+atf_verdict claim ending = atf_exit_verdict claim ending
 
 -- `plain_verdict ending`: the verdict on the case of a plain program with the outcome `ending`.
 abbrev pub plain_verdict : Outcome → Judged
@@ -74,13 +74,13 @@ plain_verdict TimedOut = broken (codes "Test case timed out")
 plain_verdict (Signaled signal _) = broken (codes "Received signal " ++ decimal signal)
 plain_verdict (Exited code) = if nat_eq code 0 then passed else failed (codes "Returned non-success exit status " ++ decimal code)
 
--- `tap_exited tap code`: the verdict on the case of a TAP program that printed the results `tap`
+-- `tap_exit_verdict tap code`: the verdict on the case of a TAP program that printed the results `tap`
 -- and exited with status `code`.
-abbrev pub tap_exited : Tap → ℕ → Judged
-tap_exited BailedOut code = failed (codes "Bailed out")
-tap_exited (Invalid fault) code = broken (codes "TAP test program yielded invalid data: " ++ tap_fault_text fault)
-tap_exited (SkipAll reason) code = skipped reason
-tap_exited (Counted some all) code =
+abbrev pub tap_exit_verdict : Tap → ℕ → Judged
+tap_exit_verdict BailedOut code = failed (codes "Bailed out")
+tap_exit_verdict (Invalid fault) code = broken (codes "TAP test program yielded invalid data: " ++ tap_fault_text fault)
+tap_exit_verdict (SkipAll reason) code = skipped reason
+tap_exit_verdict (Counted some all) code =
     if nat_lt 0 some then failed (decimal some ++ codes " of " ++ decimal all ++ codes " tests failed")
     else if nat_eq code 0 then passed
     else broken (codes "Dubious test program: reported all tests as passed but returned exit code " ++ decimal code)
@@ -91,7 +91,7 @@ abbrev pub tap_verdict : Tap → Outcome → Judged
 tap_verdict tap WaitFailed = broken (codes "Test case could not be waited for")
 tap_verdict tap TimedOut = broken (codes "Test case timed out")
 tap_verdict tap (Signaled signal _) = broken (codes "Received signal " ++ decimal signal)
-tap_verdict tap (Exited code) = tap_exited tap code
+tap_verdict tap (Exited code) = tap_exit_verdict tap code
 
 -- `verdict_of evidence ending`: the verdict on a body with this `evidence` and the outcome
 -- `ending`, by the table for ATF, TAP or plain programs.

@@ -21,8 +21,8 @@ HasColumns width (Err e) = ⊥
 abbrev pub AreWide : ℕ → List Row → Type 0
 AreWide width rows = AllByRecursion (λ (row : Row). width ≤ length row) rows
 
--- `ShowsOf g runs sql params new rows`: a query returned `rows` from tables that hold `runs`
-pub record ShowsOf {S : Type 0} (g : Ghosts S) (runs : List Run) (sql : List ℕ) (params : Row) (new : Held S) (rows : List Row) : Type 0 where
+-- `QueriesRuns g runs sql params new rows`: a query returned `rows` from tables that hold `runs`
+pub record QueriesRuns {S : Type 0} (g : Ghosts S) (runs : List Run) (sql : List ℕ) (params : Row) (new : Held S) (rows : List Row) : Type 0 where
   pub mid : Held S
   pub stored : IsStore (state g mid) runs
   pub shown : Shown sql params (state g mid) (state g new) rows

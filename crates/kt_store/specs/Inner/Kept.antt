@@ -1,9 +1,9 @@
 -- The parts of a state that a call keeps or changes, and the databases with a schema number.
 use Rattle.std.specs.Prelude.{ℤ, List, ⊤}
-use Rattle.kt_store.specs.Ask.{Rests}
+use Rattle.kt_store.specs.Ask.{IsUnchangedOrRolledBack}
 use Rattle.kt_store.specs.Attaching.{DatabaseBefore, Blank}
 use Rattle.kt_store.specs.Runs.{Keeps}
-use Rattle.kt_store.specs.Stands.{StandsFor, SaysSchema, HasTables, Leaves}
+use Rattle.kt_store.specs.Stands.{StandsFor, StoresSchemaNumber, HasTables, Leaves}
 use Rattle.kt_store.specs.Types.{Ghosts, HasCleanDisk, Held, IsUnchanged, Run, Survives, state}
 
 -- `HasNumber was`: the database had tables with a schema number
@@ -30,7 +30,7 @@ module _ {S : Type 0} (g : Ghosts S) (old new : Held S) where
 
   -- a call that only reads: the tables represent the same runs, and a crash leaves only what it
   -- left before
-  pub record Looked : Type 0 where
+  pub record OnlyReadsRuns : Type 0 where
     pub stands : KeepsRuns
     pub crash : OnlyReads
 
@@ -38,16 +38,16 @@ module _ {S : Type 0} (g : Ghosts S) (old new : Held S) where
   -- the database unchanged or rolled back
   pub record AsksNumber : Type 0 where
     pub earlier : WasClean
-    pub rests : (n : ℤ) → SaysSchema n (state g old) → HasCleanDisk (state g new) → Rests (state g old) (state g new)
-    pub crash : (n : ℤ) → SaysSchema n (state g old) → CommitsNothing
+    pub rests : (n : ℤ) → StoresSchemaNumber n (state g old) → HasCleanDisk (state g new) → IsUnchangedOrRolledBack (state g old) (state g new)
+    pub crash : (n : ℤ) → StoresSchemaNumber n (state g old) → CommitsNothing
 
   -- if the database has a schema number, the database is unchanged
   abbrev pub LeavesSchema : Type 0
-  LeavesSchema = (n : ℤ) → SaysSchema n (state g old) → HasCleanDisk (state g new) → IsUnchanged (state g old) (state g new)
+  LeavesSchema = (n : ℤ) → StoresSchemaNumber n (state g old) → HasCleanDisk (state g new) → IsUnchanged (state g old) (state g new)
 
   -- if the database has a schema number, SQLite can prepare the queries of that schema
   abbrev pub FindsTables : Type 0
-  FindsTables = (n : ℤ) → SaysSchema n (state g old) → HasCleanDisk (state g new) → HasTables n (state g old)
+  FindsTables = (n : ℤ) → StoresSchemaNumber n (state g old) → HasCleanDisk (state g new) → HasTables n (state g old)
 
   module _ (Allowed : List Run → Type 0) (change : List Run → List Run) where
     -- if the runs allow the change, the tables represent the changed runs after the call, and a

@@ -3,9 +3,9 @@ use Rattle.std.specs.Prelude.{◌≡◌, ℕ, pos, suc, Option, None, ◌<◌, L
 use Rattle.kt_store.specs.Runs.{IsPair, IsRun, IsText, run_at, with_entry}
 use Rattle.kt_store.specs.Types.{AllByRecursion, Entry, Int, Null, Passed, Row, Run}
 
--- `IsBareIfPassed e`: if `e` passed, its reason is empty
-abbrev pub IsBareIfPassed : Entry → Type 0
-IsBareIfPassed e = e.verdict.kind ≡ Passed → e.verdict.reason ≡ []
+-- `HasNoReasonIfPassed e`: if `e` passed, its reason is empty
+abbrev pub HasNoReasonIfPassed : Entry → Type 0
+HasNoReasonIfPassed e = e.verdict.kind ≡ Passed → e.verdict.reason ≡ []
 
 -- `HasTexts e`: the texts of `e` are representable in UTF-8
 abbrev pub HasTexts : Entry → Type 0
@@ -25,6 +25,6 @@ abbrev pub entries_of : Option Run → List Entry
 entries_of None = []
 entries_of (Some r) = r.entries
 
--- `done_row r`: the rowid of run `r`, and its row once it is finished
-abbrev pub done_row : Run → Row
-done_row r = Int (pos r.number) ∷ Int (pos r.number) ∷ Null ∷ Int (pos r.started) ∷ Int (pos r.total) ∷ Int (pos 1) ∷ []
+-- `finished_run_row r`: the rowid of run `r`, and its row once it is finished
+abbrev pub finished_run_row : Run → Row
+finished_run_row r = Int (pos r.number) ∷ Int (pos r.number) ∷ Null ∷ Int (pos r.started) ∷ Int (pos r.total) ∷ Int (pos 1) ∷ []

@@ -58,40 +58,40 @@ pub record IsUndone (old new : State) : Type 0 where
   pub autocommit : new.in_transaction ≡ false
 
 module _ {S : Type 0} (g : Ghosts S) where
-  -- `RunsInside s old new`: statement `s` was run in a transaction, and its texts are representable
+  -- `ExecutesStatement s old new`: statement `s` was run in a transaction, and its texts are representable
   -- in UTF-8
-  abbrev pub RunsInside : Statement → Held S → Held S → Type 0
-  RunsInside s old new = (count : ℕ) × ExecutesInside 0 s.0 s.1 (state g old) (state g new) (Ok count) × AllByRecursion IsText s.2
+  abbrev pub ExecutesStatement : Statement → Held S → Held S → Type 0
+  ExecutesStatement s old new = (count : ℕ) × ExecutesInside 0 s.0 s.1 (state g old) (state g new) (Ok count) × AllByRecursion IsText s.2
 
-  -- `RunInTurn statements old new`: `statements` were run in a transaction, in this order
-  abbrev pub RunInTurn : List Statement → Held S → Held S → Type 0
-  RunInTurn [] old new = new ≡ old
-  RunInTurn (s ∷ others) old new = (mid : Held S) × RunsInside s old mid × RunInTurn others mid new
+  -- `ExecutesInOrder statements old new`: `statements` were run in a transaction, in this order
+  abbrev pub ExecutesInOrder : List Statement → Held S → Held S → Type 0
+  ExecutesInOrder [] old new = new ≡ old
+  ExecutesInOrder (s ∷ others) old new = (mid : Held S) × ExecutesStatement s old mid × ExecutesInOrder others mid new
 
-  -- `RunsOne s old new`: while the disk is clean, `s` was run in the transaction, if a transaction
+  -- `ExecutesOne s old new`: while the disk is clean, `s` was run in the transaction, if a transaction
   -- is open
-  abbrev pub RunsOne : Statement → Held S → Held S → Type 0
-  RunsOne s old new = HasCleanDisk (state g new) → IsTrue (state g old).in_transaction → RunsInside s old new
+  abbrev pub ExecutesOne : Statement → Held S → Held S → Type 0
+  ExecutesOne s old new = HasCleanDisk (state g new) → IsTrue (state g old).in_transaction → ExecutesStatement s old new
 
-  -- `RunsAll statements old new`: while the disk is clean, `statements` were run in the
+  -- `ExecutesAll statements old new`: while the disk is clean, `statements` were run in the
   -- transaction, if a transaction is open
-  abbrev pub RunsAll : List Statement → Held S → Held S → Type 0
-  RunsAll statements old new = HasCleanDisk (state g new) → IsTrue (state g old).in_transaction → RunInTurn statements old new
+  abbrev pub ExecutesAll : List Statement → Held S → Held S → Type 0
+  ExecutesAll statements old new = HasCleanDisk (state g new) → IsTrue (state g old).in_transaction → ExecutesInOrder statements old new
 
-  -- `CommitsLater old new`: nothing was committed, also after a crash
-  pub record CommitsLater (old new : Held S) : Type 0 where
+  -- `CommitsNothingYet old new`: nothing was committed, also after a crash
+  pub record CommitsNothingYet (old new : Held S) : Type 0 where
     pub keeps : HasCleanDisk (state g new) → KeepsCommit (state g old) (state g new)
     pub survives : CommitsNothing g old new
 
   module _ (statements : List Statement) (old : Held S) where
     -- `statements` were run in a new transaction, which was committed
     abbrev pub Commits : Held S → Type 0
-    Commits new = (left : Held S) × RunInTurn statements (begun old) left × Shows (state g left) (state g new) (state g left).now (state g left).now false
+    Commits new = (left : Held S) × ExecutesInOrder statements (begun old) left × Shows (state g left) (state g new) (state g left).now (state g left).now false
 
     -- `trees` are those that the commit of `statements` writes
     abbrev pub MayCommit : Trees → Type 0
-    MayCommit trees = (left : Held S) × RunInTurn statements (begun old) left × (trees ≡ (state g left).now.trees)
+    MayCommit trees = (left : Held S) × ExecutesInOrder statements (begun old) left × (trees ≡ (state g left).now.trees)
 
-  -- `Undoes old new`: nothing was run, or everything that was run is undone
-  abbrev pub Undoes : Held S → Held S → Type 0
-  Undoes old new = (new ≡ old) ⊎ IsUndone (state g old) (state g new)
+  -- `RollsBack old new`: nothing was run, or everything that was run is undone
+  abbrev pub RollsBack : Held S → Held S → Type 0
+  RollsBack old new = (new ≡ old) ⊎ IsUndone (state g old) (state g new)

@@ -40,9 +40,9 @@ joined (c ∷ path) component = c ∷ path ++ 47 ∷ component
 abbrev pub with_component : List ℕ → List ℕ → List ℕ
 with_component path component = if counts component then joined path component else path
 
--- `all_places filters`: the positions of all filters, ascending, from 0.
-abbrev pub all_places : List Filter → List ℕ
-all_places filters = places (λ filter. true) 0 filters
+-- `all_positions filters`: the positions of all filters, ascending, from 0.
+abbrev pub all_positions : List Filter → List ℕ
+all_positions filters = places (λ filter. true) 0 filters
 
 -- `first_match filters item`: the position of the first filter that matches `item`, if any.
 abbrev pub first_match : List Filter → Item → Option ℕ

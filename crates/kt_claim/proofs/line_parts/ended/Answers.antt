@@ -1,12 +1,12 @@
 use Rattle.std.proofs.Common.{[], ap, sym, ◌∙◌}
-use Rattle.kt_claim.proofs.Common.{facts_with, Begun}
+use Rattle.kt_claim.proofs.Common.{facts_with, LineProgress}
 use Rattle.kt_claim.proofs.line_parts.ended.Goals as goal
 
 pub returns-in-Opened-clause-plain : goal.returns-in-Opened-clause-plain
-returns-in-Opened-clause-plain c = λ plain kept. c.opened.ensures kept ∙ ap (λ (b : Begun). facts_with b kept []) (sym c.in-Opened.is)
+returns-in-Opened-clause-plain c = λ plain kept. c.opened.ensures kept ∙ ap (λ (b : LineProgress). facts_with b kept []) (sym c.in-Opened.is)
 
 pub returns-in-Digits-clause-plain : goal.returns-in-Digits-clause-plain
-returns-in-Digits-clause-plain c = λ plain kept. c.counted.ensures kept ∙ ap (λ (b : Begun). facts_with b kept []) (sym c.in-Digits.is)
+returns-in-Digits-clause-plain c = λ plain kept. c.counted.ensures kept ∙ ap (λ (b : LineProgress). facts_with b kept []) (sym c.in-Digits.is)
 
 pub returns-in-Blanks-clause-plain : goal.returns-in-Blanks-clause-plain
-returns-in-Blanks-clause-plain c = λ plain kept. c.planned.ensures kept ∙ ap (λ (b : Begun). facts_with b kept []) (sym c.in-Blanks.is)
+returns-in-Blanks-clause-plain c = λ plain kept. c.planned.ensures kept ∙ ap (λ (b : LineProgress). facts_with b kept []) (sym c.in-Blanks.is)

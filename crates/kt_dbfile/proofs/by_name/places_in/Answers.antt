@@ -1,4 +1,4 @@
-use Rattle.kt_dbfile.proofs.Common.{AreNamed, Some, [], codes, entries_1, index_of, props_1, refl, runs_1, schema_2, ◌∷◌, ◌≡◌}
+use Rattle.kt_dbfile.proofs.Common.{AreNamed, Some, [], codes, entries_table, index_of, props_1, refl, runs_1, schema_2, ◌∷◌, ◌≡◌}
 use Rattle.std.specs.Fmt.{digits}
 use Rattle.sqlite_schema.specs.Names.{index_named, same_name, table_named}
 use Rattle.kt_dbfile.proofs.by_name.places_in.Goals as goal
@@ -8,7 +8,7 @@ run_columns : AreNamed runs_1 0 (codes "id" ∷ codes "started" ∷ codes "total
 unfolding same_name
 run_columns = (refl, (refl, (refl, (refl, tt))))
 
-entry_columns : AreNamed entries_1 0 (codes "run" ∷ codes "position" ∷ codes "program" ∷ codes "case_name" ∷ codes "kind" ∷ codes "reason" ∷ codes "started" ∷ codes "millis" ∷ codes "body_out" ∷ codes "body_err" ∷ codes "clean_out" ∷ codes "clean_err" ∷ [])
+entry_columns : AreNamed entries_table 0 (codes "run" ∷ codes "position" ∷ codes "program" ∷ codes "case_name" ∷ codes "kind" ∷ codes "reason" ∷ codes "started" ∷ codes "millis" ∷ codes "body_out" ∷ codes "body_err" ∷ codes "clean_out" ∷ codes "clean_err" ∷ [])
 unfolding same_name
 entry_columns = (refl, (refl, (refl, (refl, (refl, (refl, (refl, (refl, (refl, (refl, (refl, (refl, tt))))))))))))
 
@@ -38,5 +38,5 @@ pair_keys_are = refl
 
 pub returns : goal.returns
 returns c e =
-    c.all_found.ensures ((rw e at c.table_in.ensures) 1 runs_1 runs_are refl refl run_columns) ((rw e at c.table_in-2.ensures) 2 entries_1 entries_are refl refl entry_columns) ((rw e at c.key_in.ensures) 1 (index_of entries_1 4) entry_keys_are refl)
+    c.all_found.ensures ((rw e at c.table_in.ensures) 1 runs_1 runs_are refl refl run_columns) ((rw e at c.table_in-2.ensures) 2 entries_table entries_are refl refl entry_columns) ((rw e at c.key_in.ensures) 1 (index_of entries_table 4) entry_keys_are refl)
     ((rw e at c.table_in-3.ensures) 3 props_1 props_are refl refl pair_columns) ((rw e at c.key_in-2.ensures) 2 (index_of props_1 6) pair_keys_are refl)

@@ -1,4 +1,4 @@
-use Rattle.kt_dbfile.proofs.Common.{Fills, IsClean, Trees, View, ap, arith, places_2, subst}
+use Rattle.kt_dbfile.proofs.Common.{WritesEntryRows, IsClean, Trees, View, ap, arith, places_2, subst}
 use Rattle.kt_dbfile.proofs.EditLemmas.{entry_filled}
 use Rattle.kt_dbfile.proofs.SeenLemmas.{held_then}
 use Rattle.kt_dbfile.proofs.edits.write_entry.Goals as goal
@@ -27,7 +27,7 @@ returns g c = record {
       let number = c.key-number.ensures.same c.in_ok-check_entry.ensures.small in
       let texts = c.in_ok-row.ensures.texts in
       let pairs = rw c.as_slice.ensures at c.in_ok-pairs.ensures.texts in
-      let fills = subst (λ (t : Trees). Fills c.args.schema.now places_2 c.args.run c.args.entry.now t (g.S.Store.view c.put_rows-2.new.store).trees) trees (
+      let fills = subst (λ (t : Trees). WritesEntryRows c.args.schema.now places_2 c.args.run c.args.entry.now t (g.S.Store.view c.put_rows-2.new.store).trees) trees (
         (texts.0, texts.1, texts.2, pairs),
         (
           (g.S.Store.view c.put_rows.new.store).trees,

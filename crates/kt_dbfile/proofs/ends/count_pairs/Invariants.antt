@@ -1,5 +1,5 @@
-use Rattle.kt_dbfile.proofs.Common.{Looks}
+use Rattle.kt_dbfile.proofs.Common.{OnlyReadsStore}
 use Rattle.kt_dbfile.proofs.ends.count_pairs.Given as goal
 
 abbrev pub invariant-loop-entry : goal.invariant-loop-entry
-invariant-loop-entry g l = Looks g.S.Store l.fn.store l.store
+invariant-loop-entry g l = OnlyReadsStore g.S.Store l.fn.store l.store

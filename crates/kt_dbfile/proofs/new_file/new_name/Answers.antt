@@ -4,4 +4,4 @@ use Rattle.kt_dbfile.proofs.new_file.new_name.Goals as goal
 
 pub returns : goal.returns
 unfolding chars
-returns c = IfOk-weaker c.with_ending.result _ (IsNewNameOf c.args.file.now) (λ name is. is) c.with_ending.ensures
+returns c = IfOk-weaker c.path_with_suffix.result _ (IsNewNameOf c.args.file.now) (λ name is. is) c.path_with_suffix.ensures

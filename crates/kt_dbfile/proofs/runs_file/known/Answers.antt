@@ -1,4 +1,4 @@
-use Rattle.kt_dbfile.proofs.Common.{IsTrue, SaysIn, clean_if_open, image_of, inl, pos, shut_if_dirty_at, subst, sym, view, ◌∙◌}
+use Rattle.kt_dbfile.proofs.Common.{IsTrue, HasSchemaNumber, clean_if_open, image_of, inl, pos, shut_if_dirty_at, subst, sym, view, ◌∙◌}
 use Rattle.kt_dbfile.proofs.OpeningLemmas.{opens_runs}
 use Rattle.kt_dbfile.proofs.runs_file.known.Goals as goal
 
@@ -14,7 +14,7 @@ returns-in_ok-ours-in-Ok-clause-found g c =
         lists = λ clean. (rw c.in-Ok.is at over.lists) (found.0.clean clean);
         says = λ opened.
             let clean = clean_if_open (view r) (shut_if_dirty_at r) opened in
-            subst (SaysIn (pos 2)) (settled ∙ sym (found.0.held clean opened).1) (found.1 clean);
+            subst (HasSchemaNumber (pos 2)) (settled ∙ sym (found.0.held clean opened).1) (found.1 clean);
       });
       numbered = λ clean must. subst IsTrue (sym found.0.schema.numbered) ((rw c.in-Ok.is at over.tested) (found.0.clean clean) must);
     }

@@ -6,8 +6,8 @@ use Rattle.kt_dbfile.proofs.seeks.find_outputs.Goals.{in_default-via-in-Some+els
 use Rattle.kt_dbfile.proofs.seeks.find_outputs.Goals as goal
 
 pub returns-in-Some-clause-served : goal.returns-in-Some-clause-served
-returns-in-Some-clause-served g c = looked_serves g.S.Store _ _ c.row_behind.ensures.looks (Outputs c.args.run c.args.position _) (λ runs. refl) (λ runs may left. left) (λ runs has clean.
-    let first = c.row_behind.ensures.looks.clean clean in
+returns-in-Some-clause-served g c = looked_serves g.S.Store _ _ c.row_under_key.ensures.looks (Outputs c.args.run c.args.position _) (λ runs. refl) (λ runs may left. left) (λ runs has clean.
+    let first = c.row_under_key.ensures.looks.clean clean in
     let sound = c.in_ok-row.ensures.sound clean in
     let keeps = has first sound in
     let is = c.requires first sound runs keeps in
@@ -20,8 +20,8 @@ returns-in-Some-clause-served g c = looked_serves g.S.Store _ _ c.row_behind.ens
     (IfErr-weaker c.stored_outputs.result _ _ (λ e failed. inl failed) c.stored_outputs.ensures.failed))
 
 pub returns-clause-served : goal.returns-clause-served
-returns-clause-served g c = looked_serves g.S.Store _ _ c.row_behind.ensures.looks (Outputs c.args.run c.args.position _) (λ runs. refl) (λ runs may left. left) (λ runs has clean.
-    let first = c.row_behind.ensures.looks.clean clean in
+returns-clause-served g c = looked_serves g.S.Store _ _ c.row_under_key.ensures.looks (Outputs c.args.run c.args.position _) (λ runs. refl) (λ runs may left. left) (λ runs has clean.
+    let first = c.row_under_key.ensures.looks.clean clean in
     let sound = c.in_ok-row.ensures.sound clean in
     let keeps = has first sound in
     let is = c.requires first sound runs keeps in

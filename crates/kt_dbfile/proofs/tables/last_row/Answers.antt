@@ -1,4 +1,4 @@
-use Rattle.kt_dbfile.proofs.Common.{Backward, IsClean, LooksThrough, View, [], arith, plain, rules, sought, subst, with_cursor, ◌≡◌}
+use Rattle.kt_dbfile.proofs.Common.{Backward, IsClean, OnlyMovesCursors, View, [], arith, plain, rules, sought, subst, with_cursor, ◌≡◌}
 use Rattle.sqlite_trees.specs.declared.store.Shape.TheVariants.{Table}
 use Rattle.kt_dbfile.proofs.PlaceLemmas.{sought_none, sought_one}
 use Rattle.kt_dbfile.proofs.tables.last_row.Given.{Over}
@@ -6,7 +6,7 @@ use Rattle.kt_dbfile.proofs.tables.last_row.Goals.{In_ok-next}
 use Rattle.kt_dbfile.proofs.tables.last_row.Goals as goal
 
 -- a cursor was set to the end of the table, and nothing else moved
-sought_last : (g : Over) (c : In_ok-next g) → IsClean (g.S.Store.view c.next.new.self) → let old = g.S.Store.view c.args.store.now in let mid = g.S.Store.view c.seek.new.self in let new = g.S.Store.view c.next.new.self in (mid ≡ with_cursor old 0 (sought plain Backward [] (old.trees c.args.tree))) × LooksThrough old new
+sought_last : (g : Over) (c : In_ok-next g) → IsClean (g.S.Store.view c.next.new.self) → let old = g.S.Store.view c.args.store.now in let mid = g.S.Store.view c.seek.new.self in let new = g.S.Store.view c.next.new.self in (mid ≡ with_cursor old 0 (sought plain Backward [] (old.trees c.args.tree))) × OnlyMovesCursors old new
 sought_last g c clean =
     let falls = c.next.ensures.quiet.clean in
     let early : IsClean (g.S.Store.view c.seek.new.self) = omega arith in

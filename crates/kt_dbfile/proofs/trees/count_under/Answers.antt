@@ -1,4 +1,4 @@
-use Rattle.kt_dbfile.proofs.Common.{AllByRecursion, CountsUnder, IsClean, IsShaped, List, Looks, Row, View, ap, arith, begins, false, left_of, rules, subst, sym, take, true, ◌∙◌, ◌≡◌}
+use Rattle.kt_dbfile.proofs.Common.{AllByRecursion, CountsUnderKey, IsClean, IsShaped, List, OnlyReadsStore, Row, View, ap, arith, begins, false, left_of, rules, subst, sym, take, true, ◌∙◌, ◌≡◌}
 use Rattle.sqlite_exec.proofs.CheckLemmas.{ended, stepped}
 use Rattle.kt_dbfile.proofs.SeenLemmas.{looks_then}
 use Rattle.kt_dbfile.proofs.PlaceLemmas.{passed_all, passed_one}
@@ -8,7 +8,7 @@ use Rattle.kt_dbfile.proofs.trees.count_under.Goals as goal
 
 -- the index entries so far are all, if the next one doesn't begin with the key
 all_counted : (g : Over) (c : In_ok-next g) → IsClean (g.S.Store.view c.next.new.self) → AllByRecursion (λ e. begins c.args.key.now e ≡ false) (take 1 (left_of (g.S.Store.view c.places.store) 0))
-    → CountsUnder c.args.table.now.tree c.args.table.now.index c.args.key.now (g.S.Store.view c.args.store.now).trees c.places.count
+    → CountsUnderKey c.args.table.now.tree c.args.table.now.index c.args.key.now (g.S.Store.view c.args.store.now).trees c.places.count
 all_counted g c clean none cs mine has =
     let old = g.S.Store.view c.args.store.now in
     let mid = g.S.Store.view c.places.store in
@@ -34,7 +34,7 @@ pub places-preserved : goal.places-preserved
 places-preserved g c =
     let mid = g.S.Store.view c.places.store in
     let new = g.S.Store.view c.next.new.self in
-    let step : Looks g.S.Store c.places.store c.next.new.self = search rules in
+    let step : OnlyReadsStore g.S.Store c.places.store c.next.new.self = search rules in
     let hit : begins c.args.key.now c.next.new.row ≡ true = search rules in (
       search rules,
       looks_then g.S.Store _ _ _ c.places.invariant.1 step,

@@ -1,4 +1,4 @@
-use Rattle.kt_dbfile.proofs.Common.{IsClean, IsSome, Looks, LooksThrough, left_of}
+use Rattle.kt_dbfile.proofs.Common.{IsClean, IsSome, OnlyReadsStore, OnlyMovesCursors, left_of}
 use Rattle.kt_dbfile.proofs.PlaceLemmas.{Passed}
 use Rattle.kt_dbfile.proofs.trees.count_under.Given as goal
 
@@ -6,4 +6,4 @@ abbrev pub invariant-places : goal.invariant-places
 invariant-places g l =
     let old = g.S.Store.view l.fn.store in
     let now = g.S.Store.view l.store in
-    IsSome (now.cursors 0) × Looks g.S.Store l.fn.store l.store × (IsClean now → LooksThrough old now) × (IsClean now → Passed l.key (old.trees l.table.index) (left_of now 0) l.count)
+    IsSome (now.cursors 0) × OnlyReadsStore g.S.Store l.fn.store l.store × (IsClean now → OnlyMovesCursors old now) × (IsClean now → Passed l.key (old.trees l.table.index) (left_of now 0) l.count)

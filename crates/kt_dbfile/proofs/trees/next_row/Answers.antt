@@ -1,11 +1,11 @@
-use Rattle.kt_dbfile.proofs.Common.{Looks, View, refl, subst, sym, ◌≡◌}
+use Rattle.kt_dbfile.proofs.Common.{OnlyReadsStore, View, refl, subst, sym, ◌≡◌}
 use Rattle.kt_dbfile.proofs.SeenLemmas.{looked, looks_then}
 use Rattle.kt_dbfile.proofs.trees.next_row.Given.{Over}
 use Rattle.kt_dbfile.proofs.trees.next_row.Goals.{In_ok-get}
 use Rattle.kt_dbfile.proofs.trees.next_row.Goals as goal
 
 -- a cursor moved, and a row was read
-only_looks : (g : Over) (c : In_ok-get g) → Looks g.S.Store c.args.store.now c.get.new.self
+only_looks : (g : Over) (c : In_ok-get g) → OnlyReadsStore g.S.Store c.args.store.now c.get.new.self
 only_looks g c =
     let old = g.S.Store.view c.next.new.self in
     looks_then g.S.Store _ _ _ (looked g.S.Store _ _ c.next.ensures.quiet c.next.ensures.schema (λ clean. (c.in_ok-next.ensures.moves clean).same))

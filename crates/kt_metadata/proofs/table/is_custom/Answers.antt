@@ -8,4 +8,4 @@ mapped f (Some x) = refl
 
 pub returns : goal.returns
 unfolding chars
-returns c = c.is_some.ensures ∙ sym (mapped (λ part. chars part.now) c.own_part.result) ∙ ap is_some c.own_part.ensures
+returns c = c.is_some.ensures ∙ sym (mapped (λ part. chars part.now) c.non_empty_suffix.result) ∙ ap is_some c.non_empty_suffix.ensures

@@ -1,4 +1,4 @@
-use Rattle.kt_store.proofs.Common.{OldTables, arith, inl, inr, raise_statements, refl, state}
+use Rattle.kt_store.proofs.Common.{IsSchema1Database, arith, inl, inr, raise_statements, refl, state}
 use Rattle.kt_store.proofs.CommitLemmas.{undone_holds, commit_crash, commit_takes}
 use Rattle.kt_store.proofs.RaiseLemmas.{raised_in}
 use Rattle.kt_store.proofs.FaultLemmas.{if_trouble}
@@ -13,11 +13,11 @@ pub returns-in_err-commit-clause-refused : goal.returns-in_err-commit-clause-ref
 returns-in_err-commit-clause-refused g c runs has =
     let crash = commit_crash g.S.Store raise_statements c.args.conn.now c.commit.new.conn runs c.commit.ensures.crash (λ clean left ran. raised_in g.S.Store c.args.conn.now left runs (λ opened. (has clean opened).tables) ran) in
     if_trouble _ c.from_residual.result c.from_residual.ensures.1 (λ e failed. (
-      undone_holds g.S.Store (λ db. OldTables db runs) c.args.conn.now c.commit.new.conn has (λ clean. omega (arith, clean, c.commit.ensures.crash.clean)) (λ clean. c.in_err-commit.ensures.undone clean),
+      undone_holds g.S.Store (λ db. IsSchema1Database db runs) c.args.conn.now c.commit.new.conn has (λ clean. omega (arith, clean, c.commit.ensures.crash.clean)) (λ clean. c.in_err-commit.ensures.undone clean),
       crash,
       λ clean. failed,
       λ opened. either_left (state g.S.Store c.args.conn.now) (state g.S.Store c.commit.new.conn) runs crash
-          (leaves_held g.S.Store c.args.conn.now (λ db opened may. g.met.S.Store.settled c.args.conn.now.store db opened may) (λ db. OldTables db runs) c.lives.ensures has opened),
+          (leaves_held g.S.Store c.args.conn.now (λ db opened may. g.met.S.Store.settled c.args.conn.now.store db opened may) (λ db. IsSchema1Database db runs) c.lives.ensures has opened),
     ))
 
 pub returns-clause-taken : goal.returns-clause-taken

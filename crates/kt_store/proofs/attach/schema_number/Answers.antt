@@ -1,4 +1,4 @@
-use Rattle.kt_store.proofs.Common.{HasCleanDisk, Int, SFits, SaysSchema, [], ap, arith, length, meta_text, option_copied, rules, slice_get, state, sym, to_z-of_z, w64, ℤ, ◌∙◌, ◌∷◌, ◌≡◌}
+use Rattle.kt_store.proofs.Common.{HasCleanDisk, Int, SFits, StoresSchemaNumber, [], ap, arith, length, meta_text, option_copied, rules, slice_get, state, sym, to_z-of_z, w64, ℤ, ◌∙◌, ◌∷◌, ◌≡◌}
 use Rattle.kt_store.proofs.AskLemmas.{asked_unchanged}
 use Rattle.kt_store.proofs.MetaLemmas.{asked_meta, says_plain, read_it, row_is, some_row, asks_number, tells_number}
 use Rattle.kt_store.proofs.SqlFacts.{number_is}
@@ -10,7 +10,7 @@ pub ask-requires : goal.ask-requires
 ask-requires g c = number_is
 
 -- the rows are those of the number
-are : (g : Over) (c : In_ok-rows g) (n : ℤ) → SaysSchema n (state g.S.Store c.args.conn.now) → HasCleanDisk (state g.S.Store c.ask.new.conn) → c.in_ok-rows.rows.items ≡ (Int n ∷ []) ∷ []
+are : (g : Over) (c : In_ok-rows g) (n : ℤ) → StoresSchemaNumber n (state g.S.Store c.args.conn.now) → HasCleanDisk (state g.S.Store c.ask.new.conn) → c.in_ok-rows.rows.items ≡ (Int n ∷ []) ∷ []
 are g c n says clean = asked_meta g.S.Store c.args.conn.now c.ask.new.conn (λ k. omega (arith, k, c.ask.ensures.survives.clean)) n c.in_ok-rows.rows.items says clean (c.in_ok-rows.ensures.rows clean)
 
 -- the first row has the number

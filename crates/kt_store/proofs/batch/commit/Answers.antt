@@ -1,4 +1,4 @@
-use Rattle.kt_store.proofs.Common.{Commits, HasCleanDisk, Held, MayCommit, OnErr, RunInTurn, Survives, Undoes, arith, begun, refl, rules, state, subst, ◌≡◌}
+use Rattle.kt_store.proofs.Common.{Commits, HasCleanDisk, Held, MayCommit, OnErr, ExecutesInOrder, Survives, RollsBack, arith, begun, refl, rules, state, subst, ◌≡◌}
 use Rattle.kt_store.proofs.CommitLemmas.{failed_undoes, commit_survives}
 use Rattle.kt_store.proofs.FaultLemmas.{on_err}
 use Rattle.kt_store.proofs.FillLemmas.{in_turn}
@@ -7,7 +7,7 @@ use Rattle.kt_store.proofs.batch.commit.Goals.{In_ok-fill}
 use Rattle.kt_store.proofs.batch.commit.Goals as goal
 
 -- the statements were run in turn, in a new transaction
-ran : (g : Over) (c : In_ok-fill g) → HasCleanDisk (state g.S.Store c.fill.new.tx.conn.now) → RunInTurn g.S.Store (g.B.Batch.statements c.args.batch.now) (begun c.args.conn.now) c.fill.new.tx.conn.now
+ran : (g : Over) (c : In_ok-fill g) → HasCleanDisk (state g.S.Store c.fill.new.tx.conn.now) → ExecutesInOrder g.S.Store (g.B.Batch.statements c.args.batch.now) (begun c.args.conn.now) c.fill.new.tx.conn.now
 ran g c early = let starts = c.transaction-tx.ensures.begun in rw starts at (c.in_ok-fill.ensures.runs early (rw starts refl))
 
 -- a crash leaves what it left before, or what the statements wrote
@@ -30,7 +30,7 @@ returns-clause-crash g c =
 pub returns-in_err-commit-clause-undone : goal.returns-in_err-commit-clause-undone
 returns-in_err-commit-clause-undone g c =
     let same : c.commit.new.self.0 ≡ c.conn-2-1.given.0 = search rules in
-    subst (λ h. HasCleanDisk (state g.S.Store h) → OnErr c.from_residual-in_err-commit.result (Undoes g.S.Store c.args.conn.now h)) same (λ clean.
+    subst (λ h. HasCleanDisk (state g.S.Store h) → OnErr c.from_residual-in_err-commit.result (RollsBack g.S.Store c.args.conn.now h)) same (λ clean.
     let early : HasCleanDisk (state g.S.Store c.fill.new.tx.conn.now) = omega (arith, clean, c.commit.ensures.survives.clean) in
     let turn = in_turn g.S.Store (g.B.Batch.statements c.args.batch.now) (begun c.args.conn.now) c.fill.new.tx.conn.now (ran g (goal.at.returns-in_err-commit-clause-undone g c).In_ok-fill early) in
     on_err _ c.from_residual-in_err-commit.result (failed_undoes g.S.Store c.args.conn.now c.fill.new.tx.conn.now c.commit.new.self.0 c.in_err-commit.field-0.0 (turn refl) (rw c.transaction-tx.ensures.begun at (c.fill.ensures.uncommitted.keeps early)) (c.in_err-commit.ensures.err clean)))

@@ -2,20 +2,20 @@ use Rattle.kt_base.proofs.PartTexts.{exit_codes_text, signals_text, tests_failed
 use Rattle.kt_base.proofs.verdict.Parts.counted.Goals as goal
 
 pub returns-in-OtherExitCode : goal.returns-in-OtherExitCode
-returns-in-OtherExitCode c = exit_codes_text _ c.args.phrase c.args.m c.args.n c.two_numbers.ensures c.in-OtherExitCode.is
+returns-in-OtherExitCode c = exit_codes_text _ c.args.phrase c.args.m c.args.n c.parts_of_two_numbers.ensures c.in-OtherExitCode.is
 
 pub returns-in-OtherSignal : goal.returns-in-OtherSignal
-returns-in-OtherSignal c = signals_text _ c.args.phrase c.args.m c.args.n c.two_numbers-in-OtherSignal.ensures c.in-OtherSignal.is
+returns-in-OtherSignal c = signals_text _ c.args.phrase c.args.m c.args.n c.parts_of_two_numbers-in-OtherSignal.ensures c.in-OtherSignal.is
 
 pub returns-in-TestsFailed : goal.returns-in-TestsFailed
-returns-in-TestsFailed c = tests_failed_text _ c.args.phrase c.args.m c.args.n c.two_numbers-in-TestsFailed.ensures c.in-TestsFailed.is
+returns-in-TestsFailed c = tests_failed_text _ c.args.phrase c.args.m c.args.n c.parts_of_two_numbers-in-TestsFailed.ensures c.in-TestsFailed.is
 
 pub returns-in-MemoryNeeded : goal.returns-in-MemoryNeeded
-returns-in-MemoryNeeded c = memory_text _ c.args.phrase c.args.m c.args.n c.two_numbers-in-MemoryNeeded.ensures c.in-MemoryNeeded.is
+returns-in-MemoryNeeded c = memory_text _ c.args.phrase c.args.m c.args.n c.parts_of_two_numbers-in-MemoryNeeded.ensures c.in-MemoryNeeded.is
 
 pub returns-in-DiskNeeded : goal.returns-in-DiskNeeded
-returns-in-DiskNeeded c = disk_text _ c.args.phrase c.args.m c.args.n c.two_numbers-in-DiskNeeded.ensures c.in-DiskNeeded.is
+returns-in-DiskNeeded c = disk_text _ c.args.phrase c.args.m c.args.n c.parts_of_two_numbers-in-DiskNeeded.ensures c.in-DiskNeeded.is
 
 pub returns-in_default : goal.returns-in_default
-returns-in_default c = count_text _ c.text.result.now c.args.phrase c.args.m c.args.n c.one_number.ensures c.text.ensures
+returns-in_default c = count_text _ c.text.result.now c.args.phrase c.args.m c.args.n c.parts_of_one_number.ensures c.text.ensures
     c.in_default.not-OtherExitCode c.in_default.not-OtherSignal c.in_default.not-TestsFailed c.in_default.not-MemoryNeeded c.in_default.not-DiskNeeded

@@ -14,25 +14,25 @@ returns-in_err-print_words g c =
     let p = err_from_is_err_and c.from_residual.result c.from_residual.ensures.1 in
     rw (p.1, bytes) (shows_more (first ++ (second ++ tail)) c.in_err-print_words.ensures)
 
-pub returns-in_err-print_numbered : goal.returns-in_err-print_numbered
-returns-in_err-print_numbered g c =
+pub returns-in_err-print_text_and_number : goal.returns-in_err-print_text_and_number
+returns-in_err-print_text_and_number g c =
     let s = c.args.self.now in
     let second = utf8 (chars s.between.now ++ number_text s.second) in
     let tail = utf8 (chars s.tail.now) in
     let bytes = parts_bytes (chars s.head.now) (chars s.lead.now) (number_text s.first) (chars s.between.now) (number_text s.second) (chars s.tail.now) in
-    let p = err_from_is_err_and c.from_residual-in_err-print_numbered.result c.from_residual-in_err-print_numbered.ensures.1 in
-    rw (p.1, bytes) (shows_both c.in_ok-print_words.ensures (shows_more (second ++ tail) c.in_err-print_numbered.ensures))
+    let p = err_from_is_err_and c.from_residual-in_err-print_text_and_number.result c.from_residual-in_err-print_text_and_number.ensures.1 in
+    rw (p.1, bytes) (shows_both c.in_ok-print_words.ensures (shows_more (second ++ tail) c.in_err-print_text_and_number.ensures))
 
-pub returns-in_err-print_numbered-2 : goal.returns-in_err-print_numbered-2
-returns-in_err-print_numbered-2 g c =
+pub returns-in_err-print_text_and_number-2 : goal.returns-in_err-print_text_and_number-2
+returns-in_err-print_text_and_number-2 g c =
     let s = c.args.self.now in
     let tail = utf8 (chars s.tail.now) in
     let bytes = parts_bytes (chars s.head.now) (chars s.lead.now) (number_text s.first) (chars s.between.now) (number_text s.second) (chars s.tail.now) in
-    let p = err_from_is_err_and c.from_residual-in_err-print_numbered-2.result c.from_residual-in_err-print_numbered-2.ensures.1 in
-    rw (p.1, bytes) (shows_both c.in_ok-print_words.ensures (shows_both c.in_ok-print_numbered.ensures (shows_more tail c.in_err-print_numbered-2.ensures)))
+    let p = err_from_is_err_and c.from_residual-in_err-print_text_and_number-2.result c.from_residual-in_err-print_text_and_number-2.ensures.1 in
+    rw (p.1, bytes) (shows_both c.in_ok-print_words.ensures (shows_both c.in_ok-print_text_and_number.ensures (shows_more tail c.in_err-print_text_and_number-2.ensures)))
 
 pub returns : goal.returns
 returns g c =
     let s = c.args.self.now in
     let bytes = parts_bytes (chars s.head.now) (chars s.lead.now) (number_text s.first) (chars s.between.now) (number_text s.second) (chars s.tail.now) in
-    rw bytes (shows_both c.in_ok-print_words.ensures (shows_both c.in_ok-print_numbered.ensures (shows_both c.in_ok-print_numbered-2.ensures c.print_words-2.ensures)))
+    rw bytes (shows_both c.in_ok-print_words.ensures (shows_both c.in_ok-print_text_and_number.ensures (shows_both c.in_ok-print_text_and_number-2.ensures c.print_words-2.ensures)))

@@ -1,5 +1,5 @@
 use Rattle.std.proofs.Common.{rules, ◌∙◌, ap}
-use Rattle.kt_child.proofs.Common.{stand_in}
+use Rattle.kt_child.proofs.Common.{process_state_in}
 use Rattle.kt_child.proofs.HostStandings.{others_stay}
 use Rattle.kt_child.proofs.host.children.keep_output.Goals as goal
 
@@ -10,4 +10,4 @@ returns-in-Some-clause-others g c =
 pub returns-clause-others : goal.returns-clause-others
 returns-clause-others g c k e =
     let kept = others_stay (λ a b. search rules) _ c.insert.new.self.entries c.args.child c.in_ok-insert.ensures.updates.2 in
-    kept k e ∙ ap (λ m. stand_in m.entries k) c.get_mut.follows.holds-at-none
+    kept k e ∙ ap (λ m. process_state_in m.entries k) c.get_mut.follows.holds-at-none

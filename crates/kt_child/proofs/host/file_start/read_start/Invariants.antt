@@ -1,6 +1,6 @@
 use Rattle.std.proofs.Common.{◌-◌, length}
 use Rattle.kt_child.proofs.HostReads.{HasRead}
-use Rattle.kt_child.proofs.host.reads.read_start.Given as goal
+use Rattle.kt_child.proofs.host.file_start.read_start.Given as goal
 
 -- The bytes so far are a prefix of the file.
 abbrev pub invariant-loop-buffer : goal.invariant-loop-buffer

@@ -4,4 +4,4 @@ use Rattle.kt_child.proofs.planning.words.list_words.Goals as goal
 
 pub returns : goal.returns
 unfolding chars
-returns c = rw (c.in_ok-push_text.ensures, c.in_ok-push_variable_words.ensures, c.new-words.ensures) refl
+returns c = rw (c.in_ok-push_text.ensures, c.in_ok-push_variable_args.ensures, c.new-words.ensures) refl

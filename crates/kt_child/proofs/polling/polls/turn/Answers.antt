@@ -1,6 +1,6 @@
 use Rattle.std.proofs.Common.{◌<◌, length, arith, refl, subst}
 use Rattle.std.proofs.Math.ListN.{get_or}
-use Rattle.kt_child.proofs.Common.{All-set, IsOn, IsWatched, Watched}
+use Rattle.kt_child.proofs.Common.{All-set, IsRunningChild, IsWatched, RunningChild}
 use Rattle.kt_child.proofs.TurnSteps.{on_at, same_at, step_more, step_over, step_set}
 use Rattle.kt_child.proofs.polling.polls.turn.Goals as goal
 
@@ -23,8 +23,8 @@ loop-i-preserved g c =
           l.invariant.asked c.in-More.ensures.asked;
       children = step_set init l.children l.i d lt l.invariant.children e c.poll_once.new.watch (c.in-More.ensures.watched refl).0;
       on =
-          All-set IsOn l.children l.i (record (get_or l.children l.i e) { watch = c.poll_once.new.watch }) (
-            subst (λ (t : Watched). IsWatched t.limit c.poll_once.new.watch) (same_at init l.children l.i d lt l.invariant.children e)
+          All-set IsRunningChild l.children l.i (record (get_or l.children l.i e) { watch = c.poll_once.new.watch }) (
+            subst (λ (t : RunningChild). IsWatched t.limit c.poll_once.new.watch) (same_at init l.children l.i d lt l.invariant.children e)
                 (c.in-More.ensures.watched refl).1,
             (on_at init l.children l.i e lt l.invariant.children c.requires).1,
           )

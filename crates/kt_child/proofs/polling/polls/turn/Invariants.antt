@@ -1,5 +1,5 @@
 use Rattle.std.proofs.Common.{◌≡◌, List, take}
-use Rattle.kt_child.proofs.Common.{Chain, Call, All, IsOn, PolledAll, advanced_below}
+use Rattle.kt_child.proofs.Common.{Chain, Call, All, IsRunningChild, PolledAll, advanced_below}
 use Rattle.kt_child.proofs.polling.polls.turn.Given as goal
 
 abbrev pub invariant-loop-i : goal.invariant-loop-i
@@ -7,5 +7,5 @@ invariant-loop-i g l =
     record {
       asked : (calls : List Call) × Chain g.O.Os.leads l.initial.os calls l.os × PolledAll (take l.i l.initial.children) calls;
       children : l.children ≡ advanced_below l.i l.initial.children;
-      on : All IsOn l.children;
+      on : All IsRunningChild l.children;
     }

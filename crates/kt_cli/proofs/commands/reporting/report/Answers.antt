@@ -7,7 +7,7 @@ pub returns-in-Err : goal.returns-in-Err
 returns-in-Err g c =
     did_not_show g.R.StoreSpec c.args.number _ _ _ _ _ (Reported c.args.number c.args.kinds.now c.args.verbose)
     (TextOrUnread c.args.number c.args.kinds.now c.args.verbose) c.in-Err.why _ (no_run c.args.verbose) (λ calls bytes u. inl u)
-    c.in-Err.ensures c.write_not_shown.ensures c.ended.ensures
+    c.in-Err.ensures c.write_report_error.ensures c.ended.ensures
 
 pub returns-then-not-verbose : goal.returns-then-not-verbose
 returns-then-not-verbose g c =

@@ -7,7 +7,7 @@ use Rattle.kt_cli.proofs.commands.reporting.report_junit.Goals as goal
 pub returns-in-Err : goal.returns-in-Err
 returns-in-Err g c =
     did_not_show g.R.StoreSpec c.args.number _ _ _ _ _ (ReportedJunit c.args.number) (JunitOrUnread c.args.number) c.in-Err.why _ no_run
-    (λ calls bytes u. inl u) c.in-Err.ensures c.write_not_shown.ensures c.ended.ensures
+    (λ calls bytes u. inl u) c.in-Err.ensures c.write_report_error.ensures c.ended.ensures
 
 pub returns-in-Ok-write_junit : goal.returns-in-Ok-write_junit
 returns-in-Ok-write_junit g c =

@@ -1,14 +1,14 @@
 use Rattle.std.proofs.Common.{Bool, length}
 use denote.Text.{Utf8}
 use denote.Shadow.{shadow}
-use Rattle.kt_cli.proofs.Common.{Searched, directories}
+use Rattle.kt_cli.proofs.Common.{SearchesDirectories, directories}
 use Rattle.kt_cli.proofs.host.program_search.is_among.Given as goal
 
 -- the result of searching the rest is the result of the whole search
 abbrev pub invariant-loop-directory : goal.invariant-loop-directory
 invariant-loop-directory g l =
-    ((answer : Bool) (new : g.row.M.Denot) → Searched g.M.HostFiles.answers l.name (directories l.rest) answer l.machine new
-    → Searched g.M.HostFiles.answers l.name (directories l.among) answer l.fn.machine new) × shadow (Utf8 l.rest)
+    ((answer : Bool) (new : g.row.M.Denot) → SearchesDirectories g.M.HostFiles.answers l.name (directories l.rest) answer l.machine new
+    → SearchesDirectories g.M.HostFiles.answers l.name (directories l.among) answer l.fn.machine new) × shadow (Utf8 l.rest)
 
 abbrev pub decreases-loop-directory : goal.decreases-loop-directory
 decreases-loop-directory g l = length l.rest

@@ -15,6 +15,6 @@ returns-in-Parallelism-clause-ok c = rw (c.in-Parallelism.is, ← c.self.view_is
 pub returns-in-UnprivilegedUser-clause-ok : goal.returns-in-UnprivilegedUser-clause-ok
 returns-in-UnprivilegedUser-clause-ok c = rw c.in-UnprivilegedUser.is (adds _ _ _ refl refl refl (adds-none _ _ _ refl (λ suite. refl)))
 
-pub returns-in-OfSuite-clause-ok : goal.returns-in-OfSuite-clause-ok
-returns-in-OfSuite-clause-ok c =
-    on_ok_weaker c.put.result (λ added. rw (c.in-OfSuite.is, ← c.self.view_is) (adds _ _ _ refl refl refl (adds-suite _ _ _ _ added))) c.put.ensures.ok
+pub returns-in-SuiteVariable-clause-ok : goal.returns-in-SuiteVariable-clause-ok
+returns-in-SuiteVariable-clause-ok c =
+    on_ok_weaker c.put.result (λ added. rw (c.in-SuiteVariable.is, ← c.self.view_is) (adds _ _ _ refl refl refl (adds-suite _ _ _ _ added))) c.put.ensures.ok

@@ -1,12 +1,12 @@
 use Rattle.std.proofs.Common.{rules, ◌≡◌, ◌∙◌, ap, map, sym, List, [], ◌∷◌, ◌++◌, Some}
-use Rattle.kt_config.proofs.Common.{string_eq, insert_entry, Variable, last_values, group_in}
+use Rattle.kt_config.proofs.Common.{string_eq, insert_entry, Variable, last_values, suite_in}
 use Rattle.kt_config.proofs.Entries.{unwritten, adds-there, adds-new}
 use Rattle.kt_config.proofs.suites.Suites.put.Goals as goal
 
 pub returns-in_err-put-clause-err : goal.returns-in_err-put-clause-err
 returns-in_err-put-clause-err c =
-    let e : map group_in (c.get_mut.follows.lender c.put.new.self).entries ≡ c.args.self.now
-    = ap (λ es. map group_in es) ((c.get_mut.follows.holds c.put.new.self).0)
+    let e : map suite_in (c.get_mut.follows.lender c.put.new.self).entries ≡ c.args.self.now
+    = ap (λ es. map suite_in es) ((c.get_mut.follows.holds c.put.new.self).0)
     ∙ unwritten c.as_str.result.now c.put.new.self c.self.inside.groups.entries (sym c.in-Some.ensures.value ∙ ap Some (sym c.in_err-put.ensures.err))
     ∙ c.self.view_is in
     search (rules, e)

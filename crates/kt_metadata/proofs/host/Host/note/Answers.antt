@@ -1,5 +1,5 @@
 use Rattle.std.proofs.Common.{Bool, true, false, ◌≡◌, ℕ, List, ◌||◌, cond, refl, sym, ap, ◌∙◌, bytes_eq, BTreeSet, Global, string_bytes}
-use Rattle.kt_metadata.proofs.Common.{contains_text, String, utf8, is_found, is_same_need, IsNoted, Host, Need, File, Program}
+use Rattle.kt_metadata.proofs.Common.{contains_text, String, utf8, is_found, is_same_need, IsRecordedAsFound, Host, Need, File, Program}
 use Rattle.std.proofs.Math.Bool.{or-false}
 use Rattle.std.proofs.lemmas.Map.Text.{btree_set_updates_text}
 use Rattle.kt_metadata.proofs.host.Host.note.Goals as goal
@@ -12,7 +12,7 @@ or_last false false = refl
 
 -- A file is recorded as found.
 noted_file : (name : List ℕ) (old : Host) (files : BTreeSet (String Global)) → ((bytes : List ℕ) → contains_text files bytes ≡ (contains_text old.files bytes || bytes_eq (utf8 name) bytes))
-    → IsNoted File name old (record { root = old.root; files = files; programs = old.programs; memory = old.memory; disk = old.disk })
+    → IsRecordedAsFound File name old (record { root = old.root; files = files; programs = old.programs; memory = old.memory; disk = old.disk })
 noted_file name old files h = record { found = by; root = refl; memory = refl; disk = refl }
   where
     by : (need : Need) (word : List ℕ) → is_found need (record { root = old.root; files = files; programs = old.programs; memory = old.memory; disk = old.disk }) word ≡ (is_found need old word || is_same_need File name need word)
@@ -21,7 +21,7 @@ noted_file name old files h = record { found = by; root = refl; memory = refl; d
 
 -- A program is recorded as found.
 noted_program : (name : List ℕ) (old : Host) (programs : BTreeSet (String Global)) → ((bytes : List ℕ) → contains_text programs bytes ≡ (contains_text old.programs bytes || bytes_eq (utf8 name) bytes))
-    → IsNoted Program name old (record { root = old.root; files = old.files; programs = programs; memory = old.memory; disk = old.disk })
+    → IsRecordedAsFound Program name old (record { root = old.root; files = old.files; programs = programs; memory = old.memory; disk = old.disk })
 noted_program name old programs h = record { found = by; root = refl; memory = refl; disk = refl }
   where
     by : (need : Need) (word : List ℕ) → is_found need (record { root = old.root; files = old.files; programs = programs; memory = old.memory; disk = old.disk }) word ≡ (is_found need old word || is_same_need Program name need word)

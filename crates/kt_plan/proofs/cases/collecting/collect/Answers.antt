@@ -5,26 +5,26 @@ use Rattle.kt_plan.proofs.cases.collecting.collect.Goals as goal
 
 pub returns-in-Err-clause-collected : goal.returns-in-Err-clause-collected
 returns-in-Err-clause-collected g c =
-    tree_stopped g.W.Tree.asks g.W.World.replies c.args.settings.now c.args.kyuafile.now c.args.world.now c.programs_of.new.tree c.in-Err.fault c.tree_stop.result c.in-Err.ensures.loaded c.tree_stop.ensures
+    tree_stopped g.W.Tree.asks g.W.World.replies c.args.settings.now c.args.kyuafile.now c.args.world.now c.load_programs.new.tree c.in-Err.fault c.tree_stop.result c.in-Err.ensures.loaded c.tree_stop.ensures
 
 pub returns-in-Err-clause-idle : goal.returns-in-Err-clause-idle
 returns-in-Err-clause-idle g c =
-    let a = c.programs_of.ensures.loaded in
-    idle_after g.W.Tree.asks g.W.Launcher.running g.W.Launcher.pending g.met.W.World.runs_on g.met.W.World.pends_on c.args.world.now c.programs_of.new.tree a.asked a.chain c.requires
+    let a = c.load_programs.ensures.loaded in
+    idle_after g.W.Tree.asks g.W.Launcher.running g.W.Launcher.pending g.met.W.World.runs_on g.met.W.World.pends_on c.args.world.now c.load_programs.new.tree a.asked a.chain c.requires
 
 pub offered-requires : goal.offered-requires
 offered-requires g c =
-    let a = c.programs_of.ensures.loaded in
-    idle_after g.W.Tree.asks g.W.Launcher.running g.W.Launcher.pending g.met.W.World.runs_on g.met.W.World.pends_on c.args.world.now c.programs_of.new.tree a.asked a.chain c.requires
+    let a = c.load_programs.ensures.loaded in
+    idle_after g.W.Tree.asks g.W.Launcher.running g.W.Launcher.pending g.met.W.World.runs_on g.met.W.World.pends_on c.args.world.now c.load_programs.new.tree a.asked a.chain c.requires
 
 pub returns-in_err-found-clause-collected : goal.returns-in_err-found-clause-collected
 returns-in_err-found-clause-collected g c =
     let p = err_from_is_err_and c.from_residual.result c.from_residual.ensures.1 in
-    lists_stopped g.W.Tree.asks g.W.World.replies c.args.settings.now c.args.kyuafile.now c.args.world.now c.programs_of.new.tree c.in-Ok.programs c.offered.new.world c.in-Ok.ensures.loaded c.as_slice.result.now c.from_residual.result p.0 c.as_slice.ensures c.in_err-found.ensures.offers p.1 (_, p.2)
+    lists_stopped g.W.Tree.asks g.W.World.replies c.args.settings.now c.args.kyuafile.now c.args.world.now c.load_programs.new.tree c.in-Ok.programs c.offered.new.world c.in-Ok.ensures.loaded c.as_slice.result.now c.from_residual.result p.0 c.as_slice.ensures c.in_err-found.ensures.offers p.1 (_, p.2)
 
 pub returns-clause-collected : goal.returns-clause-collected
 returns-clause-collected g c =
-    all_chosen g.W.Tree.asks g.W.World.replies c.args.settings.now c.args.kyuafile.now c.args.world.now c.programs_of.new.tree c.in-Ok.programs c.offered.new.world c.in-Ok.ensures.loaded c.as_slice.result.now c.as_slice-2.result.now c.in_ok-found.found c.as_slice.ensures c.as_slice-2.ensures c.in_ok-found.ensures.offers c.choose.result c.choose.ensures.chosen c.choose.ensures.few c.choose.ensures.stopped
+    all_chosen g.W.Tree.asks g.W.World.replies c.args.settings.now c.args.kyuafile.now c.args.world.now c.load_programs.new.tree c.in-Ok.programs c.offered.new.world c.in-Ok.ensures.loaded c.as_slice.result.now c.as_slice-2.result.now c.in_ok-found.found c.as_slice.ensures c.as_slice-2.ensures c.in_ok-found.ensures.offers c.choose.result c.choose.ensures.chosen c.choose.ensures.few c.choose.ensures.stopped
 
 pub returns-clause-few : goal.returns-clause-few
 returns-clause-few g c = few_chosen c.as_slice-2.result.now c.in_ok-found.found c.choose.result c.choose.ensures.chosen c.choose.ensures.few

@@ -6,8 +6,8 @@ use Rattle.kt_plan.proofs.options.case_filters.read_filters.Goals as goal
 pub returns-in_err-filters : goal.returns-in_err-filters
 returns-in_err-filters c = not_parsed c.args.needs_case c.args.words.now _ _ c.from_residual-in_err-filters.ensures.1 (search rules)
 
-pub clash_of-requires : goal.clash_of-requires
-clash_of-requires c =
+pub overlap_stop-requires : goal.overlap_stop-requires
+overlap_stop-requires c =
     let e : filters_of c.args.words.now ≡ Ok c.in_ok-filters.filters = search rules in
     length_of_each filter_of c.args.words.now _ (e ∙ ap (λ x. Ok x) (sym c.as_slice.ensures))
 

@@ -4,12 +4,12 @@ use Rattle.kt_plan.proofs.Settling.{stops_short}
 use Rattle.kt_plan.proofs.options.configuring.configure.Goals as goal
 
 pub returns-in_err-config : goal.returns-in_err-config
-returns-in_err-config g c = configured_not g.W.World.replies _ _ c.args.options.now c.config_given.result _ _ (search rules) c.from_residual.ensures.1 c.config_given.ensures
+returns-in_err-config g c = configured_not g.W.World.replies _ _ c.args.options.now c.read_given_config.result _ _ (search rules) c.from_residual.ensures.1 c.read_given_config.ensures
 
-pub returns-in_err-set_words : goal.returns-in_err-set_words
-returns-in_err-set_words g c =
-    configured_short g.W.World.replies _ _ c.args.options.now c.config_given.result _ c.in_ok-config.config (search rules) (stops_short _ _ c.from_residual-in_err-set_words.ensures.1) c.config_given.ensures
+pub returns-in_err-set_arguments : goal.returns-in_err-set_arguments
+returns-in_err-set_arguments g c =
+    configured_short g.W.World.replies _ _ c.args.options.now c.read_given_config.result _ c.in_ok-config.config (search rules) (stops_short _ _ c.from_residual-in_err-set_arguments.ensures.1) c.read_given_config.ensures
 
 pub returns : goal.returns
 returns g c =
-    configured_both g.W.World.replies _ _ c.args.options.now c.config_given.result c.in_ok-set_words.field-0 c.in_ok-config.config (search rules) (search rules) c.config_given.ensures
+    configured_both g.W.World.replies _ _ c.args.options.now c.read_given_config.result c.in_ok-set_arguments.field-0 c.in_ok-config.config (search rules) (search rules) c.read_given_config.ensures

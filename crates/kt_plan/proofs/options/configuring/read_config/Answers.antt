@@ -10,4 +10,4 @@ pub returns-in_ok-config_of-in-Ok : goal.returns-in_ok-config_of-in-Ok
 returns-in_ok-config_of-in-Ok g c = file_seen g.W.World.replies _ _ c.args.path.now c.in-Ok.bytes c.config.result _ c.config.ensures (search rules) (search rules)
 
 pub returns-in-Err : goal.returns-in-Err
-returns-in-Err g c = rw c.unread_stop.ensures (file_unread g.W.World.replies _ _ c.args.path.now c.config.result c.in-Err.fault c.config.ensures c.in-Err.is)
+returns-in-Err g c = rw c.config_read_stop.ensures (file_unread g.W.World.replies _ _ c.args.path.now c.config.result c.in-Err.fault c.config.ensures c.in-Err.is)

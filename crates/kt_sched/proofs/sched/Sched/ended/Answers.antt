@@ -5,7 +5,7 @@ use Rattle.kt_sched.proofs.sched.Sched.ended.Goals as goal
 pub returns : goal.returns
 returns c =
     ended c.self.view_is c.self.invariant c.args.ended c.after_end.result c.requires.asked c.requires.runs c.index_mut-case.ensures.value c.replace-was.ensures.value
-    c.after_end.ensures c.active_after-self-inside.ensures c.owing_and_ready.ensures.owing c.owing_and_ready.ensures.ready
+    c.after_end.ensures c.active_after-self-inside.ensures c.pending_and_ready.ensures.owing c.pending_and_ready.ensures.ready
 
 pub invariant_of-self : goal.invariant_of-self
 invariant_of-self c =

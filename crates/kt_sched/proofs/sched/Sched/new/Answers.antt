@@ -1,4 +1,4 @@
-use Rattle.kt_sched.proofs.Common.{◌≡◌, List, subst, Job, turns, nothing_fed, positions}
+use Rattle.kt_sched.proofs.Common.{◌≡◌, List, subst, Job, turns, no_responses, positions}
 use Rattle.kt_sched.proofs.Begin.{new_stands}
 use Rattle.kt_sched.proofs.sched.Sched.new.Goals as goal
 
@@ -8,4 +8,4 @@ returns-clause-stands c =
     new_stands c.requires.plan c.requires.width.positive c.into_vec-jobs.ensures c.in_ok-cases.ensures order
 
 pub invariant_of-result : goal.invariant_of-result
-invariant_of-result c = (c.args.plan, c.args.width, nothing_fed, returns-clause-stands c)
+invariant_of-result c = (c.args.plan, c.args.width, no_responses, returns-clause-stands c)

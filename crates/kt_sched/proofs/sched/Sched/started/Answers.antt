@@ -7,7 +7,7 @@ pub returns : goal.returns
 returns c =
     started c.self.view_is c.self.invariant c.args.i c.args.role c.args.answer c.after_start.result c.requires c.index_mut-case.ensures.value c.replace-was.ensures.value
     (c.after_start.ensures c.args.i) c.turn_after-self-inside.ensures (c.eq.ensures ∙ is_cleanup c.args.role) c.active_after-self-inside.ensures
-    c.owing_and_ready.ensures.owing c.owing_and_ready.ensures.ready
+    c.pending_and_ready.ensures.owing c.pending_and_ready.ensures.ready
 
 pub invariant_of-self : goal.invariant_of-self
 invariant_of-self c =

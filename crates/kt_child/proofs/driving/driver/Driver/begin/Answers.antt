@@ -1,5 +1,5 @@
 use Rattle.std.proofs.Common.{◌≡◌, ◌∙◌, ℕ, List, refl, subst, ap}
-use Rattle.kt_child.proofs.Common.{Chain, ChildrenState, Job, CaseAttempt, Spawning, Call, Begun, state_after_start, job_purpose, limit_of, case_of, spawning_for, spawning_of, want_of, shown_in, spawned}
+use Rattle.kt_child.proofs.Common.{Chain, ChildrenState, Job, CaseAttempt, SpawnPlan, Call, StartsByPlan, state_after_start, job_purpose, limit_of, case_of, spawning_for, spawning_of, want_of, shown_in, spawned}
 use Rattle.kt_child.specs.declared.planning.Want.{Want}
 use Rattle.kt_child.proofs.StateWaits.{shown_started}
 use Rattle.kt_child.proofs.driving.driver.Driver.begin.Goals as goal
@@ -12,13 +12,13 @@ planned source job c want limit e f = rw (e, f) refl
 pub returns-in-Ok-clause-begun : goal.returns-in-Ok-clause-begun
 returns-in-Ok-clause-begun g c =
     let case = case_of c.args.job.now c.args.role c.args.attempt c.args.paths in
-    let B : Spawning → Type 0 = λ s. (calls : List Call) × Chain g.O.Os.leads c.args.self.now.os calls c.start.new.os × Begun s calls c.start.result in
+    let B : SpawnPlan → Type 0 = λ s. (calls : List Call) × Chain g.O.Os.leads c.args.self.now.os calls c.start.new.os × StartsByPlan s calls c.start.result in
     subst B (c.in-Ok.ensures.plan ∙ planned c.args.self.now.source c.args.job.now case _ _ c.want_and_limit-want.ensures.want c.want_and_limit-want.ensures.limit) c.start.ensures.begun
 
 pub returns-in-Ok-clause-state : goal.returns-in-Ok-clause-state
 returns-in-Ok-clause-state g c =
     let case = case_of c.args.job.now c.args.role c.args.attempt c.args.paths in
-    c.start.ensures.state ∙ ap (λ (s : Spawning). state_after_start c.args.self.now.running (spawned s.limit case) c.start.result)
+    c.start.ensures.state ∙ ap (λ (s : SpawnPlan). state_after_start c.args.self.now.running (spawned s.limit case) c.start.result)
     (c.in-Ok.ensures.plan ∙ planned c.args.self.now.source c.args.job.now case _ _ c.want_and_limit-want.ensures.want c.want_and_limit-want.ensures.limit)
 
 pub returns-in-Ok-clause-running : goal.returns-in-Ok-clause-running

@@ -1,5 +1,5 @@
 use Rattle.std.proofs.Common.{rules, ◌≡◌, Some, inl, sym, ◌∙◌, subst, IfOk, IsSome}
-use Rattle.kt_child.proofs.Common.{Stand}
+use Rattle.kt_child.proofs.Common.{ProcessState}
 use Rattle.kt_child.proofs.HostStandings.{all_stay, changed, proceeds_by}
 use Rattle.kt_child.specs.contracts.system.ChildPartialEq.TheImpl.{eq-value as same}
 use Rattle.kt_child.proofs.host.host_os.HostOsOs.poll.Goals as goal
@@ -26,5 +26,5 @@ returns-in-Ok-Some g c =
     let v = changed {eq = same.it} (λ a b. search rules) _ _ c.args.child c.in-Some.held.now c.poll.new.self (sym c.in-Some.ensures.value) u.1 u.2 in
     let w = rw c.is_late-late.ensures.children at v in
     let proceeds = proceeds_by _ _ _ _ w.0 w.1 c.poll.ensures.proceeds in
-    let ended = subst (λ (t : Stand). IfOk c.poll.result (λ s. IsSome s → t ≡ Some s)) (sym w.1) c.poll.ensures.ended in
+    let ended = subst (λ (t : ProcessState). IfOk c.poll.result (λ s. IsSome s → t ≡ Some s)) (sym w.1) c.poll.ensures.ended in
     search (rules, proceeds, ended, w.2)

@@ -1,7 +1,0 @@
-use Rattle.std.proofs.Common.{◌≡◌, List, ◌++◌, drop, map, option_map}
-use Rattle.kt_args.proofs.Common.{Kind, comma_words, kinds_named}
-use Rattle.kt_args.proofs.filter.kinds_in.Given as goal
-
--- The kinds so far, followed by the kinds of the other elements, are the kinds of the filter.
-abbrev pub invariant-loop-element : goal.invariant-loop-element
-invariant-loop-element l = kinds_named (comma_words l.words) ≡ option_map (λ (kinds : List Kind). l.kinds ++ kinds) (kinds_named (map (λ x. x.now) (drop l.element-index l.element-items)))

@@ -1,5 +1,0 @@
-use Rattle.kt_dbfile.proofs.OpeningLemmas.{taken_files}
-use Rattle.kt_dbfile.proofs.runs_file.taken_of.Goals as goal
-
-pub returns-clause-taken : goal.returns-clause-taken
-returns-clause-taken g c = taken_files c.args.connection c.taken.result c.taken.ensures.taken

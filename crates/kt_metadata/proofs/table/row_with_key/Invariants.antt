@@ -1,0 +1,6 @@
+use Rattle.std.proofs.Common.{◌≡◌, drop, map}
+use Rattle.kt_metadata.proofs.Common.{find, row_in, has_key}
+use Rattle.kt_metadata.proofs.table.row_with_key.Given as goal
+
+abbrev pub invariant-loop-row : goal.invariant-loop-row
+invariant-loop-row l = find (has_key l.key) (map row_in (drop l.row-index l.rows)) ≡ find (has_key l.key) (map row_in l.rows)

@@ -1,0 +1,10 @@
+use Rattle.std.proofs.Common.{drop}
+use Rattle.kt_plan.proofs.Wanting.{AreAmong, IsAhead}
+use Rattle.kt_plan.proofs.cases.offering.any_may_match.Given as goal
+
+-- The remaining filters are some of all, and include each that may select a case.
+abbrev pub invariant-loop-filter : goal.invariant-loop-filter
+invariant-loop-filter l = record {
+  among : AreAmong (drop l.filter-index l.filters) l.filters;
+  ahead : IsAhead (drop l.filter-index l.filters) l.filters l.path;
+}
