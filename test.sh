@@ -79,6 +79,7 @@ cp "$room/log" "$room/mutants"
 part 'clauses of the mutants' 'scripts/clauses.py LOG' scripts/clauses.py "$room/mutants"
 part 'effects without a contract' scripts/faults.sh scripts/faults.sh
 part 'definitions' scripts/definitions.sh scripts/definitions.sh
+part 'imports' scripts/circles.py scripts/circles.py
 part 'pages' scripts/documents.sh scripts/documents.sh
 part 'examples alone' scripts/rows_alone.sh scripts/rows_alone.sh
 # rt ci leaves the program that it proved. If a proof failed, there is no program, and the suite fails, too.
