@@ -436,6 +436,10 @@ kt_cli/src/output/held_output.rt: io::Error::from(ErrorKind::BrokenPipe)
 kt_cli/src/output/line_output.rt: io::Error::from(ErrorKind::BrokenPipe)
 # A call of the output inside another call, which never happens.
 kt_cli/src/output/shared_output.rt: io::Error::from(ErrorKind::Other)
+# A call for the file of a stalled report that fails or moves no byte.
+kt_cli/src/output/spool.rt: Err(_) => Err(io::Error::from_raw_os_error(os::errno())),
+kt_cli/src/output/spool.rt: Ok(0) => Err(io::Error::from(ErrorKind::WriteZero)),
+kt_cli/src/output/spool.rt: return Err(io::Error::from_raw_os_error(os::errno()));
 # A terminal that accepts nothing now.
 kt_cli/src/output/standard_output.rt: Err(fault) if fault.kind() == ErrorKind::WouldBlock => Ok(0),
 PLACES
@@ -491,6 +495,8 @@ kt_removal/src/removals.rt: if self.remove_file(rt, path.as_slice()).is_ok() {
 kt_removal/src/removals.rt: self.remove_if_empty(rt, path) || self.remove_file(rt, path.as_bytes()).is_ok()
 kt_removal/src/removals.rt: self.remove_directory(rt, path.as_slice());
 kt_removal/src/named.rt: let _ = self.remove_file(rt, path.as_slice());
+# The name of a stalled report's file, which was just created.
+kt_cli/src/output/spool.rt: let _ = os::unlink(path);
 # A directory that was just created, and can't be used.
 kt_child/src/host/outputs.rt: let _ = fs::remove_dir(rt, path);
 kt_child/src/host/outputs.rt: let _ = fs::remove_dir(rt, root.as_str());
@@ -593,6 +599,8 @@ kt_cli/src/output/held_output.rt: self.failed = answer.is_err();
 kt_cli/src/output/held_output.rt: self.failed = failed;
 kt_cli/src/output/held_output.rt: self.failed = true;
 kt_cli/src/output/held_output.rt: self.failed = true;
+# The result of a call that puts bytes aside.
+kt_cli/src/output/held_output.rt: Err(_fault) => self.failed = true,
 kt_cli/src/output/line_output.rt: self.failed = self.held.write_buffered(&mut self.out);
 kt_cli/src/output/line_output.rt: self.failed = self.held.write_buffered(&mut self.out);
 # The number of bytes that a writer took, in `send` itself.

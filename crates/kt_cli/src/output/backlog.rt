@@ -66,6 +66,14 @@ impl Backlog {
         Ok(())
     }
 
+    /// Removes all bytes.
+    pub fn clear(&mut self)
+        ensures { self.new ≡ [] }
+    {
+        self.bytes.clear();
+        self.start = 0;
+    }
+
     /// Removes the first `count` bytes, which were written.
     pub fn advance(&mut self, count: usize)
         requires { count ≤ length self.old }
@@ -73,8 +81,7 @@ impl Backlog {
     {
         self.start += count;
         if self.start == self.bytes.len() {
-            self.bytes.clear();
-            self.start = 0;
+            self.clear();
         }
     }
 }

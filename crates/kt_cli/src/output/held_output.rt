@@ -8,18 +8,24 @@ use std::io::{ErrorKind, Write};
 /// The maximum number of offers in one step.
 const OFFERS: usize = 16;
 
+/// The maximum number of bytes that are held in memory after `limit_memory`: 1 MiB.
+const MOST_HELD: usize = 1_048_576;
+
 /// A writer that, from the first `step` on, does not wait for its reader.
 ///
 /// Bytes that the reader does not take yet are held in memory, in order. Each later write and step
-/// offers them again. A flush writes all of them, and waits for the reader. So does a write whose
-/// bytes can't be held because the allocation fails. After a failed write every call fails, and
-/// nothing more is written.
+/// offers them again. After `limit_memory`, bytes beyond 1 MiB are put aside by the inner writer. A
+/// flush writes all of them, and waits for the reader. So does a write whose bytes can't be held
+/// because the allocation fails. After a failed write every call fails, and nothing more is
+/// written.
 #[derive(Drop)]
 pub struct HeldOutput<W> {
     out: W,
     held: Backlog,
     /// Whether `step` was called.
     patient: bool,
+    /// The maximum number of held bytes in memory.
+    most: usize,
     /// Whether a write has failed.
     failed: bool,
 }
@@ -43,6 +49,7 @@ impl<W: Outlet> HeldOutput<W> {
             out,
             held: Backlog::new(alloc),
             patient: false,
+            most: usize::MAX,
             failed: false,
         }
     }
@@ -87,6 +94,30 @@ impl<W: Outlet> HeldOutput<W> {
         self.offer_all();
     }
 
+    /// Limits the memory of held bytes to 1 MiB, and makes a step.
+    pub fn limit_memory(&mut self)
+        ensures bytes { Keeps (given_to W.contents self.old) (given_to W.contents self.new) }
+        ensures few { length (held_back self.new) ≤ length (held_back self.old) }
+    {
+        self.step();
+        self.most = MOST_HELD;
+    }
+
+    /// Puts all held bytes aside if they are more than the limit.
+    fn put_excess_aside(&mut self)
+        ensures bytes { Keeps (given_to W.contents self.old) (given_to W.contents self.new) }
+        ensures few { length (held_back self.new) ≤ length (held_back self.old) }
+    {
+        let held = self.held.as_slice();
+        if held.len() <= self.most {
+            return;
+        }
+        match self.out.put_aside(held) {
+            Ok(()) => self.held.clear(),
+            Err(_fault) => self.failed = true,
+        }
+    }
+
     /// Writes all held bytes, waits for the reader, and returns `true` if a write failed.
     fn write_held(&mut self) -> bool
         ensures bytes { Keeps (given_to W.contents self.old) (given_to W.contents self.new) }
@@ -123,6 +154,7 @@ impl<W: Outlet> HeldOutput<W> {
             ≤ length (held_back self.old) + length buf.now }
     {
         if self.held.append(buf).is_ok() {
+            self.put_excess_aside();
             return Ok(buf.len());
         }
         if self.write_held() {

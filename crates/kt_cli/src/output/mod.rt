@@ -8,4 +8,5 @@ pub(crate) mod held_output;
 pub(crate) mod line_output;
 pub(crate) mod outlet;
 pub(crate) mod shared_output;
+pub(crate) mod spool;
 pub(crate) mod standard_output;

@@ -1,14 +1,19 @@
 use crate::Outlet;
+use crate::output::spool::Spool;
 use libc::net::{POLLOUT, poll};
 use libc::types::pollfd;
 use std::fs::{File, OpenOptions};
-use std::io;
 use std::io::{ErrorKind, Print, Write};
 use std::os::fd::AsRawFd;
-use std::rt::Files;
+use std::os::unix::fs::FileTypeExt;
+use std::rt::{Env, Files};
+use std::{fs, io};
 
 /// The number of bytes that a writable pipe takes at least (limits.h, `PIPE_BUF`).
 const PIPE_BUF: usize = 4_096;
+
+/// The path of standard output, as Linux gives it.
+const PATH: &str = "/proc/self/fd/1";
 
 /// A handle of the standard output of the process.
 #[derive(Drop)]
@@ -19,6 +24,10 @@ pub struct StandardOutput<'a, R> {
     /// Writes to this descriptor don't wait, while writes to the inherited descriptor do. Polling
     /// does not help here, because a terminal may be ready for one byte only.
     terminal: Option<File>,
+    /// Whether standard output is a file or a device, whose writes wait for no reader.
+    is_file: bool,
+    /// The bytes that were put aside, if any were.
+    spool: Option<Spool>,
 }
 
 /// Returns `true` if a write to standard output returns at once, or if the poll fails.
@@ -31,12 +40,23 @@ fn is_ready() -> bool {
     poll(&mut asked, 0) != 0
 }
 
+/// Returns `true` if standard output is known to be neither a terminal nor a pipe nor a socket.
+fn is_file<R: Files>(rt: &R) -> bool {
+    if libc::isatty(libc::STDOUT_FILENO) == 1 {
+        return false;
+    }
+    match fs::metadata(rt, PATH) {
+        Ok(found) => !found.file_type().is_fifo() && !found.file_type().is_socket(),
+        Err(_) => false,
+    }
+}
+
 /// Opens the terminal of standard output a second time, in non-blocking mode, if there is one.
 fn open_terminal<R: Files<File = File>>(rt: &R) -> Option<File> {
     if libc::isatty(libc::STDOUT_FILENO) != 1 {
         return None;
     }
-    let opened = OpenOptions::new().write(true).open(rt, "/proc/self/fd/1");
+    let opened = OpenOptions::new().write(true).open(rt, PATH);
     let terminal = opened.ok()?;
     if os::set_nonblocking(terminal.as_raw_fd(), true) == 0 {
         Some(terminal)
@@ -52,31 +72,60 @@ impl<'a, R: Files<File = File>> StandardOutput<'a, R> {
         StandardOutput {
             rt,
             terminal: open_terminal(rt),
+            is_file: is_file(rt),
+            spool: None,
+        }
+    }
+}
+
+impl<R: Print> StandardOutput<'_, R> {
+    /// Writes the bytes that were put aside, and waits for the reader.
+    fn write_spool(&mut self) -> io::Result<()> {
+        match self.spool.take() {
+            Some(mut spool) => spool.print_all(self.rt),
+            None => Ok(()),
         }
     }
 }
 
 impl<R: Print> Write for StandardOutput<'_, R> {
     fn write(&mut self, buf: &[u8]) -> io::Result<usize> {
+        self.write_spool()?;
         self.rt.write_some(buf)
     }
 
     fn flush(&mut self) -> io::Result<()> {
-        Ok(())
+        self.write_spool()
     }
 }
 
-impl<R: Print> Outlet for StandardOutput<'_, R> {
+impl<R: Env + Print> Outlet for StandardOutput<'_, R> {
     fn offer(&mut self, buf: &[u8]) -> io::Result<usize> {
+        if self.spool.is_some() {
+            return Ok(0);
+        }
         if let Some(terminal) = &mut self.terminal {
             return match terminal.write(buf) {
                 Err(fault) if fault.kind() == ErrorKind::WouldBlock => Ok(0),
                 answer => answer,
             };
         }
+        if self.is_file {
+            return self.rt.write_some(buf);
+        }
         if !is_ready() {
             return Ok(0);
         }
         self.rt.write_some(&buf[..buf.len().min(PIPE_BUF)])
+    }
+
+    fn put_aside(&mut self, buf: &[u8]) -> io::Result<()> {
+        let mut spool = match self.spool.take() {
+            Some(spool) => spool,
+            None => Spool::create(self.rt)?,
+        };
+        let appended = spool.append(buf);
+        self.spool = Some(spool);
+        appended
     }
 }

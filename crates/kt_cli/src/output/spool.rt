@@ -1,0 +1,120 @@
+ghost use Rattle.std.specs.Prelude.{◌≡◌, ◌<◌, ◌≤◌, pos, IfOk};
+
+use std::io;
+use std::io::{ErrorKind, Print};
+use std::rt::Env;
+
+/// The length of the longest path that the host accepts, in bytes.
+const LONGEST_PATH: usize = 4_095;
+
+/// The directory of a spool if the variable `TMPDIR` has no value.
+const DIRECTORY: &[u8] = b"/tmp";
+
+/// The last part of a spool's path. mkstemp(3) replaces its six last characters.
+const NAME: &[u8] = b"/kyua.XXXXXX";
+
+/// The maximum length of a spool's directory, in bytes.
+const LONGEST_DIRECTORY: usize = LONGEST_PATH - NAME.len();
+
+/// The maximum number of bytes that are read at once.
+const BLOCK: usize = 65_536;
+
+/// A file without a name, for bytes that are written later, in order.
+///
+/// The file exists until the process exits.
+#[derive(Drop)]
+pub struct Spool {
+    /// The descriptor of the file.
+    fd: i32,
+    /// The offset of the first byte that is not written yet.
+    start: u64,
+    /// The number of bytes that are not written yet.
+    left: u64,
+}
+
+/// Returns the number of bytes that a call of the system moved, from the result of the call.
+///
+/// Fails if the call failed or moved nothing.
+fn moved(answer: isize) -> io::Result<usize>
+    ensures { IfOk result (λ count. (0 < count) × (answer ≡ pos count)) }
+{
+    match usize::try_from(answer) {
+        Ok(0) => Err(io::Error::from(ErrorKind::WriteZero)),
+        Ok(count) => Ok(count),
+        Err(_) => Err(io::Error::from_raw_os_error(os::errno())),
+    }
+}
+
+/// Writes the template of a spool's path, and returns its length.
+fn write_template<R: Env>(rt: &R, path: &mut [u8; LONGEST_PATH]) -> usize
+    ensures { result ≤ 4095 }
+{
+    let length = match rt.var("TMPDIR", &mut path[..LONGEST_DIRECTORY]) {
+        Ok(length) if length > 0 => length,
+        _ => {
+            path[..DIRECTORY.len()].copy_from_slice(DIRECTORY);
+            DIRECTORY.len()
+        }
+    };
+    path[length..length + NAME.len()].copy_from_slice(NAME);
+    length + NAME.len()
+}
+
+impl Spool {
+    /// Creates an empty file in the directory of the variable `TMPDIR` or in `/tmp`, and removes
+    /// its name.
+    ///
+    /// # Errors
+    ///
+    /// - an `io::Error`: the file can't be created.
+    pub fn create<R: Env>(rt: &R) -> io::Result<Spool> {
+        let mut room = [0u8; LONGEST_PATH];
+        let length = write_template(rt, &mut room);
+        let path = &mut room[..length];
+        let fd = os::create_temp(path);
+        if fd < 0 {
+            return Err(io::Error::from_raw_os_error(os::errno()));
+        }
+        let _ = os::unlink(path);
+        Ok(Spool {
+            fd,
+            start: 0,
+            left: 0,
+        })
+    }
+
+    /// Appends bytes to the file.
+    ///
+    /// # Errors
+    ///
+    /// - an `io::Error`: a write fails. Nothing is appended.
+    pub fn append(&mut self, bytes: &[u8]) -> io::Result<()> {
+        let mut rest = bytes;
+        let mut end = self.start.saturating_add(self.left);
+        while !rest.is_empty() {
+            let count = moved(libc::pwrite(self.fd, rest, end.cast_signed()))?;
+            rest = &rest[count..];
+            end = end.saturating_add(count as u64);
+        }
+        self.left = end.saturating_sub(self.start);
+        Ok(())
+    }
+
+    /// Writes all bytes of the file to standard output, in order, and waits for its reader.
+    ///
+    /// # Errors
+    ///
+    /// - an `io::Error`: a read or a write fails.
+    pub fn print_all<R: Print>(&mut self, rt: &R) -> io::Result<()> {
+        let mut room = [0u8; BLOCK];
+        while self.left > 0 {
+            let most = self.left.min(BLOCK as u64) as usize;
+            let start = self.start.cast_signed();
+            let count = moved(libc::pread(self.fd, &mut room[..most], start))?;
+            rt.write_all(&room[..count])?;
+            self.start = self.start.saturating_add(count as u64);
+            self.left -= count as u64;
+        }
+        Ok(())
+    }
+}
