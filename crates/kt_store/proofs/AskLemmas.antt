@@ -11,7 +11,7 @@ unfolding Shown
 shown_same sql params old new rows plain h =
     let none = (subst IsPlain h.1.is plain).0 in (subst (ShowsRows old new sql h.0 (timed params h.0.formats h.1.now) rows) none h.2).3
 
--- the case where only the statement is known
+-- a query of a connection whose tables are not known to represent runs
 module _ {S : Type 0} (g : Ghosts S) (old new : Held S) (survives : HasCleanDisk (state g new) → HasCleanDisk (state g old))
     (sql : List ℕ) (plain : HasCleanDisk (state g old) → IsTrue (state g old).is_open → IsPlain (understood (state g old).now.schema sql)) (params : Row) where
   mid_plain : HasCleanDisk (state g new) → (mid : Held S) → IsUnchanged (state g old) (state g mid) → IsPlain (understood (state g mid).now.schema sql)
@@ -27,7 +27,7 @@ module _ {S : Type 0} (g : Ghosts S) (old new : Held S) (survives : HasCleanDisk
   pub asked_leaves : Survives (state g old) (state g new) (MayShow g sql params old) → Survives (state g old) (state g new) (λ _. ⊥)
   asked_leaves h = survives_weaker (state g old) (state g new) (MayShow g sql params old) (λ _. ⊥) shows_nothing h
 
--- the case where the tables represent runs
+-- a query of a connection whose tables represent runs
 module _ {S : Type 0} (g : Ghosts S) (old new : Held S) (runs : List Run) (has : StandsFor (state g old) runs) (survives : HasCleanDisk (state g new) → HasCleanDisk (state g old))
     (sql : List ℕ) (plain : IsPlain (understood schema_2 sql)) (params : Row) where
   stored_plain : HasCleanDisk (state g old) → IsTrue (state g old).is_open → IsPlain (understood (state g old).now.schema sql)
@@ -43,25 +43,26 @@ module _ {S : Type 0} (g : Ghosts S) (old new : Held S) (runs : List Run) (has :
   pub asked_survives : Survives (state g old) (state g new) (MayShow g sql params old) → Survives (state g old) (state g new) (λ _. ⊥)
   asked_survives h = asked_leaves g old new survives sql stored_plain params h
 
--- calls that read, one after the other
+-- two calls in sequence that only read are together a call that only reads
 pub looked-then : {S : Type 0} {g : Ghosts S} {old mid new : Held S} → OnlyReadsRuns g old mid → OnlyReadsRuns g mid new → OnlyReadsRuns g old new
 looked-then {S} {g} {old} {mid} {new} a b = record {
   stands = λ runs has. b.stands runs (a.stands runs has);
   crash = λ runs has. survives_then (state g old) (state g mid) (state g new) (λ _. ⊥) (λ _. ⊥) (λ _. ⊥) (λ _ db none. none) (λ _ db none. none) (a.crash runs has) (b.crash runs (a.stands runs has));
 }
 
--- a disk that is clean after a call that reads was clean before the call
+-- if the disk has returned no wrong data after a call that only reads, it had returned none before
+-- the call
 pub was_clean : {S : Type 0} {g : Ghosts S} {old new : Held S} → OnlyReadsRuns g old new → (runs : List Run) → StandsFor (state g old) runs → HasCleanDisk (state g new) → HasCleanDisk (state g old)
 was_clean looked runs has clean = omega (arith, clean, (looked.crash runs has).clean)
 
 -- ---- the tables that prepared statements show
 
--- a statement that was prepared is understood
+-- if the outline of a compiled statement is known, its compilation succeeded
 pub outlined : (r : Result Compiled CompileError) (s : Outline) → Outlines r s → (c : Compiled) × (r ≡ Ok c)
 outlined (Ok c) s h = (c, refl)
 outlined (Err e) s h = absurd h
 
--- a statement that is understood over unchanged tables was understood before
+-- a statement that SQLite can prepare after an unchanged state could be prepared before
 pub understood_before : (old mid : State) (sql : List ℕ) → IsUnchanged old mid → IsUnderstood mid sql → IsUnderstood old sql
 understood_before old mid sql same it = (it.0, ap (λ (db : Database). understood db.schema sql) (sym same.0.now_is) ∙ it.1)
 
@@ -72,11 +73,12 @@ tables_before old mid n same it = record {
   pairs = λ two. understood_before old mid _ same (it.pairs two);
 }
 
--- two calls that commit nothing commit nothing together
+-- two calls in sequence that commit nothing are together a call that commits nothing
 pub nothing_then : (a b c : State) → Survives a b (λ (db : Trees). ⊥) → Survives b c (λ (db : Trees). ⊥) → Survives a c (λ (db : Trees). ⊥)
 nothing_then a b c one two = survives_then a b c (λ _. ⊥) (λ _. ⊥) (λ _. ⊥) (λ _ db none. none) (λ _ db none. none) one two
 
--- a call that commits nothing, after a call that read the schema number
+-- a call that reads the schema number, followed by a call that commits nothing, is together a call
+-- that reads the schema number
 pub asks_then : {S : Type 0} (g : Ghosts S) (a b c : Held S) → AsksNumber g a b → CommitsNothing g b c
     → ((n : ℤ) → StoresSchemaNumber n (state g a) → HasCleanDisk (state g c) → IsUnchangedOrRolledBack (state g a) (state g c)) → AsksNumber g a c
 asks_then g a b c first survives rests = record {

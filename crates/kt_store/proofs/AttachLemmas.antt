@@ -1,4 +1,4 @@
--- Attaching the tables of a database, by its earlier state.
+-- Attaching the tables of a database, by the database's state before.
 use Rattle.kt_store.proofs.Common.{Blank, Current, Ghosts, HasCleanDisk, HasNumber, HasTables, Held, IsEmpty, IsLive, IsOf, IsStoreFault, IsTrue, IsUnchanged, Keeps, List, Numbered, IsSchema1Database, Older, AttachFails, IsUnchangedOrRolledBack, Run, StoresSchemaNumber, RepresentsInSchema1, State, StoreFault, Survives, Tables, AttachSucceeds, Trees, DatabaseBefore, [], arith, inl, inr, no_schema, pos, refl, state, survives_then, survives_weaker, ℤ, ⊤, ◌≡◌, ◌≢◌, ◌⊎◌}
 use Rattle.kt_store.proofs.StepLemmas.{rests_hold, rests_then, outlives, either_left, leaves_held}
 use Rattle.kt_store.proofs.MetaLemmas.{says_one, says_two, says_filled, empty_blank, still_holds, still_says}
@@ -10,7 +10,7 @@ one_is_not_two e = cc
 two_is_not_one : pos 2 ≢ pos 1
 two_is_not_one e = cc
 
--- the schema number of its tables
+-- the schema number of a database in the state `DatabaseBefore`; 0 without tables
 abbrev pub number_of : DatabaseBefore → ℤ
 number_of Blank = pos 0
 number_of (Current runs) = pos 2
@@ -23,7 +23,7 @@ says_of (Current runs) s has is = says_two s runs is
 says_of (Older runs) s has is = says_one s runs is
 says_of (Numbered n) s has is = is
 
--- the reasons why attaching can fail
+-- `IsDue was fault`: attaching a database that was as `was` may fail with `fault`
 abbrev pub IsDue : DatabaseBefore → StoreFault → Type 0
 IsDue (Numbered n) fault = ⊤
 IsDue _ fault = IsStoreFault fault
@@ -38,7 +38,7 @@ known_due (Current runs) fault has h = h (inr refl)
 known_due (Older runs) fault has h = h (inl refl)
 known_due (Numbered n) fault has h = tt
 
--- if the disk was never clean, nothing is known
+-- attaching while the disk is not clean: the relations hold trivially
 module _ (old new : State) (never : ¬ HasCleanDisk new) (nothing : Survives old new (λ (db : Trees). ⊥)) where
   more : (P : Trees → Type 0) → Survives old new P
   more P = survives_weaker old new (λ _. ⊥) P (λ _ db none. absurd none) nothing
@@ -55,7 +55,7 @@ module _ (old new : State) (never : ¬ HasCleanDisk new) (nothing : Survives old
   never_refuses fault (Older runs) = (λ clean opened. absurd (never clean), more (Keeps runs), λ clean. absurd (never clean), λ opened clean trees may. absurd (never clean))
   never_refuses fault (Numbered n) = λ other. (λ clean. absurd (never clean), nothing)
 
--- a check that leaves the database unchanged, and the call after the check
+-- a check that leaves the database unchanged, followed by a call that creates or migrates tables
 module _ (old mid new : State) (first : Survives old mid (λ (db : Trees). ⊥)) (same : HasCleanDisk mid → IsUnchanged old mid) where
   earlier : HasCleanDisk mid → HasCleanDisk old
   earlier clean = omega (arith, clean, first.clean)
@@ -82,7 +82,8 @@ module _ (old mid new : State) (first : Survives old mid (λ (db : Trees). ⊥))
     refuses_after fault (Older runs) r = (r.0, after (Keeps runs) r.1, r.2, λ opened clean trees may. r.3 (same (early clean)).0.is_open clean trees may)
     refuses_after fault (Numbered n) r = λ other. let it = r other in (λ clean. rests_then old mid new (same (early clean)) (it.0 clean), after (λ _. ⊥) it.1)
 
-    -- the check shows that the database is not in this state
+    -- the state before is impossible, since the check found another state: the relations hold
+    -- trivially
     module _ (P : Trees → Type 0) (never : ¬ HasCleanDisk mid) (then : Survives mid new P) where
       nothing : Survives old new (λ (db : Trees). ⊥)
       nothing = survives_then old mid new (λ _. ⊥) P (λ _. ⊥) (λ _ db none. none) (λ clean db it. absurd (never (early clean))) first then
@@ -93,7 +94,7 @@ module _ (old mid new : State) (first : Survives old mid (λ (db : Trees). ⊥))
       not_refused : (fault : StoreFault) (was : DatabaseBefore) → AttachFails was old new fault
       not_refused fault was = never_refuses old new (λ clean. never (early clean)) nothing fault was
 
-    -- tables are created only in a database without tables
+    -- the check found no tables, so tables are created
     module _ (blank : mid.now.schema.tables ≡ []) where
       filled : (was : DatabaseBefore) → HasNumber was → IsOf was old → ¬ HasCleanDisk mid
       filled was has is clean = says_filled old mid earlier same (number_of was) (says_of was old has is) clean blank
@@ -109,7 +110,7 @@ module _ (old mid new : State) (first : Survives old mid (λ (db : Trees). ⊥))
       create_refuses fault r Blank is = refuses_after fault Blank (r (still_of Blank is))
       create_refuses fault r was is = not_refused (Keeps []) (filled was tt is) (r (none was tt is)).1 fault was
 
-    -- tables are accepted only in a database with tables
+    -- the check found tables, so they are accepted or migrated
     module _ (filled : mid.now.schema.tables ≢ []) where
       empty_never : IsEmpty old → ¬ HasCleanDisk mid
       empty_never is clean = filled (empty_blank old mid earlier same is clean)
@@ -122,7 +123,7 @@ module _ (old mid new : State) (first : Survives old mid (λ (db : Trees). ⊥))
       take_refuses fault r Blank is = not_refused (λ _. ⊥) (empty_never is) (r (Current []) tt (λ clean opened. absurd (empty_never is clean))).1 fault Blank
       take_refuses fault r was is = refuses_after fault was (r was tt (still_of was is))
 
-    -- schema 1 is migrated only if the schema number is 1
+    -- the check found the schema number 1, so the tables are migrated
     none_older : ¬ HasCleanDisk mid → RepresentsInSchema1 mid []
     none_older never clean opened = absurd (never clean)
 
@@ -139,7 +140,7 @@ module _ (old mid new : State) (first : Survives old mid (λ (db : Trees). ⊥))
     renew_refuses fault r (Older runs) has one is = refuses_after fault (Older runs) (r runs (still_of (Older runs) is))
     renew_refuses fault r (Numbered n) has one is = λ other. let never : ¬ HasCleanDisk mid = λ clean. other (one clean) in not_refused (Keeps []) never (r [] (none_older never)).1 fault (Numbered n) other
 
--- a check alone
+-- a check without a later call
 module _ {S : Type 0} (g : Ghosts S) (old new : Held S) (law : (db : Trees) → IsTrue (state g old).is_open → (state g old).may_leave db → db ≡ (state g old).committed.trees) (live : IsLive (state g old))
     (nothing : Survives (state g old) (state g new) (λ (db : Trees). ⊥)) where
   was_clean : HasCleanDisk (state g new) → HasCleanDisk (state g old)
@@ -148,7 +149,7 @@ module _ {S : Type 0} (g : Ghosts S) (old new : Held S) (law : (db : Trees) → 
   weaker : (P : Trees → Type 0) → Survives (state g old) (state g new) P
   weaker P = survives_weaker (state g old) (state g new) (λ _. ⊥) P (λ _ db none. absurd none) nothing
 
-  -- a check that failed
+  -- if the check failed, attaching failed
   pub look_refuses : (fault : StoreFault) → (HasCleanDisk (state g new) → IsUnchangedOrRolledBack (state g old) (state g new)) → (was : DatabaseBefore) → (HasCleanDisk (state g new) → IsDue was fault) → IsOf was (state g old) → AttachFails was (state g old) (state g new) fault
   look_refuses fault left Blank due is = (rests_hold (λ db. db.schema ≡ no_schema) (state g old) (state g new) is was_clean left, weaker (Keeps []), due)
   look_refuses fault left (Current runs) due is = (
@@ -165,7 +166,7 @@ module _ {S : Type 0} (g : Ghosts S) (old new : Held S) (law : (db : Trees) → 
   )
   look_refuses fault left (Numbered n) due is = λ other. (left, nothing)
 
-  -- a check that found schema 2
+  -- if the check found schema 2, attaching succeeded
   pub look_takes : (HasCleanDisk (state g new) → IsUnchanged (state g old) (state g new)) → (was : DatabaseBefore) → HasNumber was → (HasCleanDisk (state g new) → number_of was ≡ pos 2) → (HasCleanDisk (state g new) → HasTables (number_of was) (state g old))
       → IsOf was (state g old) → AttachSucceeds was (state g old) (state g new)
   look_takes same Blank has two tables is = absurd has

@@ -95,7 +95,7 @@ module _ {S : Type 0} (g : Ghosts S) (old new : Held S) (runs : List Run) (total
   crash_begin clean trees it =
       crash_by begin_text (begin_params total started) begin_command begin_is.0 begin_is.1 (λ _ _ _ _ ran. ran) no_end runs (runs ++ new_run runs total started ∷ []) IsLast (step clean) g old new has earlier clean trees it
 
--- an open store leaves its last commit
+-- a crash of an open connection whose tables have runs leaves these runs
 pub leaves_commit : {S : Type 0} (g : Ghosts S) (s : Held S) (runs : List Run) → ((db : Trees) → IsTrue (state g s).is_open → (state g s).may_leave db → db ≡ (state g s).committed.trees)
     → IsTrue (state g s).is_open → IsStore (state g s) runs → IsDatabase (state g s).now → Leaves (state g s) (Keeps runs)
 leaves_commit g s runs law opened has sound clean trees may = ((state g s).now, sound, law trees opened may ∙ ap (λ (d : Database). d.trees) has.settled, has.tables)

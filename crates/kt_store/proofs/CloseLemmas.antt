@@ -1,4 +1,4 @@
--- Finishing a run.
+-- The effect of finishing a run on the tables.
 use Rattle.kt_store.proofs.Common.{AllByRecursion, Applies, AreRuns, Database, Does, Enforced, Entry, Ghosts, Given, HasCleanDisk, Held, Incomplete, Int, IsAscending, IsComplete, IsDatabase, IsPermutation, IsRun, IsStore, IsTrue, Keeps, List, MayExecute, Mode, None, Ok, Option, Run, RunClosed, Some, StandsFor, Tables, Tally, Executed, Trees, Update, [], all_from, all_weaker, ap, arith, finished_run_row, drop, edit_of, entries_of, entry_row, entry_rows, false, finish, finish_refusal, finish_refusal_of, finish_text, flat_map, ids_of, length, map, nat_lt, nat_tests, pair_rows, pos, prop_rows, refl, run_at, runs_1, schema_2, state, subst, suc, sym, true, zero, ℕ, ◌++◌, ◌+◌, ◌<◌, ◌∙◌, ◌∷◌, ◌≡◌, ◌≤◌}
 use Rattle.std.specs.List.{slice_index_or}
 use Rattle.kt_store.proofs.RunsByNumber.{finish_each, finish_unseen, run_of}
@@ -10,7 +10,7 @@ use Rattle.kt_store.proofs.WriteLemmas.{executed_update, crash_update}
 whole_run : (r : Run) → IsRun r → length r.entries ≡ r.total → IsRun (record r { finished = true })
 whole_run r is whole = record { small = is.small; ordered = is.ordered; below = is.below; sound = is.sound; whole = λ done. whole }
 
--- the tables of runs with one run finished, by the rules of the schema
+-- the tables after the UPDATE of `finish` represent the runs with one run finished
 pub finish_in : (runs : List Run) (k : ℕ) (r : Run) → run_at runs (suc k) ≡ Some r → length r.entries ≡ r.total → (db after : Database) → Tables db runs → after.schema ≡ schema_2
     → Applies schema_2 Enforced db.trees (edit_of db.trees runs_1 (ids_of (finished_run_row r ∷ [])) Given 1 (finished_run_row r ∷ [])) after.trees → Tables after (finish (suc k) runs)
 finish_in runs k r there whole db after has schema_is applies =
@@ -63,7 +63,7 @@ no_more : (from top : ℕ) (es : List Entry) → from ≤ top → AllByRecursion
 no_more from top [] low above up below = omega (arith, low)
 no_more from top (e ∷ es) low above up below = omega (arith, above.0, no_more (suc e.position) top es (omega (arith, below.0)) (all_weaker (λ (x : Entry). e.position < x.position) (λ (x : Entry). suc e.position ≤ x.position) (λ x h. omega (arith, h)) es up.0) up.1 below.1)
 
--- if there are as many ascending positions as the bound, each is its index
+-- if there are as many ascending positions as their bound, each position is its index
 at_place : (from i : ℕ) (es : List Entry) (e : Entry) → AllByRecursion (λ (d : Entry). from ≤ d.position) es → IsAscending (λ (a b : Entry). a.position < b.position) es
     → AllByRecursion (λ (d : Entry). d.position < from + length es) es → i < length es → e ≡ slice_index_or es i e → e.position ≡ from + i
 at_place from i [] e above up below low is = absurd (omega (arith, low))

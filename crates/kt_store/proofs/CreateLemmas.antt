@@ -59,7 +59,7 @@ mark_command = Insert 0 (Values mark_terms 3)
 mark_works : (params : Row) (trees : Trees) → let edit = edit_of trees meta_1 [] Chosen 0 (value_rows params 3 1 mark_terms) in works schema_2 Enforced 0 edit.table.tree (taken_by trees edit) edit.news ≡ []
 mark_works params trees = refl
 
--- the five statements, in turn
+-- the five statements that create the tables, executed in order, lead to tables without runs
 pub made_all : (a b c m d e : State) (i j k o l : ℕ) → a.now.schema ≡ no_schema → Executes create_meta [] a b (Ok i) → Executes create_runs [] b c (Ok j) → Executes create_entries [] c m (Ok k) → Executes create_props [] m d (Ok o) → Executes mark_text [] d e (Ok l)
     → Tables e.now [] × IsDatabase e.now
 made_all a b c m d e i j k o l has one two three fourth four =
@@ -84,7 +84,8 @@ made_all a b c m d e i j k o l has one two three fourth four =
       w.sound,
     )
 
--- the five statements in a transaction
+-- the five statements that create the tables, executed in a transaction, lead to tables without
+-- runs
 pub made_in : {S : Type 0} (g : Ghosts S) (old left : Held S) → (IsTrue (state g old).is_open → (state g old).now.schema ≡ no_schema) → ExecutesInOrder g make_statements (begun old) left → Tables (state g left).now [] × IsDatabase (state g left).now
 made_in g old left has ran =
     let two = ran.2 in

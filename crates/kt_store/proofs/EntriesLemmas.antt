@@ -17,7 +17,7 @@ module _ (wheres project : List Term) (params : Row) where
   abbrev pub out : Row → Output
   out r = output query (params ∷ r ∷ [])
 
-  -- the query sees no rowid
+  -- `Same r`: the query ignores the rowid of the stored row `r`
   abbrev pub Same : Row → Type 0
   Same r = (passes r ≡ passes (back (drop 1 r))) × (out r ≡ out (back (drop 1 r)))
 
@@ -35,7 +35,8 @@ module _ (wheres project : List Term) (params : Row) where
     rises es h = ascending-map lower entry_out es
         (ascending_weaker (λ (a b : Entry). a.position < b.position) (λ (a b : Entry). lower (entry_out a) (entry_out b)) lower_entries es h)
 
-    -- the columns of the selected entries, among the entries of one run
+    -- the query returns the columns of those entries of run `n` that `keep` selects, ordered by
+    -- position
     pub tells_kept : (old : State) (runs : List Run) (rows : List Row) → IsStore old runs → IsAscending (λ (a b : Entry). a.position < b.position) (entries_of (run_at runs n))
         → IsSureAnswer query (overlay old.now.trees []) params rows → rows ≡ map (λ e. (entry_out e).1) (filter keep (entries_of (run_at runs n)))
     tells_kept old runs rows has up sure =

@@ -3,7 +3,7 @@ use Rattle.kt_store.proofs.Common.{AreNumbered, Bool, Entry, Int, IsPermutation,
 use Rattle.kt_store.proofs.SqlFacts.{is}
 use Rattle.kt_store.proofs.Values.{same_test}
 
--- `back row`: `row` as a table stores it, with a null in place of its rowid
+-- `back row`: the stored form of the columns `row`, with NULL in place of the rowid
 abbrev pub back : Row → Row
 back row = Null ∷ row
 
@@ -18,7 +18,7 @@ module _ {X : Type 0} (stored all : List Row) (are : IsPermutation all (map (dro
   of_stored = subst (λ l. IsPermutation (map (λ r. show (back r)) (filter (λ r. passes (back r)) all)) l) (sym (without_id stored))
       (IsPermutation-map (λ r. show (back r)) _ _ (IsPermutation-filter (λ r. passes (back r)) all (map (drop 1) stored) are))
 
--- the rows of one run, among the rows of all runs
+-- a filter over the rows of all runs that keeps only rows of run `n`
 module _ (test : Row → Bool) (rows shown : Run → List Row) (n : ℕ) (here : (r : Run) → r.number ≡ n → filter test (rows r) ≡ shown r) (apart : (r : Run) → r.number ≢ n → filter test (rows r) ≡ []) where
   none_later : (from : ℕ) (runs : List Run) → AreNumbered from runs → n < from → filter test (flat_map rows runs) ≡ []
   none_later from [] h low = refl
@@ -37,7 +37,7 @@ pub of_one : (test : Row → Bool) (rows shown : Run → List Row) (n : ℕ) →
 of_one test rows shown zero here apart runs h = none_later test rows shown 0 here apart 1 runs h (omega arith)
 of_one test rows shown (suc k) here apart runs h = one_from test rows shown (suc k) here apart 1 k runs (omega arith) h
 
--- the entries of one run, among the entries of all runs
+-- a filter over the rows of all entries that keeps only entries of run `n`
 module _ (test : Row → Bool) (keep : Entry → Bool) (n : ℕ) (each : (m : ℕ) (e : Entry) → test (entry_row m e) ≡ (m == n) && keep e) where
   hit : (m : ℕ) → m ≡ n → (es : List Entry) → filter test (map (entry_row m) es) ≡ map (entry_row n) (filter keep es)
   hit m is es =
@@ -67,7 +67,7 @@ pub and_true : (b : Bool) → b && true ≡ b
 and_true true = refl
 and_true false = refl
 
--- a WHERE on the run
+-- the WHERE that compares the first column with the first parameter, the run
 abbrev pub tests : List Term
 tests = is (col 1 1) (col 0 0) ∷ []
 
@@ -82,7 +82,7 @@ pub each : (n m : ℕ) (e : Entry) → passes (Int (pos n) ∷ []) (back (entry_
 unfolding binary
 each n m e = ap (λ a. is_true (from_truth (Some a)) && true) (same_test m n) ∙ ap (λ b. b && true) (truth (m == n))
 
--- a filter that keeps all
+-- a filter that keeps all items changes nothing
 pub all_pass : {X : Type 0} (xs : List X) → filter (λ (x : X). true) xs ≡ xs
 all_pass [] = refl
 all_pass (x ∷ xs) = ap (λ l. x ∷ l) (all_pass xs)

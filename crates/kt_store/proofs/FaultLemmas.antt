@@ -1,17 +1,17 @@
--- The faults that calls return.
+-- Facts about the faults that calls return.
 use Rattle.kt_store.proofs.Common.{Err, IfErr, IfOk, IsErrAnd, IsNoMemory, IsStoreFault, NoMemory, Ok, OnErr, OnOk, Result, StoreFault, subst, sym, ◌≡◌}
 
--- a fact about a fault holds for the result that returns the fault
+-- a fact about a fault holds for the fault of a result that returns it
 pub if_same : {T : Type 0} (Q : StoreFault → Type 0) (r : Result T StoreFault) (e : StoreFault) → IsErrAnd r (λ x. x ≡ e) → Q e → IfErr r Q
 if_same Q (Ok x) e h q = absurd h
 if_same Q (Err fault) e h q = subst Q (sym h) q
 
--- the fact about a result, from the facts about its value and its fault
+-- two facts about the value of a result give a third one
 pub if_both : {T E : Type 0} (P Q R : T → Type 0) (r : Result T E) → ((x : T) → P x → Q x → R x) → IfOk r P → IfOk r Q → IfOk r R
 if_both P Q R (Ok x) f p q = f x p q
 if_both P Q R (Err e) f p q = tt
 
--- a fact about a result under a premise holds with the premise
+-- if a premise gives a fact about success, success gives the fact under the premise
 pub ok_later : {T E A : Type 0} (P : Type 0) (r : Result T E) → (A → OnOk r P) → OnOk r (A → P)
 ok_later P (Ok x) f = f
 ok_later P (Err e) f = tt
@@ -28,7 +28,7 @@ pub fault_later : {T E A : Type 0} (P : E → Type 0) (r : Result T E) → (A �
 fault_later P (Ok x) f = tt
 fault_later P (Err e) f = f
 
--- a fact about a result under a premise with a witness holds with the premise
+-- if premises about a value give a fact about success, success gives the fact under these premises
 pub ok_of : {T E A : Type 0} (B C P : A → Type 0) (r : Result T E) → ((a : A) → B a → C a → OnOk r (P a)) → OnOk r ((a : A) → B a → C a → P a)
 ok_of B C P (Ok x) f = f
 ok_of B C P (Err e) f = tt
@@ -37,12 +37,12 @@ pub fault_of : {T E A : Type 0} (B C : A → Type 0) (P : A → E → Type 0) (r
 fault_of B C P (Ok x) f = tt
 fault_of B C P (Err e) f = f
 
--- a lack of memory is a fault of the store
+-- an out-of-memory fault is a store fault
 pub starved : (fault : StoreFault) → IsNoMemory fault → IsStoreFault fault
 starved (NoMemory refusal) h = tt
 starved _ h = absurd h
 
--- a fact about each fault holds for the returned fault
+-- a fact about each store fault holds for a returned store fault
 pub if_trouble : {T : Type 0} (Q : StoreFault → Type 0) (r : Result T StoreFault) → IsErrAnd r IsStoreFault → ((e : StoreFault) → IsStoreFault e → Q e) → IfErr r Q
 if_trouble Q (Ok x) h each = absurd h
 if_trouble Q (Err fault) h each = each fault h

@@ -1,4 +1,4 @@
--- The effect of the statements that put an entry and its pairs.
+-- The effect of the statements that insert an entry and its properties.
 use Rattle.kt_store.proofs.Common.{AllByRecursion, Applies, AreRuns, CanAdd, Chosen, Database, Enforced, Entry, Executes, Ghosts, HasCleanDisk, HasTexts, Held, Insert, Int, IsDatabase, IsPair, IsPermutation, IsPermutation-cons, IsPermutation-map, IsPermutation-middle, IsPermutation-sym, IsPermutation-trans, IsTrue, List, None, Ok, Row, Run, ExecutesInOrder, StandsFor, State, Statement, Tables, Text, Values, Variable, Writes, [], and_parts, ap, are_fresh, arith, begun, cast_row, codes, drop, edit_of, entries_table, entry_row, entry_rows, entry_statements, false, is_taken, kind_code, length, map, mode_of, next_rowid, not, not-true, numbered, pair_row, pair_rows, pair_rows_from, pair_statements, pair_text, pos, prop_rows, props_1, put_all, put_row, put_text, refl, run_row, runs_as, schema_2, state, statement_of, subst, suc, sym, true, understood, value_rows, with_entry, ℕ, ◌++◌, ◌+◌, ◌∙◌, ◌∷◌, ◌≡◌}
 use Rattle.kt_store.proofs.SqlFacts.{put_is, put_terms, pair_is, pair_terms}
 use Rattle.kt_store.proofs.InsertLemmas.{changed}
@@ -8,7 +8,8 @@ use Rattle.kt_store.proofs.EntryLemmas.{back}
 use Rattle.kt_store.proofs.Numbered.{numbers_entry}
 use Rattle.kt_store.proofs.Values.{cast_int, cast_null}
 
--- the tables of schema 2 with the rows of these runs, of these entries and of these pairs
+-- `HasRows runs entries props db`: `db` has schema 2, the rows of `runs`, and the rows `entries`
+-- and `props` in the other tables
 pub record HasRows (runs : List Run) (entries props : List Row) (db : Database) : Type 0 where
   pub schema : db.schema ≡ schema_2
   pub marked : map (drop 1) (db.trees 0) ≡ (Text (codes "schema") ∷ Int (pos 2) ∷ []) ∷ []
@@ -16,13 +17,13 @@ pub record HasRows (runs : List Run) (entries props : List Row) (db : Database) 
   pub entries_are : IsPermutation entries (map (drop 1) (db.trees 3))
   pub props_are : IsPermutation props (map (drop 1) (db.trees 5))
 
--- a new row with a new rowid
+-- a new row with a new rowid is added to the stored rows
 one_more : (stored : List Row) (rows : List Row) (new row : Row) → drop 1 new ≡ row → is_taken stored new ≡ false → IsPermutation rows (map (drop 1) stored) → IsPermutation (row ∷ rows) (map (drop 1) (put_row new stored))
 one_more stored rows new row bare free have =
     let beside = IsPermutation-map (drop 1) (new ∷ stored) (put_row new stored) (put_beside new stored free) in
     IsPermutation-trans _ _ _ (IsPermutation-cons row rows (map (drop 1) stored) have) (subst (λ x. IsPermutation (x ∷ map (drop 1) stored) (map (drop 1) (put_row new stored))) bare beside)
 
--- new rows, each numbered above those before it
+-- new rows with new rowids are added to the stored rows
 rows_more : (stored new rows : List Row) → are_fresh stored (numbered Chosen stored (map back new)) ≡ true → IsPermutation rows (map (drop 1) stored)
     → IsPermutation (new ++ rows) (map (drop 1) (put_all stored (numbered Chosen stored (map back new))))
 rows_more stored [] rows fresh have = have
@@ -31,7 +32,7 @@ rows_more stored (r ∷ new) rows fresh have =
     let both = and_parts (not (is_taken stored row)) (are_fresh (put_row row stored) (numbered Chosen (put_row row stored) (map back new))) fresh in
     IsPermutation-trans _ _ _ (IsPermutation-sym _ _ (IsPermutation-middle new r rows)) (rows_more (put_row row stored) new (r ∷ rows) both.1 (one_more stored rows row r refl (not-true (is_taken stored row) both.0) have))
 
--- the same pairs in another order
+-- `HasRows` ignores the order of the rows in `props`
 moved : (runs : List Run) (entries props more : List Row) (db : Database) → IsPermutation more props → HasRows runs entries props db → HasRows runs entries more db
 moved runs entries props more db same has = record {
   schema = has.schema;
@@ -41,7 +42,7 @@ moved runs entries props more db same has = record {
   props_are = IsPermutation-trans _ _ _ same has.props_are;
 }
 
--- an entry and pairs, as the rules of the schema put them in
+-- the rows after an insertion of an entry or of properties that obeys the rules of the schema
 module _ (runs : List Run) (entries props : List Row) (db after : Database) (has : HasRows runs entries props db) (schema_is : after.schema ≡ schema_2) where
   pub entry_in : (n : ℕ) (e : Entry) → Applies schema_2 Enforced db.trees (edit_of db.trees entries_table [] Chosen 0 (put_rows n e)) after.trees → HasRows runs (entry_row n e ∷ entries) props after
   entry_in n e applies =
@@ -93,13 +94,14 @@ module _ {S : Type 0} (g : Ghosts S) (runs : List Run) (entries : List Row) (n p
       let all = pairs_inside (suc k) vs (pair_row n p k v ∷ props) ran.0 new one.0 one.1 ran.2 in
       (moved runs entries _ _ (state g new).now (IsPermutation-sym _ _ (IsPermutation-middle (pair_rows_from n p (suc k) vs) (pair_row n p k v) props)) all.0, all.1)
 
--- the texts of inserted pairs
+-- the texts of inserted properties are representable in UTF-8
 module _ {S : Type 0} (g : Ghosts S) (n p : ℕ) where
   pairs_spelled : (k : ℕ) (vs : List Variable) (old new : Held S) → ExecutesInOrder g (pair_statements n p k vs) old new → AllByRecursion IsPair vs
   pairs_spelled k [] old new ran = tt
   pairs_spelled k (v ∷ vs) old new ran = ((ran.1.2.0, ran.1.2.1.0), pairs_spelled (suc k) vs ran.0 new ran.2)
 
--- the tables of runs; with an entry and its pairs, they are those of the runs that have the entry
+-- the tables of runs meet `HasRows`; with the rows of a new entry they are the tables of the runs
+-- with this entry
 pub rows_of : (runs : List Run) (db : Database) → Tables db runs → HasRows runs (entry_rows runs) (prop_rows runs) db
 rows_of runs db has = record { schema = has.schema; marked = has.marked; runs_are = has.runs_are; entries_are = has.entries_are; props_are = has.props_are }
 
@@ -121,11 +123,11 @@ tables_of runs run e fits texts were db has =
     }
 
 module _ {S : Type 0} (g : Ghosts S) where
-  -- the texts of the entry are texts
+  -- the texts of an inserted entry are representable in UTF-8
   spelled : (n : ℕ) (e : Entry) (old new : Held S) → ExecutesInOrder g (entry_statements n e) old new → HasTexts e
   spelled n e old new ran = (ran.1.2.0, ran.1.2.1.0, ran.1.2.1.1.0, pairs_spelled g n e.position 0 e.meta ran.0 new ran.2)
 
-  -- the entry and its pairs are in the tables of the runs that have it
+  -- the tables after the insertion of an entry and its properties represent the runs with the entry
   filled : (runs : List Run) (e : Entry) (run : ℕ) → CanAdd run e runs → (old new : Held S) → Tables (state g old).now runs → ExecutesInOrder g (entry_statements run e) old new
       → Tables (state g new).now (with_entry run e runs) × IsDatabase (state g new).now
   filled runs e run fits old new has ran =
@@ -133,12 +135,12 @@ module _ {S : Type 0} (g : Ghosts S) where
       let all = pairs_inside g runs (entry_row run e ∷ entry_rows runs) run e.position 0 e.meta (prop_rows runs) ran.0 new one.0 one.1 ran.2 in
       (tables_of runs run e fits (spelled run e old new ran) has.valid (state g new).now all.0, all.1)
 
-  -- the entry and its pairs in a transaction
+  -- the tables after the insertion in a new transaction represent the runs with the entry
   pub entry_made : (runs : List Run) (e : Entry) (run : ℕ) (old : Held S) → StandsFor (state g old) runs → (HasCleanDisk (state g old) → CanAdd run e runs) → HasCleanDisk (state g old) → (left : Held S)
       → ExecutesInOrder g (entry_statements run e) (begun old) left → Tables (state g left).now (with_entry run e runs) × IsDatabase (state g left).now
   entry_made runs e run old has fits clean left ran = filled runs e run (fits clean) (begun old) left (has clean ran.1.1.1.was_open).tables ran
 
-  -- a transaction goes on
+  -- statements executed inside a transaction leave it open
   pub in_turn : (statements : List Statement) (old new : Held S) → ExecutesInOrder g statements old new → IsTrue (state g old).in_transaction → IsTrue (state g new).in_transaction
   in_turn [] old new is inside = subst (λ h. IsTrue (state g h).in_transaction) (sym is) inside
   in_turn (s ∷ others) old new ran inside = in_turn others ran.0 new ran.2 ran.1.1.1.mode

@@ -22,7 +22,7 @@ updates task q given db done h =
 pub finish_works : (r : Run) (trees : Trees) → let edit = edit_of trees runs_1 (ids_of (finished_run_row r ∷ [])) Given 1 (finished_run_row r ∷ []) in works schema_2 Enforced 0 edit.table.tree (taken_by trees edit) edit.news ≡ []
 finish_works r trees = refl
 
--- an UPDATE of one run
+-- the UPDATE of `finish` writes the row of one run as finished
 pub finish_writes : (limit : Option ℕ) (mode : Mode) (n : ℕ) (db after : Database) (text : List ℕ) (tally : Tally) (runs : List Run) (r : Run) → mode.keys ≡ Enforced → Tables db runs → run_at runs n ≡ Some r
     → Does limit mode (Int (pos n) ∷ []) db text None (Update 1 finish_program) (Ok (tally, after))
     → (after.schema ≡ schema_2) × Applies schema_2 Enforced db.trees (edit_of db.trees runs_1 (ids_of (finished_run_row r ∷ [])) Given 1 (finished_run_row r ∷ [])) after.trees
@@ -55,7 +55,8 @@ goes_first : (from n : ℕ) (new : Row) (runs : List Run) → AreNumbered from r
 goes_first from n new [] h id low = refl
 goes_first from n new (r ∷ runs) h id low = rw (id, above r.number n (omega (arith, h.0))) refl
 
--- the row is removed and inserted again as finished
+-- removing the row of a run and inserting it as finished gives the rows of the runs with this run
+-- finished
 pub replaced : (from k : ℕ) (runs : List Run) (r : Run) → AreNumbered from runs → slice_get runs k ≡ Some r
     → put_row (run_row (record r { finished = true })) (filter (lacks (from + k)) (map run_row runs)) ≡ map run_row (finish (from + k) runs)
 replaced from k [] r h there = absurd cc

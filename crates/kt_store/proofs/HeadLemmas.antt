@@ -10,7 +10,7 @@ module _ (runs : List Run) (number : Option ℕ) (last n : ℕ) (last_is : last 
   same : option_map head_of (run_at runs n) ≡ head_at runs number
   same = ap (λ (m : ℕ). option_map head_of (run_at runs m)) (is ∙ ap (unwrap_or number) last_is)
 
-  -- no run has the number 0, or one past the last
+  -- no run has the number 0 or a number above that of the last run, so there is no head
   pub no_head : n ≡ 0 ⊎ last < n → None ≡ head_at runs number
   no_head (inl none) = sym (ap (option_map head_of) (gone runs n (inl none))) ∙ same
   no_head (inr past) = sym (ap (option_map head_of) (gone runs n (inr (omega (arith, past, last_is))))) ∙ same
@@ -18,12 +18,12 @@ module _ (runs : List Run) (number : Option ℕ) (last n : ℕ) (last_is : last 
   pub one_head : (head : RunHead) → Some head ≡ option_map head_of (run_at runs n) → Some head ≡ head_at runs number
   one_head head found = found ∙ same
 
--- a head with the requested number, or with the number of the last run
+-- a head with the requested number meets `IsNumbered`; without a request, any head does
 pub asked_for : (number : Option ℕ) (last n : ℕ) (head : RunHead) → n ≡ unwrap_or number last → head.number ≡ n → IsNumbered number head
 asked_for None last n head is has = tt
 asked_for (Some m) last n head is has = has ∙ is
 
--- a found head has the requested number
+-- a head that was found by the requested number meets `IsNumbered`
 pub all_asked_for : (number : Option ℕ) (last n : ℕ) (found : Option RunHead) → n ≡ unwrap_or number last → IfSome found (λ head. head.number ≡ n) → IfSome found (IsNumbered number)
 all_asked_for number last n None is has = tt
 all_asked_for number last n (Some head) is has = asked_for number last n head is has

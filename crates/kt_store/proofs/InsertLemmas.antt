@@ -1,4 +1,5 @@
--- An INSERT of written-out rows into a table that SQL does not number, without acting foreign keys.
+-- The effect of an INSERT of literal rows into a table without AUTOINCREMENT and without a foreign
+-- key that refers to it.
 use Rattle.kt_store.proofs.Common.{Above, Applies, AtPlace, Chosen, Concludes, Counts, CountsIn, Database, Does, Edit, Enforced, Gives, Insert, Inserts, List, MatchBool, Mode, None, Ok, OnRows, Option, Row, Schema, Some, Table, Tally, Task, Term, Trees, Values, Written, [], ap, append-nil, cond, count_of, edit_of, false, int_cmp, is_lt, last_id, length, one_step, refl, rowids_for, sequence, slice_get, stamped, subst, sym, taken_by, value_rows, works, ℕ, ℤ, ◌/◌, ◌∙◌, ◌≡◌}
 use Rattle.sqlite_rules.specs.Action.{Writes}
 use Rattle.kt_store.proofs.Values.{same_value, went}

@@ -1,4 +1,4 @@
--- The schema number, by its query.
+-- The result of the query for the schema number.
 use Rattle.kt_store.proofs.Common.{Asked, AsksNumber, Bool, Database, Ghosts, HasCleanDisk, Held, IsSettledWhileOpen, Int, IsEmpty, IsPermutation, IsTrue, IsUnchanged, List, MayShow, None, IsUnchangedOrRolledBack, Row, Run, ListsSchemaNumber, StoresSchemaNumber, Schema, Shown, Some, StandsFor, RepresentsInSchema1, State, Survives, Term, Text, Value, [], ap, arith, schema_with_meta, binary, codes, col, column, drop, entries_table, filter, holds, index_of, inl, list_all, lit, map, meta_1, meta_text, one_permutation, pos, props_1, reads_as, refl, runs_1, slice_get, state, subst, sym, true, understood, value_cmp, ℤ, ◌∙◌, ◌∷◌, ◌≡◌, ◌≢◌}
 use Rattle.sqlite.specs.Given.{IsPlain}
 use Rattle.kt_store.proofs.AskLemmas.{asked_unchanged, asked_leaves}
@@ -19,7 +19,8 @@ pub passes_it : (n : ℤ) (x : Value) → passes (x ∷ Text (codes "schema") �
 unfolding binary value_cmp lib.Ieee.is_nan lib.Ieee.lt
 passes_it n x = refl
 
--- the row of the schema number, with any rowid
+-- a table whose only row, without its rowid, is that of the schema number has one row with some
+-- rowid
 pub one_row : (n : ℤ) (rows : List Row) → map (drop 1) rows ≡ (Text (codes "schema") ∷ Int n ∷ []) ∷ [] → (x : Value) × (rows ≡ (x ∷ Text (codes "schema") ∷ Int n ∷ []) ∷ [])
 one_row n ((x ∷ r) ∷ []) is =
     let same : r ≡ Text (codes "schema") ∷ Int n ∷ [] = cc in
@@ -57,7 +58,7 @@ module _ {S : Type 0} (g : Ghosts S) (old new : Held S) (earlier : HasCleanDisk 
       let has = says (earlier clean) it.same.0.was_open in
       tells_meta (state g it.mid) (state g new) n rows (says_then (state g old) (state g it.mid) n same has) it.shown
 
--- the state that a query for the schema number keeps, for any result
+-- the state of a connection after a query for the schema number, for any result
 module _ {S : Type 0} (g : Ghosts S) (old new : Held S) (survives : Survives (state g old) (state g new) (MayShow g meta_text [] old)) where
   earlier : HasCleanDisk (state g new) → HasCleanDisk (state g old)
   earlier k = omega (arith, k, survives.clean)
@@ -90,13 +91,13 @@ says_one s runs has clean opened = record {
   marked = (has clean opened).tables.marked;
 }
 
--- the first row has the number
+-- the first row of the query has the schema number
 pub row_is : (n : ℤ) (rows : List Row) (first : Row) → rows ≡ (Int n ∷ []) ∷ [] → slice_get rows 0 ≡ Some first → first ≡ Int n ∷ []
 row_is n rows row are first =
     let e : Some (Int n ∷ []) ≡ Some row = sym (ap (λ l. slice_get l 0) are) ∙ first in
     cc
 
--- the value that was read is the number
+-- the value that was read from the first row is the schema number
 pub read_it : (n m : ℤ) (first : Row) → first ≡ Int n ∷ [] → column first 0 ≡ Int m → m ≡ n
 read_it n m first is read =
     let got : Int n ≡ Int m = sym (ap (λ (r : Row). column r 0) is) ∙ read in
@@ -105,7 +106,7 @@ read_it n m first is read =
 pub some_row : (n : ℤ) (rows : List Row) → rows ≡ (Int n ∷ []) ∷ [] → slice_get rows 0 ≢ None
 some_row n rows are none = let e : Some (Int n ∷ []) ≡ None = sym (ap (λ l. slice_get l 0) are) ∙ none in cc
 
--- a fact from before the connection was found open
+-- facts about a state hold after an unchanged state
 module _ (old mid : State) (earlier : HasCleanDisk mid → HasCleanDisk old) (same : HasCleanDisk mid → IsUnchanged old mid) where
   pub still_says : (n : ℤ) → StoresSchemaNumber n old → StoresSchemaNumber n mid
   still_says n says clean opened =

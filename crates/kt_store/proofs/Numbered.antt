@@ -1,5 +1,5 @@
--- The condition under which a run accepts an entry. Runs stay numbered by index, and their entries
--- ordered.
+-- The condition under which a run accepts an entry. Each call keeps runs numbered from 1, and their
+-- entries ordered by position.
 use Rattle.kt_store.proofs.Common.{Agrees, AllByRecursion, AreNumbered, AreOrdered, AreRuns, BadPosition, Began, Bool, CanAdd, Entry, Finished, IsAscending, HasNoReasonIfPassed, IsEntry, IsRun, List, None, Ok, Option, Put, RepeatedPosition, Run, RunClosed, Some, StoreCall, [], all-append, all-slice_get, all_weaker, ap, arith, cases_Bool, runs_after, cond, entries_of, false, finish, has_position, if◌then◌else◌, inl, inr, insert_at, length, nat_le, nat_lt, nat_tests, new_run, or_parts, put_refusal, put_refusal_of, refl, run_at, slice_get, slice_get_within, suc, sym, true, with_entry, zero, ℕ, ◌++◌, ◌+◌, ◌<◌, ◌==◌, ◌∙◌, ◌∷◌, ◌≡◌, ◌≤◌}
 use Rattle.kt_store.proofs.RunsByNumber.{entry_each, run_of}
 
@@ -69,7 +69,7 @@ module _ (runs : List Run) (run : ℕ) (e : Entry) (r : Run) (there : run_at run
                 entry_each IsRun k runs r valid.numbered valid.each there e (run_takes e r sound (run_of (suc k) runs r valid there) unclosed low is),
           )
 
--- ---- runs stay numbered by index, and their entries ordered
+-- ---- each call keeps runs numbered from 1, and their entries ordered by position
 
 numbers_more : (n : ℕ) (runs : List Run) (r : Run) → AreNumbered n runs → r.number ≡ n + length runs → AreNumbered n (runs ++ r ∷ [])
 numbers_more n [] r h e = (e ∙ omega arith, tt)
@@ -90,14 +90,14 @@ pub numbers_finish : (k n : ℕ) (runs : List Run) → AreNumbered n runs → Ar
 numbers_finish k n [] h = tt
 numbers_finish k n (r ∷ runs) h = numbers_of n r (record r { finished = true }) runs (finish k runs) (r.number == k) h.0 h.0 h.1 (numbers_finish k (suc n) runs h.1)
 
--- runs stay numbered after each call
+-- each call keeps runs numbered from 1
 pub numbers_changed : (call : StoreCall) (runs : List Run) → AreNumbered 1 runs → AreNumbered 1 (runs_after call runs)
 numbers_changed (Began total moment (Ok number)) runs h = numbers_new runs total moment h
 numbers_changed (Put number e (Ok done)) runs h = numbers_entry number e 1 runs h
 numbers_changed (Finished number (Ok done)) runs h = numbers_finish number 1 runs h
 numbers_changed _ runs h = h
 
--- a run that accepts an entry has none at its position
+-- a run that accepts an entry has no entry at this position
 free_of : (r : Run) (e : Entry) → put_refusal_of (Some r) e ≡ None → has_position e.position r.entries ≡ false
 free_of r e = by r.finished (nat_le r.total e.position) (has_position e.position r.entries)
   where
@@ -123,7 +123,7 @@ ordered_finish k (r ∷ runs) o = by (r.number == k) (ordered_finish k runs o.1)
     by true more = (o.0, o.1)
     by false more = (o.0, more)
 
--- the entries stay ordered after a call whose result agrees with the runs
+-- a call whose result agrees with the runs keeps entries ordered by position
 pub ordered_changed : (call : StoreCall) (runs : List Run) → AreNumbered 1 runs → AreOrdered runs → Agrees runs call → AreOrdered (runs_after call runs)
 ordered_changed (Began total moment (Ok number)) runs h o a = all-append _ runs (new_run runs total moment ∷ []) o (tt, tt)
 ordered_changed (Put zero e (Ok done)) runs h o a = absurd cc

@@ -1,4 +1,4 @@
--- The result of the query for the pairs of an entry.
+-- The result of the query for the properties of an entry.
 use Rattle.kt_store.proofs.Common.{AllByRecursion, AreNumbered, AreRuns, Binary, Bool, Entry, IsAscending, IsPermutation, IsStore, Less, List, None, Option, Output, Row, Run, Shown, Some, State, Variable, [], all-append, all_weaker, ap, append-nil, ap₂, arith, ascending, ascending-map, binary, col, drop, entries_of, entry_at, false, filter, filter-append, filter_all, filter_none, find, flat_map, from_truth, is_true, list_all, holds, map, map-map, nat_tests, option_to_list, output, output_cmp, pair_columns, pair_row, pair_rows, pair_rows_from, pairs_of, pairs_text, prop_rows, reads_as, refl, run_at, schema_2, subst, suc, true, ℕ, ◌&&◌, ◌++◌, ◌<◌, ◌==◌, ◌∙◌, ◌∷◌, ◌≡◌, ◌≢◌, ◌≤◌}
 use Rattle.kt_store.proofs.SqlFacts.{pairs_select_is, pairs_query}
 use Rattle.kt_store.proofs.QueryLemmas.{answered_sorted}
@@ -7,7 +7,8 @@ use Rattle.kt_store.proofs.EntriesLemmas.{there_params, there_tests, up_of}
 use Rattle.kt_store.proofs.OutputsLemmas.{has}
 use Rattle.kt_store.proofs.Values.{below, same_test}
 
--- a fact about the row of each pair, from an index on
+-- a fact about the row of each property with an index from `k` on holds for the rows of properties
+-- with indexes from `k`
 all_from : (P : Row → Type 0) (n p k : ℕ) (vs : List Variable) → ((j : ℕ) (v : Variable) → k ≤ j → P (pair_row n p j v)) → AllByRecursion P (pair_rows_from n p k vs)
 all_from P n p k [] each = tt
 all_from P n p k (v ∷ vs) each = (each k v (omega arith), all_from P n p (suc k) vs (λ j w past. each j w (omega (arith, past))))
@@ -16,7 +17,7 @@ all_rows : (P : Row → Type 0) (n : ℕ) (es : List Entry) → ((p k : ℕ) (v 
 all_rows P n [] each = tt
 all_rows P n (e ∷ es) each = all-append P (pair_rows n e) (flat_map (pair_rows n) es) (all_from P n e.position 0 e.meta (λ j v _. each e.position j v)) (all_rows P n es each)
 
--- the pairs of the selected entries of one run, among the pairs of all
+-- a filter over the rows of all properties that keeps only those of some entries of run `n`
 module _ (test : Row → Bool) (n : ℕ) (keep : ℕ → Bool) (each : (m p k : ℕ) (v : Variable) → test (pair_row m p k v) ≡ (m == n) && keep p) where
   hit : (m : ℕ) → m ≡ n → (es : List Entry) → filter test (flat_map (pair_rows m) es) ≡ flat_map (pair_rows n) (filter (λ (e : Entry). keep e.position) es)
   hit m same [] = refl
@@ -45,7 +46,8 @@ of_pairs test n keep runs each h =
     found None = refl
     found (Some r) = append-nil (flat_map (pair_rows n) (filter (λ (e : Entry). keep e.position) r.entries))
 
--- the entry at a position, among entries ordered by position
+-- if entries are ordered by position, the properties of those at position `p` are those of one
+-- entry
 one_entry : (n p : ℕ) (es : List Entry) → IsAscending (λ (a b : Entry). a.position < b.position) es → flat_map (pair_rows n) (filter (has p) es) ≡ pair_rows_from n p 0 (pairs_of (find (has p) es))
 one_entry n p [] up = refl
 one_entry n p (e ∷ es) up = by (one_entry n p es up.1) (has p e) refl
@@ -58,7 +60,8 @@ one_entry n p (e ∷ es) up = by (one_entry n p es up.1) (has p e) refl
         rw (here, none) (append-nil (pair_rows n e) ∙ ap (λ q. pair_rows_from n q 0 e.meta) is)
     by later false other = rw other later
 
--- the pairs of the entry of a run at a position, among the pairs of all
+-- a filter on run and position over the rows of all properties keeps those of this run's entry at
+-- this position
 pub of_entry : (test : Row → Bool) (n p : ℕ) (runs : List Run) → AreRuns runs → ((m q k : ℕ) (v : Variable) → test (pair_row m q k v) ≡ (m == n) && (q == p))
     → filter test (prop_rows runs) ≡ pair_rows_from n p 0 (pairs_of (entry_at (run_at runs n) p))
 of_entry test n p runs valid each =
@@ -68,12 +71,14 @@ of_entry test n p runs valid each =
     found None = refl
     found (Some r) = refl
 
--- the rows of an entry's pairs rise in a relation that goes by their places
+-- the rows of an entry's properties ascend in each relation in which rows with a lower index are
+-- lower
 pub pairs_rise : (n p : ℕ) (Rel : Row → Row → Type 0) → ((k j : ℕ) (v w : Variable) → k < j → Rel (pair_row n p k v) (pair_row n p j w)) → (k : ℕ) (vs : List Variable) → IsAscending Rel (pair_rows_from n p k vs)
 pairs_rise n p Rel by_place k [] = tt
 pairs_rise n p Rel by_place k (v ∷ vs) = (all_from (Rel (pair_row n p k v)) n p (suc k) vs (λ j w past. by_place k j v w past), pairs_rise n p Rel by_place (suc k) vs)
 
--- a query that returns the columns of each pair's row returns those of all
+-- a function that maps the row of each property to its columns maps the rows of a list of
+-- properties to theirs
 pub all_columns : (f : Row → Row) (n p : ℕ) → ((k : ℕ) (v : Variable) → f (pair_row n p k v) ≡ pair_columns v) → (k : ℕ) (vs : List Variable) → map f (pair_rows_from n p k vs) ≡ map pair_columns vs
 all_columns f n p is k [] = refl
 all_columns f n p is k (v ∷ vs) = ap₂ (λ x xs. x ∷ xs) (is k v) (all_columns f n p is (suc k) vs)

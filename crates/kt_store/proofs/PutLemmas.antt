@@ -1,4 +1,5 @@
--- The effect of the INSERT of `put`, and the rows of entries and pairs after an entry is added.
+-- The effect of the INSERT of `put`, and the rows of entries and properties after an entry is
+-- added.
 use Rattle.kt_store.proofs.Common.{AllByRecursion, AreNumbered, Bool, Chosen, Enforced, Entry, Equal, Greater, HaveNoPairs, IsPermutation, IsPermutation-append_comm, IsPermutation-append_left, IsPermutation-append_right, IsPermutation-cons, IsPermutation-middle, IsPermutation-refl, IsPermutation-trans, Less, List, Ordering, Row, Run, Trees, [], ap, append_assoc, arith, cond, edit_of, entries_table, entry_row, entry_rows, false, flat_map, flat_map_same_on, flat_map_single, insert_at, is_eq, is_taken, length, map, match_ordering, nat_lt, nat_tests, pair_rows, pair_rows_from, prop_rows, put_row, refl, rowid, schema_2, subst, subst₂, suc, sym, taken_by, true, value_cmp, value_rows, with_entry, works, zero, ℕ, ◌++◌, ◌+◌, ◌<◌, ◌==◌, ◌||◌, ◌∙◌, ◌∷◌, ◌≡◌}
 use Rattle.kt_store.proofs.SqlFacts.{put_terms}
 
@@ -24,9 +25,10 @@ put_works params trees = refl
 swap_blocks : {X : Type 0} (a b c : List X) → IsPermutation (a ++ (b ++ c)) (b ++ (a ++ c))
 swap_blocks a b c = subst₂ IsPermutation (append_assoc a b c) (append_assoc b a c) (IsPermutation-append_left c (a ++ b) (b ++ a) (IsPermutation-append_comm a b))
 
--- the rows that entries have in a run of a number
+-- `of run e`: the rows of entry `e` in the run with number `run`, in either table
 module _ (of : ℕ → Entry → List Row) where
-  -- an entry at its index among the entries of a run
+  -- the rows of a new entry and of a run's entries are those of the entries with the new one
+  -- inserted, in some order
   inserted : (run : ℕ) (e : Entry) (es : List Entry) → IsPermutation (of run e ++ flat_map (of run) es) (flat_map (of run) (insert_at e es))
   inserted run e [] = IsPermutation-refl _
   inserted run e (x ∷ es) = go (nat_lt e.position x.position) (inserted run e es)
@@ -58,7 +60,7 @@ module _ (of : ℕ → Entry → List Row) where
 pub more_pairs : (from k : ℕ) (e : Entry) (runs : List Run) → AreNumbered from runs → k < length runs → IsPermutation (pair_rows (from + k) e ++ prop_rows runs) (prop_rows (with_entry (from + k) e runs))
 more_pairs = more pair_rows
 
--- each entry has exactly one row
+-- `single run e`: the only row of entry `e` in the table `entries`
 abbrev single : ℕ → Entry → List Row
 single run e = entry_row run e ∷ []
 
@@ -73,7 +75,7 @@ none_of : (run : ℕ) (es : List Entry) → AllByRecursion (λ (e : Entry). e.me
 none_of run [] h = refl
 none_of run (e ∷ es) h = ap (λ l. l ++ flat_map (pair_rows run) es) (ap (pair_rows_from run e.position 0) h.0) ∙ none_of run es h.1
 
--- entries without pairs have no rows of pairs
+-- runs whose entries have no properties have no rows in the table `props`
 pub no_pairs : (runs : List Run) → HaveNoPairs runs → prop_rows runs ≡ []
 no_pairs [] h = refl
 no_pairs (r ∷ runs) h = ap (λ l. l ++ prop_rows runs) (none_of r.number r.entries h.0) ∙ no_pairs runs h.1

@@ -1,4 +1,4 @@
--- The result of a query of one table.
+-- The result of a query of a single table.
 use Rattle.kt_store.proofs.Common.{Bool, Int, IsAnswerAs, IsAscending, IsPermutation, IsPermutation-map, IsPermutation-refl, IsPermutation-trans, IsSureAnswer, Less, List, None, Null, Output, Query, Row, Term, Trees, [], ap, ascending-map, cond, end, eval_all, false, filter, flat_map, holds, inner, list_all, lit, map, map-map, matches_as, nat_le, negsuc, output, output_cmp, overlay, pos, refl, sorted_unique, subst, sym, true, unwrap_or, ℕ, ◌++◌, ◌^◌, ◌∙◌, ◌∷◌, ◌≡◌}
 use Rattle.sqlite_value.specs.declared.keys.Key.{Key}
 use Rattle.sqlite_sql.proofs.QueryLemmas.{output_cmp_total}
@@ -45,19 +45,20 @@ module _ (t : ℕ) (tests project : List Term) (order : List (Term × Key)) (db 
     kept : a.kept ≡ outputs picked
     kept = a.distinct ∙ ap (map (output q)) (a.grouped ∙ ap (flat_map (λ r. matches_as Null (overlay db []) tests end (params ∷ r ∷ []))) (overlay_none db t) ∙ found (db t)) ∙ map-map _ _ picked
 
-    -- the rows that pass, in some order
+    -- the result is the output of the rows that pass the WHERE, in some order
     pub answered : IsPermutation (map show picked) rows
     answered = subst (λ l. IsPermutation l rows) (map-map (λ (o : Output). o.1) (λ r. output q (params ∷ r ∷ [])) picked)
         (subst (λ l. IsPermutation (map (λ (o : Output). o.1) (outputs picked)) l) (sym a.shown) (IsPermutation-map (λ (o : Output). o.1) (outputs picked) a.ordered (subst (λ k. IsPermutation k a.ordered) kept a.same)))
 
-    -- the rows in an order without ties, wherever it is from
+    -- the result is a given permutation of the output, if the permutation ascends strictly in ORDER
+    -- BY
     pub answered_sorted : (outs : List Output) → IsPermutation outs (outputs picked) → IsAscending (λ x y. output_cmp q x y ≡ Less) outs → rows ≡ map (λ (o : Output). o.1) outs
     answered_sorted outs same rises =
         let ordered : a.ordered ≡ outs = sorted_unique (output_cmp q) (output_cmp_total q) outs a.ordered rises
         (IsPermutation-trans _ _ _ same (subst (λ k. IsPermutation k a.ordered) kept a.same)) a.sorted in
         a.shown ∙ ap (map (λ (o : Output). o.1)) ordered
 
-    -- the rows in table order, if ORDER BY has no ties
+    -- the result is the output in table order, if it ascends strictly in ORDER BY
     pub answered_in_order : IsAscending (λ x y. output_cmp q (output q (params ∷ x ∷ [])) (output q (params ∷ y ∷ [])) ≡ Less) picked → rows ≡ map show picked
     answered_in_order rises =
         answered_sorted (outputs picked) (IsPermutation-refl (outputs picked)) (ascending-map (λ x y. output_cmp q x y ≡ Less) (λ r. output q (params ∷ r ∷ [])) picked rises)

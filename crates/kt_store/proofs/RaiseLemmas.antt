@@ -11,7 +11,8 @@ use Rattle.kt_store.proofs.MetaLemmas.{one_row, tests, passes_it}
 use Rattle.kt_store.proofs.PutLemmas.{no_pairs}
 use Rattle.kt_store.proofs.QueryLemmas.{answered, picked, show}
 
--- the row of the schema's number, and what it becomes
+-- `number_row x`: the row of schema number 1 with the rowid `x`; `next_row x` is that of schema
+-- number 2
 abbrev pub number_row : Value → Row
 number_row x = x ∷ Text (codes "schema") ∷ Int (pos 1) ∷ []
 
@@ -27,7 +28,7 @@ unfolding binary
 differs x y Equal one two cmp apart = absurd (let e : true ≡ false = apart in cc)
 differs x y o one two cmp apart = rw (one, two, cmp) refl
 
--- a row that clashes does not pass
+-- a row fails a uniqueness check if it clashes with another row
 refuted : (b rest : Bool) → (not (true && b) && rest) ≡ true → ¬ (b ≡ true)
 refuted true rest h is = let e : false ≡ true = h in cc
 refuted false rest h is = cc
@@ -35,7 +36,8 @@ refuted false rest h is = cc
 abbrev IsUnique : Trees → Type 0
 IsUnique db = AllByRecursion (λ row. passes Unique schema_2 db meta_1 row ≡ true) (db 0)
 
--- no two rows have the same name
+-- the names of the rows of `meta` are unique, so `meta` never has both the row of schema number 1
+-- and that of 2
 module _ (db : Trees) (x y : Value) (unique : IsUnique db) (one : is_null x ≡ false) (two : is_null y ≡ false) where
   never_before : value_cmp x y ≡ Less → ¬ (db 0 ≡ number_row x ∷ next_row y ∷ [])
   never_before cmp is =
@@ -63,7 +65,7 @@ Alone db = map (drop 1) (db 0) ≡ (Text (codes "schema") ∷ Int (pos 2) ∷ []
 some_int : (y : Value) → (is_int y && true) ≡ true → is_null y ≡ false
 some_int y h = ap is_null (int_is y (and_parts (is_int y) true h).0)
 
--- the old row is removed, or was never present with the new row
+-- after the UPDATE, the new row is the only row of `meta`
 pub alone : (db : Trees) (x : Value) (gone : Bool) → has_rowid (id_in x) (number_row x) ≡ gone → IsUnique db → have_rowids (next_row (cast Integer x) ∷ []) ≡ true
     → are_fresh (kept gone x) (next_row (cast Integer x) ∷ []) ≡ true → db 0 ≡ put_all (kept gone x) (next_row (cast Integer x) ∷ []) → Alone db
 alone db x true is unique keyed fresh rows = ap (map (drop 1)) rows
@@ -119,7 +121,8 @@ module _ (rowid : Value) (db after : Database) (has : db.schema ≡ schema_2) (m
 abbrev no_rows : List Row
 no_rows = []
 
--- the two statements, in turn
+-- the two statements of the migration, executed in order, lead to tables of schema 2 with the same
+-- runs
 pub raised_all : (a b c : State) (i j : ℕ) (runs : List Run) → IsSchema1Database a.now runs → Executes create_props [] a b (Ok i) → Executes raise_text [] b c (Ok j) → Tables c.now runs × IsDatabase c.now
 raised_all a b c i j runs has one two =
     let first = makes schema_1 create_props props props_create a b i has.schema one in
@@ -140,7 +143,8 @@ raised_all a b c i j runs has one two =
       w.sound,
     )
 
--- the two statements in a transaction
+-- the two statements of the migration, executed in a transaction, lead to tables of schema 2 with
+-- the same runs
 pub raised_in : {S : Type 0} (g : Ghosts S) (old left : Held S) (runs : List Run) → (IsTrue (state g old).is_open → IsSchema1Database (state g old).now runs) → ExecutesInOrder g raise_statements (begun old) left
     → Tables (state g left).now runs × IsDatabase (state g left).now
 raised_in g old left runs has ran =

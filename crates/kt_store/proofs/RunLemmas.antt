@@ -18,7 +18,7 @@ found_run n runs h = ap (filter (has_number n)) (sym (flat_map_single run_row ru
     apart : (r : Run) → r.number ≢ n → filter (has_number n) (run_row r ∷ []) ≡ []
     apart r other = let differs : has_number n (run_row r) ≡ false = same_test r.number n ∙ grind (arith, nat_tests, other) in rw differs refl
 
--- the rows of runs that a WHERE on the number selects
+-- a WHERE on the number selects the row of the run with this number
 pub picked_run : (n : ℕ) (key : Term) (params : Row) → ((r : Row) → eval key (params ∷ r ∷ []) ≡ Int (pos n)) → (runs : List Run) → AreNumbered 1 runs
     → filter (λ r. list_all (holds (params ∷ r ∷ [])) (is (col 1 0) key ∷ [])) (map run_row runs) ≡ map run_row (option_to_list (run_at runs n))
 unfolding binary
@@ -58,7 +58,7 @@ tells_run g new runs n rows it =
 abbrev pub head : Run → ℕ × ℕ
 head r = (r.total, unsigned_abs (flag r.finished))
 
--- a first row is that of the run
+-- if the query returned no row, there is no such run
 pub none_there : (f : Run → Row) (o : Option Run) (rows : List Row) → rows ≡ map f (option_to_list o) → slice_get rows 0 ≡ None → o ≡ None
 none_there f None rows are none = refl
 none_there f (Some r) rows are none = absurd (let e : Some (f r) ≡ None = sym (ap (λ l. slice_get l 0) are) ∙ none in cc)
@@ -67,7 +67,7 @@ pub some_there : (f : Run → Row) (o : Option Run) (rows : List Row) (row : Row
 some_there f None rows row are some = absurd (let e : None ≡ Some row = sym (ap (λ l. slice_get l 0) are) ∙ some in cc)
 some_there f (Some r) rows row are some = let e : Some (f r) ≡ Some row = sym (ap (λ l. slice_get l 0) are) ∙ some in let same : row ≡ f r = cc in (r, refl, same)
 
--- a number read from the finished flag
+-- the number that is read from the finished flag is 1 or 0
 pub flag_read : (n : ℕ) (finished : Bool) → Int (pos n) ≡ Int (flag finished) → n ≡ unsigned_abs (flag finished)
 flag_read n finished is = let same : pos n ≡ flag finished = cc in ap unsigned_abs same
 
@@ -87,7 +87,7 @@ one_found o total finished h =
     let it = some_mapped head o (total, finished) h in
     (it.0, it.1, ap (λ (p : ℕ × ℕ). p.0) it.2, ap (λ (p : ℕ × ℕ). nat_lt 0 p.1) it.2 ∙ set it.0.finished)
 
--- ---- whether the store is full, by its last run
+-- ---- the store is full if a run has the maximum number
 
 none_past : (runs : List Run) (k : ℕ) → is_some (option_map head (slice_get runs k)) ≡ false → length runs ≤ k
 none_past [] k h = omega arith
@@ -121,7 +121,7 @@ tells_heads old new runs rows has h =
     (subst (IsAscending lower) (sym picked) (rises 1 runs has.tables.valid.numbered))
     ∙ ap (map (λ r. column r 0 ∷ column r 2 ∷ column r 3 ∷ column r 4 ∷ [])) picked ∙ map-map _ run_row runs
 
--- one more item read from a row, with its property
+-- a row at index `i` is that of one more item, which meets the predicate of all items
 pub one_more : {X Y Z : Type 0} (P : X → Type 0) (f : X → Y) (h : X → Z) (xs : List X) (i : ℕ) (y : Y) → AllByRecursion P xs → i < length xs → y ≡ get_or (map f xs) i y
     → (x : X) × (y ≡ f x) × P x × (map h (take (suc i) xs) ≡ map h (take i xs) ++ h x ∷ [])
 one_more P f h [] i y all low is = absurd (omega (arith, low))

@@ -1,16 +1,17 @@
--- How the tables of a database serve the calls of a store, and what a crash leaves.
+-- The calls of a store over the tables of a database obey `Serves`, also for crashes.
 use Rattle.kt_store.proofs.Common.{Agrees, Began, Changes, Entry, Err, Finished, Ghosts, HasCleanDisk, Held, IfErr, IfOk, IsErrAnd, IsStoreFault, Keeps, IsSchema2OfOne, KeepsRuns, Leaves, List, OnlyReadsRuns, MayChange, Ok, OnErr, OnOk, SurvivesCrash, Put, Reads, Result, Run, Serves, StandsFor, State, StoreCall, StoreFault, Survives, Trees, [], arith, runs_after, finish, inl, inr, new_run, refl, results, state, subst, survives_then, survives_weaker, sym, with_entry, ℕ, ◌++◌, ◌∷◌, ◌≡◌}
 use Rattle.kt_store.proofs.AskLemmas.{was_clean}
 use Rattle.kt_store.proofs.Numbered.{numbers_changed, ordered_changed}
 
--- a crash leaves what it left before, or the change
+-- a call that may commit `change` adds `change` to the runs that a crash may leave
 pub survived : (old new : State) (change runs : List Run) (may : List (List Run)) → Survives old new (Keeps change) → Leaves old (IsSchema2OfOne (runs ∷ may)) → Leaves new (IsSchema2OfOne (runs ∷ change ∷ may))
 survived old new change runs may s l clean trees h = elim (s.crash clean trees h) [
   | inl m ↦ elim (l (omega (arith, clean, s.clean)) trees m) [ inl k ↦ inl k | inr k ↦ inr (inr k) ]
   | inr k ↦ inr (inl k)
 ]
 
--- the runs after a call that writes, by its results, and what a crash leaves
+-- `IsWrite LeavesOne call change`: a successful `call` changes runs by `change`, a failed one
+-- changes nothing, and a crash leaves the runs that `SurvivesCrash` states
 pub record IsWrite {R : Type 0} (LeavesOne : R → List (List Run) → Type 0) {T : Type 0} (call : Result T StoreFault → StoreCall) (change : List Run → List Run) : Type 0 where
   pub done : (x : T) (runs : List Run) → runs_after (call (Ok x)) runs ≡ change runs
   pub refused : (e : StoreFault) (runs : List Run) → runs_after (call (Err e)) runs ≡ runs
@@ -28,21 +29,21 @@ module _ {R : Type 0} (LeavesOne : R → List (List Run) → Type 0) where
   pub finish_writes : (number : ℕ) → IsWrite LeavesOne (λ r. Finished number r) (finish number)
   finish_writes number = record { done = λ x runs. refl; refused = λ e runs. refl; fails = λ e runs failed. inl failed; lasts = λ x runs may old new h. h; survives = λ e runs may old new h. h }
 
--- ---- how the tables of a database serve the calls of a store
+-- ---- the calls of a store over the tables of a database obey `Serves`
 
--- a fact about each crash holds after each call
+-- if a crash in each state leaves one of any lists, each call obeys `SurvivesCrash`
 pub always_outlasts : {R : Type 0} (Leaves : R → List (List Run) → Type 0) → ((s : R) (may : List (List Run)) → Leaves s may) → (call : StoreCall) (runs : List Run) (may : List (List Run)) (old new : R) → SurvivesCrash Leaves call runs may old new
 always_outlasts Leaves h (Began total moment (Ok number)) runs may old new = h new _
 always_outlasts Leaves h (Put number e (Ok done)) runs may old new = h new _
 always_outlasts Leaves h (Finished number (Ok done)) runs may old new = h new _
 always_outlasts Leaves h _ runs may old new = λ _. h new _
 
--- a crash leaves what it left before, if nothing was called
+-- a state survives without a call: a crash leaves what it left before
 pub survives_self : (s : State) → Survives s s (λ (db : Trees). ⊥)
 survives_self s = record { clean = omega arith; shield = λ h. h; counts = omega arith; limit = refl; closes = λ clean opened. inl opened; crash = λ clean db may. inl may }
 
--- a call is served if its tables represent the changed runs, which are numbered and ordered if the
--- runs before were
+-- a call obeys `Serves` if the tables represent the changed runs after it, and its result agrees
+-- with the runs before
 serves : {S : Type 0} (g : Ghosts S) (call : StoreCall) (old new : Held S) → ((runs : List Run) → StandsFor (state g old) runs → StandsFor (state g new) (runs_after call runs))
     → ((runs : List Run) → StandsFor (state g old) runs → HasCleanDisk (state g new) → HasCleanDisk (state g old)) → ((runs : List Run) → StandsFor (state g old) runs → HasCleanDisk (state g new) → Agrees runs call)
     → ((runs : List Run) (may : List (List Run)) → StandsFor (state g old) runs → SurvivesCrash (λ s more. Leaves (state g s) (IsSchema2OfOne more)) call runs may old new) → Serves (results g) call old new
@@ -55,13 +56,14 @@ serves g call old new stands earlier agrees crash = record {
 }
 
 module _ {S : Type 0} (g : Ghosts S) where
-  -- a call returns the fault of a part of it, and is seen as its connection
+  -- a call that returns the fault of one of its steps obeys `Serves` if the step's fault does
   pub failed_at : {T : Type 0} (call : Result T StoreFault → StoreCall) (inside now new : Held S) → inside ≡ now → (r : Result T StoreFault) (e : StoreFault) → IsErrAnd r (λ x. x ≡ e)
       → Serves (results g) (call (Err e)) inside new → Serves (results g) (call r) now new
   failed_at call inside now new is (Ok x) e h s = absurd h
   failed_at call inside now new is (Err fault) e h s = subst (λ o. Serves (results g) (call (Err fault)) o new) is (subst (λ f. Serves (results g) (call (Err f)) inside new) (sym h) s)
 
-  -- a call returns the fault of a part of it, with only this fact about the fault
+  -- a call that returns the fault of one of its steps obeys `Serves` if each fault with the
+  -- property `P` does
   pub troubled_at : {T : Type 0} {P : StoreFault → Type 0} (call : Result T StoreFault → StoreCall) (inside now new : Held S) → inside ≡ now → (r : Result T StoreFault) → IsErrAnd r P
       → ((e : StoreFault) → P e → Serves (results g) (call (Err e)) inside new) → Serves (results g) (call r) now new
   troubled_at call inside now new is (Ok x) h each = absurd h
@@ -70,7 +72,7 @@ module _ {S : Type 0} (g : Ghosts S) where
   pub seen_at : (call : StoreCall) (inside now new : Held S) → inside ≡ now → Serves (results g) call inside new → Serves (results g) call now new
   seen_at call inside now new is s = subst (λ o. Serves (results g) call o new) is s
 
--- a call that only reads
+-- a call that only reads obeys `Serves` if its result agrees with the runs
 pub reads_serve : {S : Type 0} (g : Ghosts S) (call : StoreCall) (old new : Held S) → Reads (results g) old new → ((runs : List Run) → runs_after call runs ≡ runs)
     → ((runs : List Run) (may : List (List Run)) → ((results g).leaves old may → (results g).leaves new may) → SurvivesCrash (results g).leaves call runs may old new)
     → ((runs : List Run) → (results g).stands old runs → HasCleanDisk (state g new) → Agrees runs call) → Serves (results g) call old new
@@ -82,7 +84,7 @@ reads_serve g call old new reads same lasts why = record {
   crash = λ runs may h. lasts runs may (reads.crash runs may h);
 }
 
--- calls of which a part only reads
+-- calls whose first step only reads
 module _ {S : Type 0} (g : Ghosts S) (old new : Held S) (looked : OnlyReadsRuns g old new) where
   early : (runs : List Run) → StandsFor (state g old) runs → HasCleanDisk (state g new) → HasCleanDisk (state g old)
   early = was_clean looked
@@ -92,13 +94,13 @@ module _ {S : Type 0} (g : Ghosts S) (old new : Held S) (looked : OnlyReadsRuns 
       survived (state g old) (state g new) change runs may (survives_weaker (state g old) (state g new) (λ _. ⊥) (Keeps change) (λ _ db none. absurd none) (looked.crash runs has)) left
 
 module _ {S : Type 0} (g : Ghosts S) {T : Type 0} (call : Result T StoreFault → StoreCall) (change : List Run → List Run) (is : IsWrite (results g).leaves call change) where
-  -- a call that fails before it writes
+  -- a call that fails before it writes obeys `Serves`
   pub write_refused : (old new : Held S) (looked : OnlyReadsRuns g old new) (e : StoreFault) → ((runs : List Run) → StandsFor (state g old) runs → HasCleanDisk (state g new) → Agrees runs (call (Err e))) → Serves (results g) (call (Err e)) old new
   write_refused old new looked e why =
       serves g (call (Err e)) old new (λ runs has. subst (StandsFor (state g new)) (sym (is.refused e runs)) (looked.stands runs has)) (was_clean looked) why
       (λ runs may has. is.survives e runs may old new (unwritten g old new looked (change runs) runs may has))
 
-  -- a call whose first part reads, and whose second part writes
+  -- a call whose first step reads, and whose second step writes
   module _ (old mid new : Held S) (looked : OnlyReadsRuns g old mid) (Allowed : List Run → Type 0) (allowed : (runs : List Run) → StandsFor (state g old) runs → HasCleanDisk (state g mid) → Allowed runs) (may_change : MayChange g mid new Allowed change) where
     second : (runs : List Run) → StandsFor (state g old) runs → Survives (state g mid) (state g new) (Keeps (change runs))
     second runs has = may_change runs (looked.stands runs has) (allowed runs has)

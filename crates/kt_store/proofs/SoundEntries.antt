@@ -1,9 +1,9 @@
--- Entries and their pairs, by their rows.
+-- Entries and their properties, read from sound rows.
 use Rattle.kt_store.proofs.Common.{AllByRecursion, AreRuns, Bool, Entry, IsAscending, IsEntry, IsPair, List, None, Option, Run, Some, [], arith, entries_of, entry_at, false, find, nat_tests, pairs_of, refl, run_at, true, ℕ, ◌<◌, ◌==◌, ◌∷◌, ◌≡◌}
 use Rattle.kt_store.proofs.EntriesLemmas.{sound_of}
 use Rattle.kt_store.proofs.OutputsLemmas.{has}
 
--- an entry is sound, and so is the entry at its position
+-- `IsOwn es e`: the entry `e` meets `IsEntry`, and it is the first of `es` at its position
 abbrev pub IsOwn : List Entry → Entry → Type 0
 IsOwn es e = IsEntry e × (find (has e.position) es ≡ Some e)
 
@@ -15,7 +15,7 @@ are_own (e ∷ es) up sound = ((sound.0, let same : (e.position == e.position) �
     behind [] past own = tt
     behind (x ∷ xs) past own = ((own.0.0, let other : (e.position == x.position) ≡ false = grind (arith, nat_tests, past.0) in rw other own.0.1), behind xs past.1 own.1)
 
--- the pairs of an entry of a run are sound
+-- the properties of an entry of sound runs meet `IsPair`
 pub pairs_sound : (runs : List Run) (n p : ℕ) → AreRuns runs → AllByRecursion IsPair (pairs_of (entry_at (run_at runs n) p))
 pairs_sound runs n p valid = go (run_at runs n) (sound_of runs n valid)
   where

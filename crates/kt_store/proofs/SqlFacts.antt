@@ -1,4 +1,4 @@
--- The meaning of the statement texts.
+-- The compiled form of each statement text of the store.
 use Rattle.kt_store.proofs.Common.{Binary, Command, Compare, Eq, HasColumns, Insert, Int, IsPlain, List, None, Null, Query, Select, Table, Term, Text, Update, Values, [], arith, ascending, begin_text, schema_with_meta, codes, col, command_of, end, entries_text, everything, false, finish_text, inner, lit, mark_text, meta_text, negsuc, op2, pair_text, pairs_text, pos, put_text, raise_text, reads_listing, refl, run_text, runs_text, schema_2, entry_query, understood, ℕ, ◌∷◌, ◌≡◌}
 use Rattle.sqlite_schema.specs.declared.schema.Index.{Index}
 use Rattle.sqlite_schema.specs.declared.schema.View.{View}
@@ -118,7 +118,7 @@ pub raise_is : (command_of (understood schema_2 raise_text) ≡ Update 0 (record
 unfolding understood everything
 raise_is = (refl, (refl, refl))
 
--- ---- the meaning of the query for the schema number if other tables follow the first
+-- ---- the compiled query for the schema number if other tables follow the table `meta`
 
 pub meta_any : (others : List Table) (indexes : List Index) (views : List View)
     → (command_of (understood (schema_with_meta others indexes views) meta_text) ≡ select meta_query (codes "value" ∷ [])) × (reads_listing (schema_with_meta others indexes views) meta_text ≡ false) × IsPlain (understood (schema_with_meta others indexes views) meta_text)

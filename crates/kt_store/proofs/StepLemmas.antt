@@ -1,4 +1,4 @@
--- The state of a connection that represents runs after a statement.
+-- The state of a connection after a statement, if its tables represented runs before.
 use Rattle.kt_store.proofs.Common.{Command, CommitsBy, Compiled, Database, Err, Error, FailsToQuery, FailsToShow, Ghosts, HasCleanDisk, Held, IsSettledWhileOpen, IsDatabase, IsLive, IsNotRun, IsPlain, IsRolledBack, IsSettled, IsStore, IsTrue, IsUnchanged, IsUndone, Keeps, IsAnySchemaOf, IsSchema1Of, Leaves, List, None, Option, IsUnchangedOrRolledBack, Row, Run, RunsCommand, Schema, Some, State, Survives, Tables, Trees, ap, append-nil, arith, command_of, inl, inr, state, statement_of, subst, subst₂, survives_then, sym, unchanged_then, understood, ℕ, ◌∙◌, ◌≡◌}
 use Rattle.sqlite_schema.specs.declared.command.Returning.{Returning}
 use Rattle.sqlite.specs.State.{MayCommit}
@@ -26,7 +26,7 @@ rolled_back : (old new : State) → IsRolledBack old new → IsUndone old new
 rolled_back old new undone = record { was_open = undone.was_open; now = λ opened. (undone.undone opened).0; committed = λ opened. (undone.undone opened).1; autocommit = undone.autocommit }
 
 module _ (P : Database → Type 0) (old new : State) where
-  -- an unchanged or rolled-back connection is settled as before
+  -- an unchanged connection is settled as before
   pub same_settled : IsSettled P old → IsUnchanged old new → IsSettled P new
   same_settled has same = record {
     autocommit = same.0.mode ∙ has.autocommit;
@@ -41,7 +41,7 @@ module _ (P : Database → Type 0) (old new : State) where
     tables = subst P (sym (undone.now opened ∙ has.settled)) has.tables;
   }
 
-  -- a failed statement changes nothing
+  -- a connection that a failed statement left unchanged or rolled back is settled as before
   pub rests_hold : IsSettledWhileOpen P old → (HasCleanDisk new → HasCleanDisk old) → (HasCleanDisk new → IsUnchangedOrRolledBack old new) → IsSettledWhileOpen P new
   rests_hold has earlier left clean opened = elim (left clean) [
     | inl same ↦ same_settled (has (earlier clean) same.0.was_open) same
@@ -70,7 +70,7 @@ rests_then a b c same (inr undone) = inr (record {
   counts = record { changes = undone.counts.changes ∙ same.1.changes; last_rowid = undone.counts.last_rowid ∙ same.1.last_rowid };
 })
 
--- a statement that is prepared and then run
+-- a statement that is prepared and then executed commits only what its execution commits
 pub prepare_then : (old mid new : State) (P Q : Trees → Type 0) → Survives old mid (λ _. ⊥) → Survives mid new Q → (HasCleanDisk mid → (db : Trees) → Q db → P db) → Survives old new P
 prepare_then old mid new P Q first second is = survives_then old mid new (λ _. ⊥) Q P (λ _ db none. absurd none) (λ clean db may. is (omega (arith, clean, second.clean)) db may) first second
 
@@ -81,14 +81,14 @@ outlives old new P it left clean trees may = elim (it.crash clean trees may) [
   | inr none ↦ absurd none
 ]
 
--- a migration adds its own runs to what a crash may leave
+-- during a migration, a crash leaves the runs in schema 1 or 2
 pub either_left : (old new : State) (runs : List Run) → Survives old new (Keeps runs) → Leaves old (IsSchema1Of runs) → Leaves new (IsAnySchemaOf runs)
 either_left old new runs it left clean trees may = elim (it.crash clean trees may) [
   | inl earlier ↦ inl (left (omega (arith, clean, it.clean)) trees earlier)
   | inr made ↦ inr made
 ]
 
--- an open database leaves its last commit
+-- a crash of an open connection leaves its last commit
 module _ {S : Type 0} (g : Ghosts S) (s : Held S) (law : (db : Trees) → IsTrue (state g s).is_open → (state g s).may_leave db → db ≡ (state g s).committed.trees) where
   pub leaves_held : (P : Database → Type 0) → IsLive (state g s) → IsSettledWhileOpen P (state g s) → IsTrue (state g s).is_open → Leaves (state g s) (λ trees. (db : Database) × IsDatabase db × (trees ≡ db.trees) × P db)
   leaves_held P live has opened clean trees may = ((state g s).now, (live opened).0, law trees opened may ∙ ap (λ (d : Database). d.trees) (has clean opened).settled, (has clean opened).tables)

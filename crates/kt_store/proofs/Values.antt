@@ -1,4 +1,4 @@
--- Values as they are compared and cast, and what parts of a statement gave.
+-- Comparisons and casts of SQL values, and the results of the steps of a statement.
 use Rattle.kt_store.proofs.Common.{Bool, Equal, Err, Greater, Int, Integer, Less, None, Null, Ok, Option, Result, Some, Value, ap, arith, cast, cond, false, inl, inr, ints, is_eq, nat_tests, option_map, pos, refl, true, unary, value_cmp, value_cmp-Int, ℕ, ℤ, ◌<◌, ◌==◌, ◌∙◌, ◌≡◌, ◌⊎◌}
 
 pub below : (m n : ℕ) → m < n → value_cmp (Int (pos m)) (Int (pos n)) ≡ Less
@@ -25,12 +25,12 @@ pub cast_int : (n : ℤ) → cast Integer (Int n) ≡ Int n
 unfolding unary
 cast_int n = either _ (Int n)
 
--- a part that gave a value did not stop on the way
+-- a step that returned a value did not stop with an error
 pub went : {B E R : Type 0} {b : B} {Stops : E → Type 0} → ((stop : E) × Stops stop × (Ok b ≡ Err stop)) ⊎ R → R
 went (inl stopped) = absurd (let e = stopped.2 in cc)
 went (inr on) = on
 
--- the value of an option with this result
+-- if an option's mapped value is known, the option has a value that is mapped to it
 pub some_mapped : {X Y : Type 0} (f : X → Y) (o : Option X) (y : Y) → Some y ≡ option_map f o → (x : X) × (o ≡ Some x) × (y ≡ f x)
 some_mapped f None y is = absurd cc
 some_mapped f (Some x) y is = (x, refl, let same : y ≡ f x = cc in same)

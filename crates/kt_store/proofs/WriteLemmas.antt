@@ -1,4 +1,4 @@
--- A write that is one statement in its own commit, from what it does to the tables alone.
+-- The effect of a statement that is its own commit, from its effect on the tables.
 use Rattle.kt_store.proofs.Common.{Command, Commit, CommitsBy, Database, Does, Enforced, Executes, Ghosts, HasCleanDisk, Held, IsDatabase, IsNewestNamed, IsPlain, IsStore, IsTrue, Keeps, List, MayExecute, Mode, None, Ok, Option, Program, Release, Row, Run, Runs, StandsFor, State, Tables, Tally, Executed, Trees, Update, Writes, ap, begins_at, command_of, cond, inl, inr, mode_of, names_in, refl, runs_as, schema_2, state, statement_of, understood, unwrap_or, ℕ, ⊤, ◌∙◌, ◌≡◌, ◌⊎◌}
 use Rattle.kt_store.proofs.StepLemmas.{commits_as, same_store}
 
@@ -9,7 +9,8 @@ module _ (sql : List ℕ) (params : Row) (command : Command) (is : command_of (u
     (writes : (old new : State) (text : List ℕ) (count : ℕ) → Runs old new None command text params count → Writes old new None command text params count) (no_end : (old : State) → Ends command old → ⊥)
     (runs more : List Run) (Says : Tally → Type 0)
     (step : (limit : Option ℕ) (mode : Mode) (db after : Database) (text : List ℕ) (tally : Tally) → mode.keys ≡ Enforced → Tables db runs → Does limit mode params db text None command (Ok (tally, after)) → Tables after more × Says tally) where
-  -- the tables represent more runs, and the last rowid is the one that the table counts
+  -- `Wrote old new`: the tables of `new` represent the runs `more`, and the last rowid of `new` is
+  -- that of the tally, or that of `old` without one
   abbrev pub Wrote : State → State → Type 0
   Wrote old new = IsStore new more × IsTrue new.is_open × IsDatabase new.now × (tally : Tally) × Says tally × (new.last_rowid ≡ unwrap_or tally.last old.last_rowid)
 

@@ -4,45 +4,46 @@ use Rattle.kt_base.specs.declared.entry.Output.{Output}
 use Rattle.kt_store.specs.Runs.{run_at}
 use Rattle.kt_store.specs.Types.{CaseOutputs, Entry, Run, RunHead, Variable, find}
 
--- `head_of r`: the run `r` without its entries
+-- `head_of r`: the head of run `r`, which is the run without its entries
 abbrev pub head_of : Run → RunHead
 head_of r = record { number = r.number; started = r.started; total = r.total; finished = r.finished }
 
--- `head_at runs number`: the head of the run with the number, or of the last run if `number` is
--- `None`
+-- `head_at runs number`: the head of the run in `runs` with `number`, or of the last run if
+-- `number` is `None`; `None` if there is no such run
 abbrev pub head_at : List Run → Option ℕ → Option RunHead
 head_at runs number = option_map head_of (run_at runs (unwrap_or number (length runs)))
 
--- `IsNumbered number head`: the head has the number, if there is one
+-- `IsNumbered number head`: `number` is `None`, or the number of `head`
 abbrev pub IsNumbered : Option ℕ → RunHead → Type 0
 IsNumbered number head = IfSome number (λ n. head.number ≡ n)
 
--- the output of a case that printed nothing
+-- the output of a body or a cleanup that printed nothing
 abbrev pub no_output : Output
 no_output = record { out = []; err = [] }
 
--- `without_outputs e`: the entry `e` without its outputs
+-- `without_outputs e`: entry `e` with empty outputs
 abbrev pub without_outputs : Entry → Entry
 without_outputs e = record e { body = no_output; cleanup = no_output }
 
--- `without_pairs e`: the entry `e` without its pairs
+-- `without_pairs e`: entry `e` without its properties
 abbrev pub without_pairs : Entry → Entry
 without_pairs e = record e { meta = [] }
 
--- `outlined e`: the entry `e` without its pairs and outputs
+-- `outlined e`: entry `e` without its properties and outputs
 abbrev pub outlined : Entry → Entry
 outlined e = without_outputs (without_pairs e)
 
--- `pairs_of e`: the pairs of `e`, or none if there is no entry
+-- `pairs_of e`: the properties of entry `e`, or none if `e` is `None`
 abbrev pub pairs_of : Option Entry → List Variable
 pairs_of None = []
 pairs_of (Some e) = e.meta
 
--- `outputs_of e`: the outputs of the entry `e`
+-- `outputs_of e`: the outputs of the body and the cleanup of entry `e`
 abbrev pub outputs_of : Entry → CaseOutputs
 outputs_of e = record { body = e.body; cleanup = e.cleanup }
 
--- `entry_at r position`: the first entry of run `r` at `position`, if there is one
+-- `entry_at r position`: the first entry of run `r` at `position`, or `None` without this run or
+-- entry
 abbrev pub entry_at : Option Run → ℕ → Option Entry
 entry_at None position = None
 entry_at (Some r) position = find (λ (e : Entry). e.position == position) r.entries

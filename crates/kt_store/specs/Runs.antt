@@ -1,4 +1,4 @@
--- The tables that represent a list of runs.
+-- The rows of the tables that represent a list of runs, and the runs after a call of the store.
 use Rattle.std.specs.Prelude.{◌≡◌, ℕ, zero, suc, nat_lt, nat_le, ◌==◌, slice_get, Option, None, ◌<◌, ◌≤◌, ℤ, pos, Bool, true, false, if◌then◌else◌, List, [], ◌∷◌, length, map, drop, flat_map, Some, codes, IsPermutation, ⊤, ◌⊎◌}
 use Rattle.kt_base.specs.declared.verdict.Kind.{Kind}
 use Rattle.kt_store.specs.Tables.{schema_1, schema_2}
@@ -13,43 +13,45 @@ kind_code ExpectedFailure = 2
 kind_code Failed = 3
 kind_code Broken = 4
 
--- `flag finished`: the number that represents `finished` in the tables
+-- `flag finished`: the number that represents `finished` in the tables: 1 for `true`, 0 for `false`
 abbrev pub flag : Bool → ℤ
 flag finished = if finished then pos 1 else pos 0
 
--- `run_row r`: the rowid of run `r`, NULL in the rowid's own column, and the other columns
+-- `run_row r`: the row of run `r` as SQLite stores it: the rowid, NULL in the column of the rowid,
+-- and the other columns
 abbrev pub run_row : Run → Row
 run_row r = Int (pos r.number) ∷ Null ∷ Int (pos r.started) ∷ Int (pos r.total) ∷ Int (flag r.finished) ∷ []
 
--- `entry_row run e`: the columns of entry `e` of the run with number `run`
+-- `entry_row run e`: the columns of entry `e` in the table `entries`, for the run with number `run`
 abbrev pub entry_row : ℕ → Entry → Row
 entry_row run e =
     Int (pos run) ∷ Int (pos e.position) ∷ Text (utf8 e.program) ∷ Text (utf8 e.case_name) ∷ Int (pos (kind_code e.verdict.kind)) ∷ Text (utf8 e.verdict.reason) ∷ Int (pos e.started) ∷ Int (pos e.millis)
     ∷ Blob e.body.out ∷ Blob e.body.err ∷ Blob e.cleanup.out ∷ Blob e.cleanup.err ∷ []
 
--- `entry_rows runs`: the rows of all entries of `runs`
+-- `entry_rows runs`: the rows of the table `entries` for all entries of `runs`
 abbrev pub entry_rows : List Run → List Row
 entry_rows runs = flat_map (λ r. map (entry_row r.number) r.entries) runs
 
--- `pair_row run position place v`: the columns of pair `v`, with index `place` among the pairs of
--- the entry at `position` of `run`
+-- `pair_row run position place v`: the columns of property `v` in the table `props`. `place` is the
+-- index of `v` among the properties of the entry at `position` of run `run`.
 abbrev pub pair_row : ℕ → ℕ → ℕ → Variable → Row
 pair_row run position place v = Int (pos run) ∷ Int (pos position) ∷ Int (pos place) ∷ Text (utf8 v.name) ∷ Text (utf8 v.value) ∷ []
 
--- `pair_rows_from run position place pairs`: the rows of `pairs`, with indexes from `place`
+-- `pair_rows_from run position place pairs`: the rows of the properties `pairs` of the entry at
+-- `position` of run `run`, with indexes from `place`
 abbrev pub pair_rows_from : ℕ → ℕ → ℕ → List Variable → List Row
 pair_rows_from run position place [] = []
 pair_rows_from run position place (v ∷ pairs) = pair_row run position place v ∷ pair_rows_from run position (suc place) pairs
 
--- `pair_rows run e`: the rows of the pairs of entry `e` of `run`
+-- `pair_rows run e`: the rows of the table `props` for the properties of entry `e` of run `run`
 abbrev pub pair_rows : ℕ → Entry → List Row
 pair_rows run e = pair_rows_from run e.position 0 e.meta
 
--- `prop_rows runs`: the rows of the pairs of all entries of `runs`
+-- `prop_rows runs`: the rows of the table `props` for the properties of all entries of `runs`
 abbrev pub prop_rows : List Run → List Row
 prop_rows runs = flat_map (λ r. flat_map (pair_rows r.number) r.entries) runs
 
--- `AreNumbered n runs`: the numbers of `runs` count from `n`
+-- `AreNumbered n runs`: the numbers of `runs` are `n`, `n` + 1, and so on
 abbrev pub AreNumbered : ℕ → List Run → Type 0
 AreNumbered n [] = ⊤
 AreNumbered n (r ∷ runs) = (r.number ≡ n) × AreNumbered (suc n) runs
@@ -58,11 +60,12 @@ AreNumbered n (r ∷ runs) = (r.number ≡ n) × AreNumbered (suc n) runs
 abbrev pub IsText : List ℕ → Type 0
 IsText text = (chars (utf8 text) ≡ text) × IsUtf8 (utf8 text)
 
--- `IsPair v`: the name and the value of `v` are texts
+-- `IsPair v`: the name and the value of property `v` are representable in UTF-8
 abbrev pub IsPair : Variable → Type 0
 IsPair v = IsText v.name × IsText v.value
 
--- `IsEntry e`: the texts of `e` are representable in UTF-8, and a passed case has an empty reason
+-- `IsEntry e`: the texts of entry `e` are representable in UTF-8, and its reason is empty if the
+-- case passed
 pub record IsEntry (e : Entry) : Type 0 where
   pub program : IsText e.program
   pub case_name : IsText e.case_name
@@ -70,8 +73,9 @@ pub record IsEntry (e : Entry) : Type 0 where
   pub passed : e.verdict.kind ≡ Passed → e.verdict.reason ≡ []
   pub meta : AllByRecursion IsPair e.meta
 
--- `IsRun r`: the entries of `r` ascend by position without a repetition and are below its total; a
--- finished run has all of them
+-- `IsRun r`: the total of run `r` is below 2^32. Its entries meet `IsEntry`, ascend by position
+-- without a repetition, and have positions below the total. A finished run has as many entries as
+-- its total.
 pub record IsRun (r : Run) : Type 0 where
   pub small : r.total < 4294967296
   pub ordered : IsAscending (λ (a b : Entry). a.position < b.position) r.entries
@@ -79,22 +83,24 @@ pub record IsRun (r : Run) : Type 0 where
   pub sound : AllByRecursion IsEntry r.entries
   pub whole : r.finished ≡ true → length r.entries ≡ r.total
 
--- `AreRuns runs`: `runs` are numbered from 1, each of them is sound, and there are at most
+-- `AreRuns runs`: `runs` are numbered from 1, each of them meets `IsRun`, and there are at most
 -- 1,000,000
 pub record AreRuns (runs : List Run) : Type 0 where
   pub numbered : AreNumbered 1 runs
   pub each : AllByRecursion IsRun runs
   pub few : length runs ≤ last_run
 
--- `AreOrdered runs`: the entries of each of `runs` ascend by position without a repetition
+-- `AreOrdered runs`: in each of `runs`, the entries ascend by position without a repetition
 abbrev pub AreOrdered : List Run → Type 0
 AreOrdered runs = AllByRecursion (λ (r : Run). IsAscending (λ (a b : Entry). a.position < b.position) r.entries) runs
 
--- `HasSchemaNumber n trees`: the table `meta` in `trees` has exactly the schema number `n`
+-- `HasSchemaNumber n trees`: the table `meta` in `trees` has one row, which is the schema number
+-- `n`
 abbrev pub HasSchemaNumber : ℤ → Trees → Type 0
 HasSchemaNumber n trees = map (drop 1) (trees 0) ≡ (Text (codes "schema") ∷ Int n ∷ []) ∷ []
 
--- `Tables db runs`: `db` has schema 2, and its rows are exactly those of `runs`
+-- `Tables db runs`: database `db` has schema 2, and its rows are exactly those of `runs`, which
+-- meet `AreRuns`
 pub record Tables (db : Database) (runs : List Run) : Type 0 where
   pub schema : db.schema ≡ schema_2
   pub marked : HasSchemaNumber (pos 2) db.trees
@@ -103,12 +109,12 @@ pub record Tables (db : Database) (runs : List Run) : Type 0 where
   pub props_are : IsPermutation (prop_rows runs) (map (drop 1) (db.trees 5))
   pub valid : AreRuns runs
 
--- `HaveNoPairs runs`: no entry of `runs` has a pair
+-- `HaveNoPairs runs`: no entry of `runs` has a property
 abbrev pub HaveNoPairs : List Run → Type 0
 HaveNoPairs runs = AllByRecursion (λ (r : Run). AllByRecursion (λ (e : Entry). e.meta ≡ []) r.entries) runs
 
--- `IsSchema1Database db runs`: `db` has schema 1, and its rows are exactly those of `runs`, whose entries
--- have no pairs
+-- `IsSchema1Database db runs`: database `db` has schema 1, and its rows are exactly those of
+-- `runs`, which meet `AreRuns` and have no properties
 pub record IsSchema1Database (db : Database) (runs : List Run) : Type 0 where
   pub schema : db.schema ≡ schema_1
   pub marked : HasSchemaNumber (pos 1) db.trees
@@ -117,66 +123,73 @@ pub record IsSchema1Database (db : Database) (runs : List Run) : Type 0 where
   pub bare : HaveNoPairs runs
   pub valid : AreRuns runs
 
--- `Keeps runs trees`: `trees` are those of a database of schema 2 with `runs`
+-- `Keeps runs trees`: `trees` are the B-trees of a database of schema 2 with exactly `runs`
 abbrev pub Keeps : List Run → Trees → Type 0
 Keeps runs trees = (db : Database) × IsDatabase db × (trees ≡ db.trees) × Tables db runs
 
--- `IsSchema1Of runs trees`: `trees` are those of a database of schema 1 with `runs`
+-- `IsSchema1Of runs trees`: `trees` are the B-trees of a database of schema 1 with exactly `runs`
 abbrev pub IsSchema1Of : List Run → Trees → Type 0
 IsSchema1Of runs trees = (db : Database) × IsDatabase db × (trees ≡ db.trees) × IsSchema1Database db runs
 
--- `IsAnySchemaOf runs trees`: `trees` are those of a database of schema 1 or 2 with `runs`
+-- `IsAnySchemaOf runs trees`: `trees` are the B-trees of a database of schema 1 or 2 with exactly
+-- `runs`
 abbrev pub IsAnySchemaOf : List Run → Trees → Type 0
 IsAnySchemaOf runs trees = IsSchema1Of runs trees ⊎ Keeps runs trees
 
--- `IsSchema2OfOne lists trees`: `trees` are those of a database of schema 2 with the runs of one of
--- `lists`
+-- `IsSchema2OfOne lists trees`: `trees` are the B-trees of a database of schema 2 with exactly the
+-- runs of one of `lists`
 abbrev pub IsSchema2OfOne : List (List Run) → Trees → Type 0
 IsSchema2OfOne [] trees = ⊥
 IsSchema2OfOne (runs ∷ others) trees = Keeps runs trees ⊎ IsSchema2OfOne others trees
 
--- `new_run runs total started`: the run that begins after `runs`: unfinished, without entries
+-- `new_run runs total started`: the run that is added after `runs`: with the next number,
+-- unfinished, and without entries
 abbrev pub new_run : List Run → ℕ → ℕ → Run
 new_run runs total started = record { number = suc (length runs); started = started; total = total; finished = false; entries = [] }
 
--- `run_at runs number`: the run with `number`, if there is one
+-- `run_at runs number`: the run at index `number` - 1 of `runs`, or `None` if there is none
 abbrev pub run_at : List Run → ℕ → Option Run
 run_at runs zero = None
 run_at runs (suc k) = slice_get runs k
 
--- `insert_at e es`: `es`, ordered by position, with `e` inserted
+-- `insert_at e es`: the entries `es` with `e` inserted before the first entry with a greater
+-- position
 abbrev pub insert_at : Entry → List Entry → List Entry
 insert_at e [] = e ∷ []
 insert_at e (x ∷ es) = if nat_lt e.position x.position then e ∷ x ∷ es else x ∷ insert_at e es
 
--- `with_entry run e runs`: `runs` with `e` inserted into the run with number `run`
+-- `with_entry run e runs`: `runs` with entry `e` inserted into the first run with number `run`
 abbrev pub with_entry : ℕ → Entry → List Run → List Run
 with_entry run e [] = []
 with_entry run e (r ∷ runs) = if r.number == run then record r { entries = insert_at e r.entries } ∷ runs else r ∷ with_entry run e runs
 
--- `finish run runs`: `runs` with the run with number `run` finished
+-- `finish run runs`: `runs` with the first run with number `run` marked as finished
 abbrev pub finish : ℕ → List Run → List Run
 finish run [] = []
 finish run (r ∷ runs) = if r.number == run then record r { finished = true } ∷ runs else r ∷ finish run runs
 
--- `has_position position es`: `true` if one of `es` has `position`
+-- `has_position position es`: `true` if one of the entries `es` has `position`
 abbrev pub has_position : ℕ → List Entry → Bool
 has_position position es = list_any (λ (e : Entry). e.position == position) es
 
--- `put_refusal_of r e`: the first reason why run `r` rejects `e`
+-- `put_refusal_of r e`: the error of a put of entry `e` into run `r`, the first that applies, or
+-- `None` if the run accepts the entry
 abbrev pub put_refusal_of : Option Run → Entry → Option StoreFault
 put_refusal_of None e = Some NoRun
 put_refusal_of (Some r) e = if r.finished then Some RunClosed else if nat_le r.total e.position then Some BadPosition else if has_position e.position r.entries then Some RepeatedPosition else None
 
--- `put_refusal runs run e`: the first reason why `runs` reject `e` in the run with number `run`
+-- `put_refusal runs run e`: the error of a put of entry `e` into run `run` of `runs`, the first
+-- that applies, or `None` if the run accepts the entry
 abbrev pub put_refusal : List Run → ℕ → Entry → Option StoreFault
 put_refusal runs run e = put_refusal_of (run_at runs run) e
 
--- `finish_refusal_of r`: the first reason why run `r` can't be finished
+-- `finish_refusal_of r`: the error of finishing run `r`, the first that applies, or `None` if the
+-- run can be finished
 abbrev pub finish_refusal_of : Option Run → Option StoreFault
 finish_refusal_of None = Some NoRun
 finish_refusal_of (Some r) = if r.finished then Some RunClosed else if nat_lt (length r.entries) r.total then Some Incomplete else None
 
--- `finish_refusal runs run`: the first reason why the run with number `run` can't be finished
+-- `finish_refusal runs run`: the error of finishing run `run` of `runs`, the first that applies, or
+-- `None` if the run can be finished
 abbrev pub finish_refusal : List Run → ℕ → Option StoreFault
 finish_refusal runs run = finish_refusal_of (run_at runs run)

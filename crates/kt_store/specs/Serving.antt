@@ -1,4 +1,4 @@
--- The effect of a store call on the runs, by its result.
+-- The effect of a store call on the represented runs, by the result of the call.
 use Rattle.std.specs.Prelude.{suc, List, [], ◌∷◌, ◌++◌, ◌≡◌, ◌<◌, ◌≤◌, ◌⊎◌, Some, None, Ok, Err, length, map}
 use Rattle.kt_store.specs.Ask.{IsStoreFault}
 use Rattle.kt_store.specs.Heads.{head_at, outlined, pairs_of, outputs_of, entry_at}
@@ -8,14 +8,16 @@ use Rattle.kt_store.specs.StoreCalls.{StoreCall, Began, Put, Finished, Head, Out
 use Rattle.kt_store.specs.declared.result_store.StoreSpec as store
 use Rattle.kt_store.specs.Types.{Entry, Ghosts, HasCleanDisk, Held, NoRun, Run, StoreFull, last_run, state}
 
--- `runs_after call runs`: the runs after `call`; a failed call changes nothing
+-- `runs_after call runs`: the runs of a store with `runs` after `call`; a failed call and a call
+-- that reads change nothing
 abbrev pub runs_after : StoreCall → List Run → List Run
 runs_after (Began total moment (Ok number)) runs = runs ++ new_run runs total moment ∷ []
 runs_after (Put number e (Ok done)) runs = with_entry number e runs
 runs_after (Finished number (Ok done)) runs = finish number runs
 runs_after _ runs = runs
 
--- `Agrees runs call`: the result of `call` is the one that `runs` require
+-- `Agrees runs call`: the result of `call` is correct for a store with `runs`. An error is the
+-- first that applies, or it reports that memory ran out or that the database failed.
 abbrev pub Agrees : List Run → StoreCall → Type 0
 Agrees runs (Began total moment (Ok number)) = (number ≡ suc (length runs)) × (length runs < last_run)
 Agrees runs (Began total moment (Err fault)) = IsStoreFault fault ⊎ ((fault ≡ StoreFull) × (last_run ≤ length runs))
@@ -33,9 +35,11 @@ Agrees runs (Outputs number position (Ok outputs)) = (e : Entry) × (entry_at (r
 Agrees runs (Outputs number position (Err fault)) = IsStoreFault fault ⊎ ((fault ≡ NoRun) × (entry_at (run_at runs number) position ≡ None))
 
 module _ {R : Type 0} (LeavesOne : R → List (List Run) → Type 0) where
-  -- `SurvivesCrash call runs may old new`: the runs that a crash may leave after `call`. A successful
-  -- call that writes leaves only its own runs. A failed call leaves the earlier outcomes or the
-  -- changed runs. A call that reads adds nothing.
+  -- `SurvivesCrash LeavesOne call runs may old new`: which runs a crash may leave after `call` on a
+  -- store with `runs`, in state `old` before and `new` after the call. `LeavesOne s lists`: in
+  -- state `s`, a crash leaves one of `lists`. `may` are the outcomes possible before the call.
+  -- After a successful call that writes, only the changed runs are possible. A failed call adds the
+  -- changed runs to the outcomes. A call that reads adds nothing.
   abbrev pub SurvivesCrash : StoreCall → List Run → List (List Run) → R → R → Type 0
   SurvivesCrash (Began total moment (Ok number)) runs may old new = LeavesOne new ((runs ++ new_run runs total moment ∷ []) ∷ [])
   SurvivesCrash (Began total moment (Err fault)) runs may old new = LeavesOne old (runs ∷ may) → LeavesOne new (runs ∷ (runs ++ new_run runs total moment ∷ []) ∷ may)
@@ -45,8 +49,10 @@ module _ {R : Type 0} (LeavesOne : R → List (List Run) → Type 0) where
   SurvivesCrash (Finished number (Err fault)) runs may old new = LeavesOne old (runs ∷ may) → LeavesOne new (runs ∷ finish number runs ∷ may)
   SurvivesCrash _ runs may old new = LeavesOne old may → LeavesOne new may
 
--- `Serves r call old new`: if `old` represents `runs`, `new` represents the changed runs. If `new`
--- is sound, `old` was sound, and the result of `call` agrees with the runs.
+-- `Serves r call old new`: `call` leads a store with the specification `r` from `old` to `new`. If
+-- `old` represents runs, `new` represents the changed runs, and a crash leaves the runs that
+-- `SurvivesCrash` states. If `new` is sound, `old` was sound, and the result of `call` agrees with
+-- the runs.
 pub record Serves {R : Type 0} (r : store.Ghosts R) (call : StoreCall) (old new : R) : Type 0 where
   pub asked : r.answers old call new
   pub stands : (runs : List Run) → r.stands old runs → r.stands new (runs_after call runs)
@@ -54,15 +60,16 @@ pub record Serves {R : Type 0} (r : store.Ghosts R) (call : StoreCall) (old new 
   pub agrees : (runs : List Run) → r.stands old runs → r.sound new → Agrees runs call
   pub crash : (runs : List Run) (may : List (List Run)) → r.stands old runs → SurvivesCrash r.leaves call runs may old new
 
--- `Reads r old new`: `new` represents the runs that `old` represents. If `new` is sound, `old` was
--- sound. A crash leaves only the earlier outcomes.
+-- `Reads r old new`: a call that only reads leads a store with the specification `r` from `old` to
+-- `new`. `new` represents the runs that `old` represents. If `new` is sound, `old` was sound. A
+-- crash leaves only what it left before.
 pub record Reads {R : Type 0} (r : store.Ghosts R) (old new : R) : Type 0 where
   pub stands : (runs : List Run) → r.stands old runs → r.stands new runs
   pub earlier : (runs : List Run) → r.stands old runs → r.sound new → r.sound old
   pub crash : (runs : List Run) (may : List (List Run)) → r.stands old runs → r.leaves old may → r.leaves new may
 
--- `results g`: the specification of [`Results`] over a connection; the clauses of each call state
--- its result
+-- `results g`: the specification of the store `Results` over connections with the specification
+-- `g`; its relation `answers` is trivial, since other clauses state each result
 abbrev pub results : {S : Type 0} → Ghosts S → store.Ghosts (Held S)
 results g = record {
   answers = λ _ _ _. Unit {0};

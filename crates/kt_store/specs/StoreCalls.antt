@@ -2,8 +2,10 @@
 use Rattle.std.specs.Prelude.{ℕ, List, Option, Result, Ok, Err}
 use Rattle.kt_store.specs.Types.{CaseOutputs, Entry, RunHead, StoreFault, Variable}
 
--- a call with its result: begin a run, put an entry, finish a run, read the head of a run or of the
--- last run, read the outline of a run, or read the pairs or the outputs of its entry at a position
+-- A call of `ResultStore` with its result (`answer`); `number` is that of the run. `Began`, `Put`
+-- and `Finished` begin a run, put an entry and finish a run. `Head` reads the head of a run, or of
+-- the last run without a number. `Outline` reads the entries of a run without properties and
+-- outputs. `Pairs` and `Outputs` read the properties and the outputs of an entry.
 pub data StoreCall : Type 0 where
   Began : (total moment : ℕ) (answer : Result ℕ StoreFault) → StoreCall
   Put : (number : ℕ) (entry : Entry) (answer : Result (Unit {0}) StoreFault) → StoreCall
@@ -13,7 +15,7 @@ pub data StoreCall : Type 0 where
   Pairs : (number position : ℕ) (answer : Result (List Variable) StoreFault) → StoreCall
   Outputs : (number position : ℕ) (answer : Result CaseOutputs StoreFault) → StoreCall
 
--- `seen_as see result`: `result` with `see` applied to its value
+-- `seen_as see result`: `result` with `see` applied to its value if it is a success
 abbrev pub seen_as : {T U : Type 0} → (T → U) → Result T StoreFault → Result U StoreFault
 seen_as see (Ok x) = Ok (see x)
 seen_as see (Err fault) = Err fault

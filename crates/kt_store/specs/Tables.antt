@@ -21,60 +21,60 @@ use Rattle.sqlite_sql.specs.declared.ops.CompareOp.TheVariants.{Eq, Ge, Le}
 abbrev pub no_schema : Schema
 no_schema = record { tables = []; indexes = []; views = [] }
 
--- the statement that creates the table of the schema number
+-- the statement that creates the table `meta`, which has the schema number
 abbrev pub create_meta : List ℕ
 create_meta = codes "CREATE TABLE meta (name TEXT PRIMARY KEY, value INTEGER NOT NULL) STRICT"
 
--- the statement that creates the table of runs
+-- the statement that creates the table `runs`
 abbrev pub create_runs : List ℕ
 create_runs = codes "CREATE TABLE runs (id INTEGER PRIMARY KEY, started INTEGER NOT NULL, total INTEGER NOT NULL, finished INTEGER NOT NULL CHECK (finished IN (0, 1))) STRICT"
 
--- the statement that creates the table of entries
+-- the statement that creates the table `entries`
 abbrev pub create_entries : List ℕ
 create_entries = codes "CREATE TABLE entries (run INTEGER NOT NULL REFERENCES runs (id), position INTEGER NOT NULL, program TEXT NOT NULL, case_name TEXT NOT NULL, kind INTEGER NOT NULL CHECK (kind BETWEEN 0 AND 4), reason TEXT NOT NULL, started INTEGER NOT NULL, millis INTEGER NOT NULL, body_out BLOB NOT NULL, body_err BLOB NOT NULL, clean_out BLOB NOT NULL, clean_err BLOB NOT NULL, PRIMARY KEY (run, position)) STRICT"
 
--- `column name kind not_null`: a column with this name and kind, which rejects NULL if `not_null`
--- is `true`
+-- `column name kind not_null`: a column with `name` that accepts only values of `kind`, and NULL
+-- only if `not_null` is `false`
 abbrev pub column : List ℕ → Kind → Bool → Column
 column name kind not_null = record { name = name; kind = kind; is_strict = true; not_null = not_null; default = Null; collation = Binary }
 
--- no generated columns and no defaults
+-- the record of the columns whose default is the current time, for a table without such columns
 abbrev pub plain_columns : Stamps
 plain_columns = record { places = []; terms = []; formats = [] }
 
--- `bare_table name columns`: a table with these columns, without a key or a rule
+-- `bare_table name columns`: a table with `name` and `columns`, without a key, check or reference
 abbrev pub bare_table : List ℕ → List Column → Table
 bare_table name columns =
     record { name = name; tree = 0; columns = columns; key = None; primary = []; uniques = []; orders = []; checks = []; references = []; computed = []; stamps = plain_columns; is_counted = false }
 
--- the table of the schema number
+-- the table `meta`, which has the schema number, before it has a B-tree
 abbrev pub meta : Table
 meta = record (bare_table (codes "meta") (column (codes "name") Text true ∷ column (codes "value") Integer true ∷ [])) { primary = 1 ∷ []; uniques = (1 ∷ []) ∷ []; orders = plain ∷ [] }
 
--- the rule that the finished flag is 0 or 1
+-- the CHECK of the table `runs`: column `finished` is 0 or 1
 abbrev pub finished_check : Term
 finished_check = op2 Or (op2 (Compare Eq Binary) (col 1 4) (lit (Int (pos 0)))) (op2 (Compare Eq Binary) (col 1 4) (lit (Int (pos 1))))
 
--- the columns of runs
+-- the columns of the table `runs`
 abbrev pub runs_columns : List Column
 runs_columns = column (codes "id") Integer false ∷ column (codes "started") Integer true ∷ column (codes "total") Integer true ∷ column (codes "finished") Integer true ∷ []
 
--- the table of runs
+-- the table `runs`, before it has a B-tree
 abbrev pub runs : Table
 runs = record (bare_table (codes "runs") runs_columns) { key = Some 0; primary = 0 ∷ []; checks = finished_check ∷ [] }
 
--- the rule that a kind is 0 to 4
+-- the CHECK of the table `entries`: column `kind` is 0 to 4
 abbrev pub kind_check : Term
 kind_check = op2 And (op2 (Compare Ge Binary) (col 1 5) (lit (Int (pos 0)))) (op2 (Compare Le Binary) (col 1 5) (lit (Int (pos 4))))
 
--- the columns of entries
+-- the columns of the table `entries`
 abbrev pub entries_columns : List Column
 entries_columns =
     column (codes "run") Integer true ∷ column (codes "position") Integer true ∷ column (codes "program") Text true ∷ column (codes "case_name") Text true ∷ column (codes "kind") Integer true
     ∷ column (codes "reason") Text true ∷ column (codes "started") Integer true ∷ column (codes "millis") Integer true ∷ column (codes "body_out") Blob true ∷ column (codes "body_err") Blob true
     ∷ column (codes "clean_out") Blob true ∷ column (codes "clean_err") Blob true ∷ []
 
--- the table of entries
+-- the table `entries`, before it has a B-tree
 abbrev pub entries : Table
 entries = record (bare_table (codes "entries") entries_columns) {
   primary = 1 ∷ 2 ∷ [];
@@ -84,52 +84,53 @@ entries = record (bare_table (codes "entries") entries_columns) {
   references = record { columns = 1 ∷ []; parent = codes "runs"; parent_columns = codes "id" ∷ []; on_delete = NoAction; on_update = NoAction; is_deferred = false } ∷ [];
 }
 
--- the statement that creates the table of pairs
+-- the statement that creates the table `props`, which has the properties of entries
 abbrev pub create_props : List ℕ
 create_props = codes "CREATE TABLE props (run INTEGER NOT NULL, position INTEGER NOT NULL, place INTEGER NOT NULL, name TEXT NOT NULL, value TEXT NOT NULL, PRIMARY KEY (run, position, place)) STRICT"
 
--- the columns of pairs
+-- the columns of the table `props`
 abbrev pub props_columns : List Column
 props_columns = column (codes "run") Integer true ∷ column (codes "position") Integer true ∷ column (codes "place") Integer true ∷ column (codes "name") Text true ∷ column (codes "value") Text true ∷ []
 
--- the table of pairs
+-- the table `props`, which has the properties of entries, before it has a B-tree
 abbrev pub props : Table
 props = record (bare_table (codes "props") props_columns) { primary = 1 ∷ 2 ∷ 3 ∷ []; uniques = (1 ∷ 2 ∷ 3 ∷ []) ∷ []; orders = plain ∷ [] }
 
--- `index_of table tree`: the index of the key of `table`, in `tree`
+-- `index_of table tree`: the index of the primary key of `table`, stored in the B-tree with number
+-- `tree`
 abbrev pub index_of : Table → ℕ → Index
 index_of table tree = automatic table 0 (slice_index_or table.uniques 0 []) tree
 
--- the table of the schema number, with its root tree
+-- the table `meta`, stored in B-tree 0
 abbrev pub meta_1 : Table
 meta_1 = record meta { tree = 0 }
 
--- the table of runs, with its root tree
+-- the table `runs`, stored in B-tree 2
 abbrev pub runs_1 : Table
 runs_1 = record runs { tree = 2 }
 
--- the table of entries, with its root tree
+-- the table `entries`, stored in B-tree 3
 abbrev pub entries_table : Table
 entries_table = record entries { tree = 3 }
 
--- the table of pairs, with its root tree
+-- the table `props`, stored in B-tree 5
 abbrev pub props_1 : Table
 props_1 = record props { tree = 5 }
 
--- the three tables of schema 1
+-- the three tables of schema 1 and their indexes
 abbrev pub schema_1 : Schema
 schema_1 = record { tables = meta_1 ∷ runs_1 ∷ entries_table ∷ []; indexes = index_of meta_1 1 ∷ index_of entries_table 4 ∷ []; views = [] }
 
--- the four tables of schema 2
+-- the four tables of schema 2 and their indexes
 abbrev pub schema_2 : Schema
 schema_2 = record { tables = meta_1 ∷ runs_1 ∷ entries_table ∷ props_1 ∷ []; indexes = index_of meta_1 1 ∷ index_of entries_table 4 ∷ index_of props_1 6 ∷ []; views = [] }
 
--- `schema_with_meta others indexes views`: a schema with the table of the schema number first, then
--- `others`
+-- `schema_with_meta others indexes views`: a schema with the table `meta` first, then the tables
+-- `others`, and with `indexes` and `views`
 abbrev pub schema_with_meta : List Table → List Index → List View → Schema
 schema_with_meta others indexes views = record { tables = meta_1 ∷ others; indexes = indexes; views = views }
 
--- the statement that inserts a run
+-- the statement that inserts an unfinished run
 abbrev pub begin_text : List ℕ
 begin_text = codes "INSERT INTO runs (started, total, finished) VALUES (?1, ?2, 0)"
 
@@ -145,7 +146,7 @@ finish_text = codes "UPDATE runs SET finished = 1 WHERE id = ?1"
 abbrev pub runs_text : List ℕ
 runs_text = codes "SELECT id, started, total, finished FROM runs ORDER BY id"
 
--- the query for the entry of a run at a position
+-- the query for the position of the entry of a run at a position: one row if there is such an entry
 abbrev pub entry_query : List ℕ
 entry_query = codes "SELECT position FROM entries WHERE run = ?1 AND position = ?2 ORDER BY position"
 
@@ -157,7 +158,7 @@ put_text = codes "INSERT INTO entries (run, position, program, case_name, kind, 
 abbrev pub entries_text : List ℕ
 entries_text = codes "SELECT position, program, case_name, kind, reason, started, millis, body_out, body_err, clean_out, clean_err FROM entries WHERE run = ?1 ORDER BY position"
 
--- the query for the pairs of the entry of a run at a position, in their order
+-- the query for the properties of the entry of a run at a position, in their order
 abbrev pub pairs_text : List ℕ
 pairs_text = codes "SELECT name, value FROM props WHERE run = ?1 AND position = ?2 ORDER BY place"
 

@@ -1,4 +1,4 @@
--- The assumption on files that list the tables of results.
+-- The assumption on files whose schema list is that of schema 2.
 use Rattle.std.specs.Prelude.{◌≡◌, ℕ, pos, List, [], ◌∷◌, map, codes}
 use Rattle.sqlite_pool.specs.File.{in_use}
 use Rattle.sqlite_store.specs.Db.{rows_at}
@@ -8,32 +8,35 @@ use Rattle.kt_store.specs.Runs.{Keeps}
 use Rattle.kt_store.specs.Tables.{create_meta, create_runs, create_entries, create_props}
 use Rattle.kt_store.specs.Types.{HoldsDatabase, Image, Int, Null, PageMap, Recovers, Row, Run, Text, Trees}
 
--- `table_object id name sql`: a table in the schema list, without its root page: rowid, type, name,
--- table and text
+-- `table_object id name sql`: the row of table `name` in SQLite's schema list, without the root
+-- page: rowid `id`, type, name, table name and the text `sql`
 abbrev pub table_object : ℕ → List ℕ → List ℕ → Row
 table_object id name sql = Int (pos id) ∷ Text (codes "table") ∷ Text name ∷ Text name ∷ Text sql ∷ []
 
--- `key_object id name table`: the index of the key of `table` in the schema list, which has no text
+-- `key_object id name table`: the row of index `name`, of the primary key of `table`, in SQLite's
+-- schema list, without the root page; its text is NULL
 abbrev pub key_object : ℕ → List ℕ → List ℕ → Row
 key_object id name table = Int (pos id) ∷ Text (codes "index") ∷ Text name ∷ Text table ∷ Null ∷ []
 
--- the schema list of schema 2, without root pages
+-- the rows of SQLite's schema list for schema 2, without root pages
 abbrev pub objects_2 : List Row
 objects_2 =
     table_object 1 (codes "meta") create_meta ∷ key_object 2 (codes "sqlite_autoindex_meta_1") (codes "meta") ∷ table_object 3 (codes "runs") create_runs
     ∷ table_object 4 (codes "entries") create_entries ∷ key_object 5 (codes "sqlite_autoindex_entries_1") (codes "entries") ∷ table_object 6 (codes "props") create_props
     ∷ key_object 7 (codes "sqlite_autoindex_props_1") (codes "props") ∷ []
 
--- `ListsObjects size pages`: the schema list in `pages` is that of schema 2
+-- `ListsObjects size pages`: in the database with the page size `size` in bytes and the pages
+-- `pages`, SQLite's schema list is that of schema 2
 abbrev pub ListsObjects : ℕ → PageMap → Type 0
 ListsObjects size pages = map unrooted (rows_at size (in_use size pages) Table 1) ≡ objects_2
 
--- `ListsTables image`: the files recover to pages that list the tables of schema 2
+-- `ListsTables image`: the results file and its log, with the content `image`, recover to pages
+-- whose schema list is that of schema 2
 abbrev pub ListsTables : Image → Type 0
 ListsTables image = (size : ℕ) × (pages : PageMap) × Recovers size image pages × ListsObjects size pages
 
--- `IsOfRuns image`: if the files list the tables of schema 2, they hold a database with runs;
--- nothing is assumed of other files
+-- `IsOfRuns image`: if the results file and its log, with the content `image`, list the tables of
+-- schema 2, they contain a database with some runs. Other files always meet `IsOfRuns`.
 abbrev pub IsOfRuns : Image → Type 0
 IsOfRuns image = (size : ℕ) (pages : PageMap) → Recovers size image pages → ListsObjects size pages
     → (runs : List Run) × (db : Trees) × HoldsDatabase image db × Keeps runs db

@@ -1,15 +1,16 @@
-/// A purpose of opening a results file.
+/// A kind of access to a results file: to add a run, or only to read runs.
 #[derive(Clone, Copy)]
 pub enum Access {
-    /// To add a run. The file is created if it doesn't exist.
+    /// Access to add a run. The file is created if it doesn't exist.
     Record,
-    /// To show runs. Nothing is added.
+    /// Access to read runs. Nothing is added.
     Read,
 }
 
 impl Access {
-    /// Returns the number of pages of the file that are cached in memory. 1,100 pages hold an
-    /// output of 1 MiB. A reader needs few, since most pages are read once.
+    /// Returns the maximum number of pages of the results file that are cached in memory. 1,100
+    /// pages of 1,024 bytes hold an output of 1 MiB. A reader needs fewer, since most pages are
+    /// read once.
     pub fn pages(self) -> usize {
         match self {
             Access::Record => 1_100,

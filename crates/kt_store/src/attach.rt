@@ -9,19 +9,23 @@ use sqlite::{Alter, Connection};
 
 // The statements that create the tables (docs/formats/store.md).
 
+/// The statement that creates the table `meta`, which stores the schema number.
 pub const CREATE_META: &str =
     "CREATE TABLE meta (name TEXT PRIMARY KEY, value INTEGER NOT NULL) STRICT";
 
+/// The statement that creates the table `runs`, with a row for each run.
 pub const CREATE_RUNS: &str =
     "CREATE TABLE runs (id INTEGER PRIMARY KEY, started INTEGER NOT NULL, total INTEGER NOT NULL, finished INTEGER NOT NULL CHECK (finished IN (0, 1))) STRICT";
 
+/// The statement that creates the table `entries`, with a row for each recorded test case.
 pub const CREATE_ENTRIES: &str =
     "CREATE TABLE entries (run INTEGER NOT NULL REFERENCES runs (id), position INTEGER NOT NULL, program TEXT NOT NULL, case_name TEXT NOT NULL, kind INTEGER NOT NULL CHECK (kind BETWEEN 0 AND 4), reason TEXT NOT NULL, started INTEGER NOT NULL, millis INTEGER NOT NULL, body_out BLOB NOT NULL, body_err BLOB NOT NULL, clean_out BLOB NOT NULL, clean_err BLOB NOT NULL, PRIMARY KEY (run, position)) STRICT";
 
+/// The statement that creates the table `props`, with a row for each property of an entry.
 pub const CREATE_PROPS: &str =
     "CREATE TABLE props (run INTEGER NOT NULL, position INTEGER NOT NULL, place INTEGER NOT NULL, name TEXT NOT NULL, value TEXT NOT NULL, PRIMARY KEY (run, position, place)) STRICT";
 
-/// Theorem: an open connection shows a database.
+/// Theorem: the visible and the committed content of an open connection are valid databases.
 // No effect: the call states the fact for the prover.
 pub fn lives<S: Alter>(conn: &Connection<S>)
     ensures { IsLive (state S.Store conn.now) }
@@ -29,7 +33,7 @@ pub fn lives<S: Alter>(conn: &Connection<S>)
     let _ = conn.schema();
 }
 
-/// Creates the tables in a database without tables, in one commit.
+/// Creates the tables of schema 2 in a database without tables, in one commit.
 pub(crate) fn create<S: Alter>(conn: &mut Connection<S>) -> Result<(), StoreFault>
     ensures taken { IsOf Blank (state S.Store conn.old)
         → OnOk result (AttachSucceeds Blank (state S.Store conn.old) (state S.Store conn.new)) }
@@ -56,7 +60,8 @@ pub(crate) fn is_blank<S: Alter>(conn: &Connection<S>) -> bool
     conn.schema().tables.len() == 0
 }
 
-/// Reads the schema number from the table `meta`. Fails with `UnknownSchema` if there is none.
+/// Reads the schema number from the table `meta`. Fails with `UnknownSchema` if the table has no
+/// schema number.
 pub(crate) fn schema_number<S: Alter>(conn: &mut Connection<S>) -> Result<i64, StoreFault>
     ensures asks { AsksNumber S.Store conn.old conn.new }
     ensures same { OnOk result (LeavesSchema S.Store conn.old conn.new) }
@@ -78,7 +83,7 @@ pub(crate) fn schema_number<S: Alter>(conn: &mut Connection<S>) -> Result<i64, S
 }
 
 /// Checks that SQLite can prepare the queries of a store: for runs, for entries and, if `old` is
-/// `false`, for pairs. Schema 1 has no table of pairs.
+/// `false`, for properties. Schema 1 has no table of properties.
 pub(crate) fn find_tables<S: Alter>(conn: &mut Connection<S>, old: bool) -> Result<(), StoreFailure>
     ensures same { HasCleanDisk (state S.Store conn.new)
         → OnOk result (IsUnchanged (state S.Store conn.old) (state S.Store conn.new)) }
@@ -108,8 +113,9 @@ pub(crate) fn find_tables<S: Alter>(conn: &mut Connection<S>, old: bool) -> Resu
     Ok(())
 }
 
-/// Returns `true` if the tables have schema 1. Fails if the schema number is neither 1 nor 2, or if
-/// the tables can't be queried.
+/// Returns `true` if the tables have schema 1, and `false` if they have schema 2. Fails with
+/// `UnknownSchema` if the schema number is missing or neither 1 nor 2. Also fails if the tables
+/// can't be queried.
 pub(crate) fn is_old<S: Alter>(conn: &mut Connection<S>) -> Result<bool, StoreFault>
     ensures asks { AsksNumber S.Store conn.old conn.new }
     ensures same { OnOk result (LeavesSchema S.Store conn.old conn.new) }
@@ -147,7 +153,8 @@ pub(crate) fn migrate<S: Alter>(conn: &mut Connection<S>) -> Result<(), StoreFau
     Ok(commit(conn, &Texts { texts: &raises })?)
 }
 
-/// Checks the tables of a database that has tables, and migrates schema 1 to schema 2.
+/// Checks the tables of a database of schema 1 or 2, and migrates schema 1 to schema 2. Fails with
+/// `UnknownSchema` if the schema number is missing or neither 1 nor 2.
 pub(crate) fn take<S: Alter>(conn: &mut Connection<S>) -> Result<(), StoreFault>
     ensures taken { (was : _) → HasNumber was → IsOf was (state S.Store conn.old)
         → OnOk result (AttachSucceeds was (state S.Store conn.old) (state S.Store conn.new)) }
@@ -163,8 +170,8 @@ pub(crate) fn take<S: Alter>(conn: &mut Connection<S>) -> Result<(), StoreFault>
     Ok(())
 }
 
-/// Creates the tables in a database without tables. In any other, checks and migrates the present
-/// tables.
+/// Creates the tables of schema 2 in a database without tables. If the database has tables, checks
+/// them and migrates schema 1 to schema 2.
 pub(crate) fn create_or_adopt_tables<S: Alter>(conn: &mut Connection<S>) -> Result<(), StoreFault>
     ensures taken { (was : _) → IsOf was (state S.Store conn.old)
         → OnOk result (AttachSucceeds was (state S.Store conn.old) (state S.Store conn.new)) }

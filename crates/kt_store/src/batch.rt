@@ -5,7 +5,7 @@ use crate::statements::step;
 use crate::store_fault::{OTHER_FAILURE, StoreFailure};
 use sqlite::{Alter, Connection, Transaction};
 
-/// An interface to statements that are run in turn and committed together.
+/// An interface to statements that are executed in order and committed together.
 pub(crate) trait Batch {
     ghost use Rattle.std.specs.Prelude.{List, ◌≡◌, OnOk};
     ghost use Rattle.kt_store.specs.Common.{Statement, CommitsNothingYet, ExecutesAll};
@@ -13,10 +13,11 @@ pub(crate) trait Batch {
     /// The statements with their parameters.
     ghost statements: { Self → List Statement };
 
-    /// The condition under which SQL accepts their parameters.
+    /// The condition for a call of `fill`: the statements are those of the store, and the fields of
+    /// the batch agree and are in range.
     ghost is_ready: { Self → Type 0 };
 
-    /// Executes the statements inside a transaction, without committing.
+    /// Executes the statements in order inside a transaction, without committing.
     fn fill<S: Alter>(&self, tx: &mut Transaction<'_, S>) -> Result<(), StoreFailure>
         requires { is_ready self.now }
         ensures same_reference { tx.new.conn.ghost_name ≡ tx.old.conn.ghost_name }
@@ -28,6 +29,7 @@ pub(crate) trait Batch {
 /// A batch of SQL texts without parameters.
 #[derive(Clone, Copy)]
 pub(crate) struct Texts<'a> {
+    /// The SQL texts, in the order of their execution.
     pub(crate) texts: &'a [&'a str],
 }
 
@@ -47,7 +49,8 @@ impl Batch for Texts<'_> {
     }
 }
 
-/// Executes a batch in a new transaction and commits it. Fails if a transaction is open.
+/// Executes a batch in a new transaction, and commits the transaction. Fails if a transaction is
+/// open already. If a statement or the commit fails, the batch is rolled back.
 pub(crate) fn commit<S: Alter, B: Batch>(
     conn: &mut Connection<S>,
     batch: &B,

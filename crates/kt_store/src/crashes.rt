@@ -3,9 +3,9 @@ ghost use Rattle.kt_store.specs.Common.{Run, Held, state, Survives, Keeps, IsSch
 
 use sqlite::Alter;
 
-/// Theorem: the crash clauses of a store's calls compose. After a successful call, a crash leaves
-/// that call's runs. A later call that writes adds its own result to the possible outcomes. A query
-/// adds nothing.
+/// Theorem: the runs that a crash may leave can be listed call by call. After a committed call, the
+/// list has only that call's runs. A later call that writes adds its runs to the list. A query adds
+/// nothing.
 pub fn theorem_of_crashes<S: Alter>()
     ensures done { (s : Held S) (runs : List Run) → Leaves (state S.Store s) (Keeps runs)
         → Leaves (state S.Store s) (IsSchema2OfOne (runs ∷ [])) }

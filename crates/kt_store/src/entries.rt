@@ -12,7 +12,7 @@ use kt_base::Entry;
 use sqlite::{Alter, Connection, Row};
 use std::alloc::Global;
 
-/// Reads the rows of a run's entries, ordered by position.
+/// Reads the rows of a run's entries, ordered by position. Returns no rows if there is no such run.
 pub(crate) fn entry_rows<S: Alter>(
     conn: &mut Connection<S>,
     run: u32,
@@ -32,7 +32,7 @@ pub(crate) fn entry_rows<S: Alter>(
     )
 }
 
-/// Reads the rows of the pairs of one entry, in their stored order.
+/// Reads the rows of the properties of the entry at `position`, in their recorded order.
 fn pair_rows<S: Alter>(
     conn: &mut Connection<S>,
     run: u32,
@@ -52,7 +52,7 @@ fn pair_rows<S: Alter>(
     )
 }
 
-/// Reads an entry from its row, and its pairs from the table of pairs.
+/// Reads an entry from its row, and its properties from the table `props`.
 fn entry_of<S: Alter>(
     conn: &mut Connection<S>,
     alloc: Global,
@@ -71,7 +71,7 @@ fn entry_of<S: Alter>(
     entry_in(alloc, row, meta)
 }
 
-/// Reads entries from their rows, and their pairs from the table of pairs.
+/// Reads entries from their rows, and their properties from the table `props`.
 fn entries_in<S: Alter>(
     conn: &mut Connection<S>,
     alloc: Global,
@@ -92,8 +92,8 @@ fn entries_in<S: Alter>(
     Ok(entries)
 }
 
-/// Reads the entries of a run with their pairs and outputs, ordered by position. Fails with `NoRun`
-/// if no run has the number.
+/// Reads the entries of a run with their properties and outputs, ordered by position. Fails with
+/// `NoRun` if no run has the number.
 pub(crate) fn all_entries<S: Alter>(
     conn: &mut Connection<S>,
     alloc: Global,

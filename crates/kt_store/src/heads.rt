@@ -23,7 +23,7 @@ pub fn add<T: Drop>(items: &mut Vec<T>, item: T) -> Result<(), NoMemory>
     Ok(())
 }
 
-/// Reads the head of a run from its row.
+/// Reads the head of a run from its row of the table `runs`. A head is a run without its entries.
 ///
 /// # Errors
 ///
@@ -45,7 +45,7 @@ pub fn head_in(row: &Row) -> Result<RunHead, StoreFailure>
     })
 }
 
-/// Reads the heads of runs from their rows.
+/// Reads the heads of runs from their rows of the table `runs`, in the same order.
 ///
 /// # Errors
 ///
@@ -85,7 +85,7 @@ pub(crate) fn all_heads<S: Alter>(
     heads_in(alloc, &rows)
 }
 
-/// Returns the first head with this number.
+/// Returns the first head with `number`, or `None` if there is no such head.
 fn head_numbered(heads: &[RunHead], number: u64) -> Option<&RunHead>
     ensures found { option_copied result ≡ find (λ (head : Head). head.number == number)
         heads.now }
@@ -94,7 +94,8 @@ fn head_numbered(heads: &[RunHead], number: u64) -> Option<&RunHead>
     heads.iter().find(|head| head.number == number)
 }
 
-/// Returns the first head with this number, or of the last run if `number` is `None`.
+/// Returns the first head with `number`. `None` requests the number of heads, which is the last
+/// run's number.
 pub(crate) fn head_among(heads: &[RunHead], number: Option<u64>) -> Option<RunHead>
     ensures found { result ≡ find (λ (head : Head). head.number == unwrap_or number
         (length heads.now)) heads.now }

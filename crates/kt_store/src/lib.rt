@@ -1,4 +1,4 @@
-//! The results store: runs in the tables of a database.
+//! The results store: test runs in the tables of an SQLite database.
 #![tactic(auto)]
 
 mod access;

@@ -10,7 +10,8 @@ use sqlite::{Alter, Connection};
 /// The maximum number of runs in a store (this profile).
 pub const MOST_RUNS: u32 = 1_000_000;
 
-/// Reads the total of a run and its finished flag, which is 1 for a finished run.
+/// Reads the total and the finished flag of a run, or returns `None` if there is no such run. The
+/// flag is 1 for a finished run, else 0.
 pub(crate) fn find<S: Alter>(
     conn: &mut Connection<S>,
     run: u32,
@@ -35,8 +36,8 @@ pub(crate) fn find<S: Alter>(
     Ok(Some((total, finished)))
 }
 
-/// Returns the key of a run in the tables. The key of a number above 1,000,000 is 0, which no run
-/// has.
+/// Returns the key of the run with number `run` in the tables. The key is the number, or 0 for a
+/// number above 1,000,000. No run has the key 0.
 pub fn key(run: u64) -> u32
     ensures low { result ≤ last_run }
     ensures same { run ≤ last_run → result ≡ run }
@@ -49,8 +50,8 @@ pub fn key(run: u64) -> u32
     }
 }
 
-/// Returns the total of a run, and `true` if it is finished. Fails with `NoRun` if no run has the
-/// number.
+/// Returns the total of a run, and `true` if the run is finished. Fails with `NoRun` if no run has
+/// the number.
 pub(crate) fn look<S: Alter>(conn: &mut Connection<S>, run: u64) -> Result<(u64, bool), StoreFault>
     ensures small { OnOk result (run ≤ last_run) }
     ensures looked { OnlyReadsRuns S.Store conn.old conn.new }
@@ -70,7 +71,7 @@ pub(crate) fn look<S: Alter>(conn: &mut Connection<S>, run: u64) -> Result<(u64,
     Ok((total, finished > 0))
 }
 
-/// Returns `true` if the run has an entry with this position.
+/// Returns `true` if the run has an entry at `position`.
 pub(crate) fn there<S: Alter>(
     conn: &mut Connection<S>,
     run: u32,

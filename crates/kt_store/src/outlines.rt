@@ -14,7 +14,7 @@ use kt_base::{Bytes, Entry, Output, Text, Variable, Variables, Verdict};
 use sqlite::Row;
 use std::alloc::Global;
 
-/// Reads a text from a column of a row.
+/// Reads a text from column `at` of a row.
 fn text_in(row: &Row, at: usize) -> Result<Text, StoreFailure>
     requires { at < length row.now }
     ensures text { (t : List ℕ) → IsText t → column row.now at ≡ Words (utf8 t)
@@ -24,7 +24,7 @@ fn text_in(row: &Row, at: usize) -> Result<Text, StoreFailure>
     Ok(Text::from_string(string))
 }
 
-/// Reads a pair from its row.
+/// Reads a property from its row: the name, then the value.
 fn property_from_row(row: &Row) -> Result<Variable, StoreFailure>
     requires { 2 ≤ length row.now }
     ensures { (v : StoredPair) → IsPair v → row.now ≡ pair_columns v → IfOk result (λ x. x ≡ v) }
@@ -34,7 +34,7 @@ fn property_from_row(row: &Row) -> Result<Variable, StoreFailure>
     Ok(Variable { name, value })
 }
 
-/// Reads pairs from their rows.
+/// Reads the properties of an entry from their rows, in the same order.
 ///
 /// # Errors
 ///
@@ -52,7 +52,7 @@ pub fn pairs_in(alloc: Global, rows: &[Row]) -> Result<Variables, StoreFailure>
     Ok(pairs)
 }
 
-/// Returns an output with two empty streams. Allocates nothing.
+/// Returns an output whose standard output and standard error are empty. Allocates nothing.
 pub fn no_output(alloc: Global) -> Output
     ensures { result ≡ no_output }
 {
@@ -62,7 +62,7 @@ pub fn no_output(alloc: Global) -> Output
     }
 }
 
-/// Reads bytes from a column of a row.
+/// Reads bytes from column `at` of a row.
 fn bytes_in(row: &Row, at: usize) -> Result<Bytes, StoreFailure>
     requires { at < length row.now }
     ensures bytes { IfOk result (λ b. column row.now at ≡ Blob b) }
@@ -71,7 +71,8 @@ fn bytes_in(row: &Row, at: usize) -> Result<Bytes, StoreFailure>
     Ok(Bytes::from_vec(items))
 }
 
-/// Reads an output from the columns `out` and `err` of a row.
+/// Reads an output from a row. `out` and `err` are the columns of standard output and standard
+/// error.
 fn output_in(row: &Row, out: usize, err: usize) -> Result<Output, StoreFailure>
     requires { (out < length row.now) × (err < length row.now) }
     ensures output { (o : Pair) → column row.now out ≡ Blob o.out → column row.now err ≡ Blob o.err
@@ -82,7 +83,7 @@ fn output_in(row: &Row, out: usize, err: usize) -> Result<Output, StoreFailure>
     Ok(Output { out, err })
 }
 
-/// Reads an entry without its pairs and outputs from its row.
+/// Reads an entry without its properties and outputs from its row.
 fn outline_from_row(alloc: Global, row: &Row) -> Result<Entry, StoreFailure>
     requires { 7 ≤ length row.now }
     ensures { (e : Stored) (more : Values) → IsEntry e → row.now ≡ entry_columns e ++ more
@@ -109,7 +110,7 @@ fn outline_from_row(alloc: Global, row: &Row) -> Result<Entry, StoreFailure>
     })
 }
 
-/// Reads entries without their pairs and outputs from their rows.
+/// Reads entries without their properties and outputs from their rows, in the same order.
 ///
 /// # Errors
 ///
@@ -128,7 +129,7 @@ pub fn outline_in(alloc: Global, rows: &[Row]) -> Result<Vec<Entry>, StoreFailur
     Ok(entries)
 }
 
-/// Reads an entry with its outputs from its row, and sets its pairs to `meta`.
+/// Reads an entry with its outputs from its row, and sets its properties to `meta`.
 pub(crate) fn entry_in(alloc: Global, row: &Row, meta: Variables) -> Result<Entry, StoreFailure>
     requires { 11 ≤ length row.now }
     ensures { (e : Stored) → IsEntry e → row.now ≡ whole_columns e → meta ≡ e.meta

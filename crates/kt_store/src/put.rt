@@ -11,7 +11,7 @@ use kt_base::{Entry, NoMemory, Text, Variable};
 use sqlite::{Alter, Connection, Transaction};
 use std::alloc::Global;
 
-/// Returns the reason of an entry as a text.
+/// Returns the reason of an entry's verdict as a text. The reason of a passed case is empty.
 ///
 /// # Errors
 ///
@@ -25,8 +25,8 @@ pub fn reason_of(alloc: Global, entry: &Entry) -> Result<Text, NoMemory>
     Ok(reason)
 }
 
-/// Inserts one pair of an entry, inside a transaction. `place` is its index among the entry's
-/// pairs.
+/// Inserts one property of an entry into the table `props`, inside a transaction. `place` is the
+/// index of the property among those of the entry.
 fn add_pair<S: Alter>(
     tx: &mut Transaction<'_, S>,
     run: u32,
@@ -53,7 +53,7 @@ fn add_pair<S: Alter>(
     )
 }
 
-/// Inserts the pairs of an entry, inside a transaction.
+/// Inserts the properties of an entry into the table `props`, inside a transaction.
 fn add_pairs<S: Alter>(
     tx: &mut Transaction<'_, S>,
     run: u32,
@@ -73,7 +73,8 @@ fn add_pairs<S: Alter>(
     Ok(())
 }
 
-/// Inserts an entry and its pairs, inside a transaction.
+/// Inserts an entry and its properties into a run, inside a transaction. `reason` is the text of
+/// the verdict's reason.
 pub(crate) fn fill<S: Alter>(
     tx: &mut Transaction<'_, S>,
     run: u32,
@@ -108,7 +109,7 @@ pub(crate) fn fill<S: Alter>(
     add_pairs(tx, run, entry.position, entry.meta.as_slice())
 }
 
-/// A batch that inserts an entry and its pairs into a run.
+/// A batch that inserts an entry and its properties into a run.
 #[derive(Clone, Copy)]
 pub(crate) struct NewEntry<'a> {
     run: u32,
@@ -129,8 +130,8 @@ impl Batch for NewEntry<'_> {
     }
 }
 
-/// Inserts an entry and its pairs into a run, in one commit. The caller has checked that the run
-/// accepts the entry.
+/// Inserts an entry and its properties into a run, in one commit. The caller has checked that the
+/// run accepts the entry.
 pub(crate) fn add_entry<S: Alter>(
     conn: &mut Connection<S>,
     run: u32,

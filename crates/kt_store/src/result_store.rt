@@ -8,16 +8,18 @@ pub struct RunHead {
     pub number: u64,
     /// The start of the run, in milliseconds since 1970-01-01 UTC.
     pub started: u64,
-    /// The number of selected cases.
+    /// The number of the run's selected cases, called its total.
     pub total: u32,
-    /// `true` if all of them are recorded and the run is closed.
+    /// `true` if the run is finished: each selected case has an entry, and none can be added.
     pub finished: bool,
 }
 
 /// The outputs of a test case's body and cleanup.
 #[derive(Drop)]
 pub struct CaseOutputs {
+    /// The output of the test case's body.
     pub body: Output,
+    /// The output of the test case's cleanup, empty if no cleanup was started.
     pub cleanup: Output,
 }
 
@@ -28,30 +30,32 @@ pub trait StoreSpec {
     ghost use Rattle.kt_store.specs.Runs.{AreNumbered, AreOrdered};
     ghost use Rattle.kt_store.specs.StoreCalls.{StoreCall};
 
-    /// A call with its result may lead from the first state to the second, even if the store
-    /// returns wrong data later.
+    /// `answers old call new`: `call` with its result may change the store from `old` to `new`. The
+    /// relation also holds for a store that returns wrong data.
     ghost answers: { Self → StoreCall → Self → Type 0 };
 
-    /// The store represents these runs.
+    /// `stands store runs`: `store` represents `runs`.
     ghost stands: { Self → List Run → Type 0 };
 
-    /// The store has returned exactly the data that was written, so far.
+    /// `sound store`: so far, `store` has returned exactly the data that was written.
     ghost sound: { Self → Type 0 };
 
-    /// A crash now leaves one of these lists of runs.
+    /// `leaves store lists`: after a crash now, the results file has the runs of one of `lists`.
     ghost leaves: { Self → List (List Run) → Type 0 };
 
-    /// A run's number is its index plus 1.
+    /// The runs of a store are numbered from 1, in their order.
     ghost numbered: { (s : Self) (runs : List Run) → Self.stands s runs → AreNumbered 1 runs };
 
-    /// While the store is sound, the entries of a run ascend by position without a repetition.
+    /// If the store is sound, the entries of each run ascend by position without a repetition.
     ghost ordered: { (s : Self) (runs : List Run) → Self.stands s runs → Self.sound s
         → AreOrdered runs };
 }
 
-/// An interface to recorded runs. A call that fails changes nothing. Besides the listed errors,
-/// each call can fail with `NoMemory` (memory ran out) and `Store` (the database failed). While the
-/// store is sound, the returned data is correct.
+/// An interface to a store of recorded runs.
+///
+/// A failed call changes nothing, but after a crash its change may be present. If the store is
+/// sound, each call returns the data of the represented runs. A store is sound while it returns
+/// exactly the data that was written.
 pub trait ResultStore: StoreSpec {
     ghost use Rattle.std.specs.Prelude.{IfErr, IfOk, IfSome};
     ghost use Rattle.kt_store.specs.Common.{IsMoment, IsNumbered, IsStorable, IsStoreFault, Serves, Began, Put, Finished, Head, Outline, Pairs, Outputs, seen_as};
@@ -62,39 +66,46 @@ pub trait ResultStore: StoreSpec {
     /// # Errors
     ///
     /// - `StoreFull`: there are 1,000,000 runs.
+    /// - `NoMemory`: memory ran out.
+    /// - `Store`: the database failed.
     fn begin(&mut self, total: u32, moment: u64) -> Result<u64, StoreFault>
         requires { IsMoment moment }
         ensures { Serves Self.StoreSpec (Began total moment result) self.old self.new };
 
-    /// Adds an entry and its pairs to a run. Timestamps and durations are in milliseconds, up to
-    /// the end of the year 9999.
+    /// Adds an entry and its properties to a run. The entry's start is in milliseconds since
+    /// 1970-01-01 UTC, up to the end of the year 9999. Its duration is in milliseconds, with the
+    /// same maximum.
     ///
     /// # Errors
     ///
-    /// In this order:
+    /// The first of these that applies:
     ///
     /// - `NoRun`: no run has the number.
     /// - `RunClosed`: the run is finished.
-    /// - `BadPosition`: the position is not below the total.
+    /// - `BadPosition`: the position is not below the run's total.
     /// - `RepeatedPosition`: the run has an entry at the position.
+    ///
+    /// `NoMemory` (memory ran out) or `Store` (the database failed) may be returned instead.
     fn put(&mut self, run: u64, entry: &Entry) -> Result<(), StoreFault>
         requires { IsStorable entry.now }
         ensures { Serves Self.StoreSpec (Put run entry.now result) self.old self.new };
 
-    /// Finishes a run.
+    /// Marks a run as finished. Entries can't be added to a finished run.
     ///
     /// # Errors
     ///
-    /// In this order:
+    /// The first of these that applies:
     ///
     /// - `NoRun`: no run has the number.
-    /// - `RunClosed`: the run is finished.
+    /// - `RunClosed`: the run is finished already.
     /// - `Incomplete`: the run has fewer entries than its total.
+    ///
+    /// `NoMemory` (memory ran out) or `Store` (the database failed) may be returned instead.
     fn finish(&mut self, run: u64) -> Result<(), StoreFault>
         ensures { Serves Self.StoreSpec (Finished run result) self.old self.new };
 
-    /// Returns the head of a run, or of the last run if `number` is `None`. Returns `None` if there
-    /// is no such run.
+    /// Returns the head of run `number`, or of the last run if `number` is `None`. A head is a run
+    /// without its entries. Returns `None` if there is no such run.
     ///
     /// # Errors
     ///
@@ -106,17 +117,19 @@ pub trait ResultStore: StoreSpec {
         ensures numbered { IfOk result (λ found. IfSome found (IsNumbered number)) }
         ensures failed { IfErr result IsStoreFault };
 
-    /// Returns the entries of a run without their pairs and outputs, ordered by position.
+    /// Returns the entries of a run without their properties and outputs, ordered by position.
     ///
     /// # Errors
     ///
     /// - `NoRun`: no run has the number.
+    /// - `NoMemory`: memory ran out.
+    /// - `Store`: the database failed.
     fn outline(&mut self, run: u64) -> Result<Vec<Entry>, StoreFault>
         ensures { Serves Self.StoreSpec (Outline run (seen_as (λ found. found.items) result))
             self.old self.new };
 
-    /// Returns the pairs of the entry of a run at a position, in their order. Returns no pairs if
-    /// the run has no such entry.
+    /// Returns the properties of the entry at `position` of a run, in their recorded order. Returns
+    /// no properties if there is no such run or entry.
     ///
     /// # Errors
     ///
@@ -125,11 +138,13 @@ pub trait ResultStore: StoreSpec {
     fn pairs(&mut self, run: u64, position: u32) -> Result<Variables, StoreFault>
         ensures { Serves Self.StoreSpec (Pairs run position result) self.old self.new };
 
-    /// Returns the outputs of the entry of a run at a position.
+    /// Returns the outputs of the entry at `position` of a run.
     ///
     /// # Errors
     ///
     /// - `NoRun`: no run has the number, or the run has no entry at the position.
+    /// - `NoMemory`: memory ran out.
+    /// - `Store`: the database failed.
     fn outputs(&mut self, run: u64, position: u32) -> Result<CaseOutputs, StoreFault>
         ensures { Serves Self.StoreSpec (Outputs run position result) self.old self.new };
 }

@@ -10,12 +10,12 @@ use sqlite::{Alter, Connection};
 use std::alloc::Global;
 use std::marker::Model;
 
-/// The runs in the tables of a database (docs/formats/store.md).
+/// A store of runs in the tables of a database (docs/formats/store.md).
 ///
-/// The program attaches a file whose tables don't have schema 2: a new file or one of schema 1. It
-/// then reads and writes the file as a `RunsFile` (kt_dbfile). Contracts see the connection. The
-/// clauses hold while the disk returns the data that was written, no other process writes the
-/// database, and the connection is open.
+/// The program attaches a file whose tables don't have schema 2: a new file or one of schema 1. The
+/// program then reads and writes the file as a `RunsFile` (kt_dbfile). In contracts, the value of a
+/// `Results` is its connection. The clauses about runs hold while the disk returns the data that
+/// was written, no other process writes the database, and the connection is open.
 #[derive(Drop)]
 pub struct Results<S: Alter> {
     conn: Connection<S>,
@@ -36,17 +36,17 @@ impl<S: Alter> Results<S> {
     ghost use Rattle.std.specs.Prelude.{◌≡◌, ◌⊎◌, Some, None, IfOk, IfErr, IfSome, map};
     ghost use Rattle.kt_store.specs.Common.{HoldsForRuns, state, CountFrom, IsMoment, IsNumbered, IsStorable, IsStoreFault, IsOf, AttachSucceeds, AttachFails, Reads, Serves, Began, Put, Finished, Head, head_of, results, run_at};
 
-    /// Creates the tables in a database without tables, or migrates schema 1 to schema 2, each in
-    /// one commit.
+    /// Creates the tables of schema 2 in a database without tables, or migrates schema 1 to schema
+    /// 2, in one commit. A database of schema 2 is only checked.
     ///
     /// # Errors
     ///
-    /// The error is returned with the connection. The clauses don't cover a database with other
-    /// tables.
+    /// The connection is returned with the error. For a database with other tables, the contract
+    /// states only which errors are possible.
     ///
     /// - `UnknownSchema`: the schema number is missing or neither 1 nor 2.
-    /// - `Store`: a statement failed, or the tables must be created or migrated inside a
-    ///   transaction.
+    /// - `Store`: a statement failed, or the tables must be created or migrated while a transaction
+    ///   is open.
     /// - `NoMemory`: memory ran out.
     pub fn attach(
         alloc: Global,
@@ -56,7 +56,7 @@ impl<S: Alter> Results<S> {
             → IfOk result (λ r. AttachSucceeds was (state S.Store connection) (state S.Store r)) }
         ensures refused { (was : _) → IsOf was (state S.Store connection)
             → IfErr result (λ e. AttachFails was (state S.Store connection) (state S.Store e.1) e.0) }
-        // Holds for any database.
+        // For any database, the error is `NoMemory`, `Store` or `UnknownSchema`.
         ensures due { IfErr result (λ e. IsStoreFault e.0 ⊎ (e.0 ≡ StoreFault.UnknownSchema)) }
     {
         let mut conn = connection;
@@ -66,7 +66,7 @@ impl<S: Alter> Results<S> {
         }
     }
 
-    /// Returns the allocator and the connection.
+    /// Converts the store into its allocator and its connection. Allocates nothing.
     pub fn into_parts(self) -> (Global, Connection<S>)
         ensures { result.1 ≡ self }
     {
@@ -74,7 +74,7 @@ impl<S: Alter> Results<S> {
         (alloc, conn)
     }
 
-    /// Returns the connection. Allocates nothing.
+    /// Converts the store into its connection. Allocates nothing.
     pub fn detach(self) -> Connection<S>
         ensures { result ≡ self }
     {
@@ -88,6 +88,8 @@ impl<S: Alter> Results<S> {
     /// # Errors
     ///
     /// - `StoreFull`: there are 1,000,000 runs.
+    /// - `Store`: a statement failed.
+    /// - `NoMemory`: memory ran out.
     pub fn begin(&mut self, total: u32, moment: u64) -> Result<u64, StoreFault>
         requires { IsMoment moment }
         ensures { Serves (results S.Store) (Began total moment result) self.old self.new }
@@ -98,7 +100,7 @@ impl<S: Alter> Results<S> {
         Ok(add_run(&mut self.conn, total, moment)?)
     }
 
-    /// Adds an entry and its pairs to a run.
+    /// Adds an entry and its properties to a run.
     ///
     /// # Errors
     ///
@@ -112,7 +114,7 @@ impl<S: Alter> Results<S> {
         Ok(add_entry(&mut self.conn, key(run), entry, &reason)?)
     }
 
-    /// Finishes a run.
+    /// Marks a run as finished. Entries can't be added to a finished run.
     ///
     /// # Errors
     ///
@@ -124,7 +126,7 @@ impl<S: Alter> Results<S> {
         Ok(mark(&mut self.conn, key(run))?)
     }
 
-    /// Returns the heads of all runs, ordered by number.
+    /// Returns the heads of all runs, ordered by number. A head is a run without its entries.
     ///
     /// # Errors
     ///
@@ -139,8 +141,8 @@ impl<S: Alter> Results<S> {
         Ok(all_heads(&mut self.conn, self.alloc)?)
     }
 
-    /// Returns the head of a run, or of the last run if `number` is `None`. Returns `None` if there
-    /// is no such run.
+    /// Returns the head of run `number`, or of the last run if `number` is `None`. A head is a run
+    /// without its entries. Returns `None` if there is no such run.
     ///
     /// # Errors
     ///
@@ -155,11 +157,13 @@ impl<S: Alter> Results<S> {
         Ok(head_among(&heads, number))
     }
 
-    /// Returns the entries of a run with their pairs and outputs, ordered by position.
+    /// Returns the entries of a run with their properties and outputs, ordered by position.
     ///
     /// # Errors
     ///
     /// - `NoRun`: no run has the number.
+    /// - `Store`: a statement failed, or a row has a wrong value.
+    /// - `NoMemory`: memory ran out.
     pub fn entries(&mut self, run: u64) -> Result<Vec<Entry>, StoreFault>
         ensures reads { Reads (results S.Store) self.old self.new }
         ensures entries { HoldsForRuns S.Store self.old self.new (λ runs.

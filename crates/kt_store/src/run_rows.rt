@@ -19,7 +19,8 @@ pub(crate) fn is_full<S: Alter>(conn: &mut Connection<S>) -> Result<bool, StoreF
     Ok(find(conn, MOST_RUNS)?.is_some())
 }
 
-/// Inserts an unfinished run after the last run, and returns its number.
+/// Inserts an unfinished run with the next number, and returns this number. The caller has checked
+/// that there are fewer than 1,000,000 runs.
 pub(crate) fn add_run<S: Alter>(
     conn: &mut Connection<S>,
     total: u32,

@@ -6,7 +6,8 @@ use sqlite::types::FromSql;
 use sqlite::{Alter, Connection, Row, Transaction};
 use sqlite_value::value::ValueRef;
 
-/// Reads a value from a column of a row. Fails if the value has another type or is out of range.
+/// Reads a value of type `T` from column `at` of a row. Fails if the value has another type or is
+/// out of range.
 pub(crate) fn value_in<T: FromSql>(row: &Row, at: usize) -> Result<T, StoreFailure>
     requires { at < length row.now }
     ensures value { IfOk result (T.FromSql.reads_as (column row.now at)) }
@@ -15,7 +16,7 @@ pub(crate) fn value_in<T: FromSql>(row: &Row, at: usize) -> Result<T, StoreFailu
     Ok(value)
 }
 
-/// Checks that the connection is open and that SQLite can prepare a statement over its tables.
+/// Checks that the connection is open and that SQLite can prepare `sql` over its tables.
 pub(crate) fn probe<S: Alter>(conn: &mut Connection<S>, sql: &str) -> Result<(), StoreFailure>
     requires { IsPlain (understood schema_2 sql.now) }
     ensures same { HasCleanDisk (state S.Store conn.new)
@@ -30,8 +31,8 @@ pub(crate) fn probe<S: Alter>(conn: &mut Connection<S>, sql: &str) -> Result<(),
     Ok(())
 }
 
-/// Executes a query and returns its rows. Prepares the statement first, so a closed connection runs
-/// nothing.
+/// Executes a query and returns its rows. Fails without running the query if SQLite can't prepare
+/// it, as on a closed connection.
 pub(crate) fn ask<S: Alter>(
     conn: &mut Connection<S>,
     sql: &str,
@@ -84,7 +85,7 @@ pub(crate) fn query<S: Alter>(
     Ok(rows)
 }
 
-/// Executes a statement that is not a query.
+/// Executes a statement other than a query.
 pub(crate) fn execute<S: Alter>(
     conn: &mut Connection<S>,
     sql: &str,
@@ -103,7 +104,7 @@ pub(crate) fn execute<S: Alter>(
     Ok(())
 }
 
-/// Executes a statement inside a transaction.
+/// Executes a statement inside a transaction, without committing.
 pub(crate) fn step<S: Alter>(
     tx: &mut Transaction<'_, S>,
     sql: &str,
@@ -119,7 +120,7 @@ pub(crate) fn step<S: Alter>(
     Ok(())
 }
 
-/// Returns `true` if there is at least one row.
+/// Returns `true` if a query returned at least one row.
 pub(crate) fn has_rows(rows: &[Row]) -> bool
     ensures { result ≡ nat_lt 0 (length rows.now) }
 {

@@ -11,23 +11,25 @@ use sqlite_trees::error::StoreError;
 use std::io::ErrorKind;
 use thiserror::Error;
 
-/// Errors returned by a store of results. `Display` prints [`StoreFault::words`].
+/// Errors returned by a results store. `Display` prints the text of [`StoreFault::words`].
 #[derive(Clone, Copy, Debug, Error)]
 #[error("{}", self.words())]
 pub enum StoreFault {
+    /// An allocation failed.
     NoMemory(AllocationFailure),
+    /// The database failed.
     Store(FailedStatement),
-    /// No run has this number.
+    /// No run has the requested number.
     NoRun,
-    /// The run is finished.
+    /// The run is finished, so it can't be changed.
     RunClosed,
-    /// The run has an entry with this position.
+    /// The run has an entry at this position already.
     RepeatedPosition,
-    /// There are 1,000,000 runs, as many as this profile keeps.
+    /// The store has 1,000,000 runs, the maximum (this profile).
     StoreFull,
-    /// The schema number in the tables isn't the one of this profile.
+    /// The schema number of the tables is missing or neither 1 nor 2.
     UnknownSchema,
-    /// The position is not below the total of the run.
+    /// The position of the entry is not below the total of the run.
     BadPosition,
     /// The run has fewer entries than its total.
     Incomplete,
@@ -37,7 +39,7 @@ impl StoreFault {
     ghost use Rattle.std.specs.Prelude.{◌≡◌};
     ghost use Rattle.kt_store.specs.Ask.{fault_words};
 
-    /// Returns the message of the fault (this profile). Allocates nothing.
+    /// Returns the message that a command prints for the fault (this profile). Allocates nothing.
     pub fn words(&self) -> &'static str
         ensures { result.now ≡ fault_words self.now }
     {
@@ -47,16 +49,18 @@ impl StoreFault {
         }
     }
 
-    /// Returns `true` if the file can't be opened because another process uses it.
+    /// Returns `true` if the results file can't be opened because another process uses it.
     pub fn is_in_use(&self) -> bool {
         matches!(self, StoreFault::Store(failed) if failed.is_in_use)
     }
 }
 
-/// Errors returned by the parts of a store call: memory ran out, or the database failed.
+/// Errors returned by a database operation of the store: memory ran out, or the database failed.
 #[derive(Clone, Copy)]
 pub enum StoreFailure {
+    /// An allocation failed.
     NoMemory(AllocationFailure),
+    /// The database failed.
     Failed(FailedStatement),
 }
 
@@ -73,24 +77,24 @@ impl From<StoreFailure> for StoreFault {
     }
 }
 
-/// Evidence that an allocation failed, in the allocator or in SQLite. Only this module creates this
+/// A token of a failed allocation, in the allocator or in SQLite. Only this module creates this
 /// value.
 #[derive(Clone, Copy, Debug)]
 pub struct AllocationFailure(SqliteRefusal);
 
-/// Evidence that the database failed. A statement, an open or a close failed, the connection is in
-/// a transaction, a tree is damaged, or a row doesn't obey the schema. Only this module creates
-/// this value.
+/// A token of a failure of the database. A statement, an open or a close failed, a transaction is
+/// already open, a B-tree is damaged, or a row doesn't obey the schema. Only this module creates
+/// this value. Other modules can only copy the value of [`OTHER_FAILURE`].
 #[derive(Clone, Copy, Debug)]
 pub struct FailedStatement {
-    /// `true` if another process uses the file.
+    /// `true` if the file can't be opened because another process uses it.
     is_in_use: bool,
 }
 
-/// The failure of a statement, of a file or of a check, without another process that uses the file.
+/// A failure of the database for any reason except that another process uses the file.
 pub const OTHER_FAILURE: StoreFailure = StoreFailure::Failed(FailedStatement { is_in_use: false });
 
-/// A private type, so that no other module can create a `AllocationFailure`.
+/// A private type, so that no other module can create an `AllocationFailure`.
 #[derive(Clone, Copy, Debug)]
 struct SqliteRefusal;
 
@@ -166,7 +170,7 @@ impl From<WriteError> for StoreFailure {
     }
 }
 
-/// Returns the failure for files that can't be opened.
+/// Converts the error of a failed open of the results file and its log to a `StoreFailure`.
 pub fn unopened(error: &OpenError) -> StoreFailure
     ensures short { IsShort result → IsOutOfMemory error.now }
 {
@@ -183,7 +187,7 @@ pub fn unopened(error: &OpenError) -> StoreFailure
     }
 }
 
-/// Returns `Ok` if a check of the data holds.
+/// Checks that `is_sound`, the result of a check of stored data, is `true`.
 ///
 /// # Errors
 ///
@@ -195,7 +199,7 @@ pub fn sure(is_sound: bool) -> Result<(), StoreFailure>
     if is_sound { Ok(()) } else { Err(OTHER_FAILURE) }
 }
 
-/// Returns the value of an option.
+/// Returns the value of `found`, which must be present in sound data.
 ///
 /// # Errors
 ///

@@ -7,12 +7,13 @@ use Rattle.sqlite.specs.Command.TheVariants.{Select}
 use Rattle.kt_store.specs.Stands.{IsStore}
 use Rattle.kt_store.specs.Types.{AllByRecursion, CommitsBy, CommitsShowing, Executes, Ghosts, Held, IsUnchanged, Row, Run, Shown, Trees, state}
 
--- `width_of command`: the number of columns that a query returns
+-- `width_of command`: the number of columns that `command` returns if it is a query, else 0
 abbrev pub width_of : Command → ℕ
 width_of (Select query names) = length names
 width_of _ = 0
 
--- `HasColumns width compiled`: the query returns `width` columns, at least one
+-- `HasColumns width compiled`: the compiled query returns `width` columns, at least one; a failed
+-- compilation never meets this
 abbrev pub HasColumns : ℕ → Result Compiled CompileError → Type 0
 HasColumns width (Ok c) = (0 < width) × (width_of c.command ≡ width)
 HasColumns width (Err e) = ⊥
@@ -21,27 +22,36 @@ HasColumns width (Err e) = ⊥
 abbrev pub AreWide : ℕ → List Row → Type 0
 AreWide width rows = AllByRecursion (λ (row : Row). width ≤ length row) rows
 
--- `QueriesRuns g runs sql params new rows`: a query returned `rows` from tables that hold `runs`
+-- `QueriesRuns g runs sql params new rows`: the query `sql` with the values `params` returned
+-- `rows` from tables with exactly `runs`, and left the connection as `new`
 pub record QueriesRuns {S : Type 0} (g : Ghosts S) (runs : List Run) (sql : List ℕ) (params : Row) (new : Held S) (rows : List Row) : Type 0 where
   pub mid : Held S
   pub stored : IsStore (state g mid) runs
   pub shown : Shown sql params (state g mid) (state g new) rows
 
 module _ {S : Type 0} (g : Ghosts S) (sql : List ℕ) (params : Row) (old : Held S) where
+  -- `Asked g sql params old new rows`: `sql` was prepared on connection `old`, executed with the
+  -- values `params`, and returned `rows`; the connection is then `new`
   pub record Asked (new : Held S) (rows : List Row) : Type 0 where
     pub mid : Held S
     pub same : IsUnchanged (state g old) (state g mid)
     pub shown : Shown sql params (state g mid) (state g new) rows
 
+  -- `Executed g sql params old new`: `sql` was prepared on connection `old` and executed with the
+  -- values `params`; the connection is then `new`
   pub record Executed (new : Held S) : Type 0 where
     pub mid : Held S
     pub same : IsUnchanged (state g old) (state g mid)
     pub count : ℕ
     pub ran : Executes sql params (state g mid) (state g new) (Ok count)
 
-  -- the statement was prepared, so the connection was open
+  -- `MayShow g sql params old db`: `sql` is prepared on connection `old`, and its execution as a
+  -- query with the values `params` may commit the B-trees `db`. Only a write with RETURNING
+  -- commits.
   abbrev pub MayShow : Trees → Type 0
   MayShow db = (mid : Held S) × IsUnchanged (state g old) (state g mid) × CommitsShowing sql params (state g mid) db
 
+  -- `MayExecute g sql params old db`: `sql` is prepared on connection `old`, and its execution with
+  -- the values `params` may commit the B-trees `db`
   abbrev pub MayExecute : Trees → Type 0
   MayExecute db = (mid : Held S) × IsUnchanged (state g old) (state g mid) × CommitsBy sql params (state g mid) db

@@ -12,51 +12,58 @@ HasNumber Blank = ⊥
 HasNumber _ = ⊤
 
 module _ {S : Type 0} (g : Ghosts S) (old new : Held S) where
-  -- a disk that is clean after the call was clean before the call
+  -- `WasClean g old new`: if the disk has returned no wrong data up to connection `new`, after a
+  -- call, it had returned none up to `old`, before the call
   abbrev pub WasClean : Type 0
   WasClean = HasCleanDisk (state g new) → HasCleanDisk (state g old)
 
-  -- a crash leaves only what it left before the call
+  -- `CommitsNothing g old new`: after a call from connection `old` to `new`, a crash leaves only
+  -- what it left before
   abbrev pub CommitsNothing : Type 0
   CommitsNothing = Survives (state g old) (state g new) (λ _. ⊥)
 
-  -- the tables represent the same runs as before the call
+  -- `KeepsRuns g old new`: if the tables of connection `old` represent runs, those of connection
+  -- `new` represent the same runs
   abbrev pub KeepsRuns : Type 0
   KeepsRuns = (runs : List Run) → StandsFor (state g old) runs → StandsFor (state g new) runs
 
-  -- if the tables represent runs, a crash leaves only what it left before the call
+  -- `OnlyReads g old new`: if the tables of connection `old` represent runs, a crash after the call
+  -- that led to `new` leaves only what it left before the call
   abbrev pub OnlyReads : Type 0
   OnlyReads = (runs : List Run) → StandsFor (state g old) runs → CommitsNothing
 
-  -- a call that only reads: the tables represent the same runs, and a crash leaves only what it
-  -- left before
+  -- `OnlyReadsRuns g old new`: a call from connection `old` to `new` only reads. The tables
+  -- represent the same runs, and a crash leaves only what it left before the call.
   pub record OnlyReadsRuns : Type 0 where
     pub stands : KeepsRuns
     pub crash : OnlyReads
 
-  -- a call that reads the schema number: if there is a number, the call commits nothing and leaves
-  -- the database unchanged or rolled back
+  -- `AsksNumber g old new`: a call from connection `old` to `new` reads the schema number. If there
+  -- is a number, the call commits nothing and leaves the database unchanged or rolled back.
   pub record AsksNumber : Type 0 where
     pub earlier : WasClean
     pub rests : (n : ℤ) → StoresSchemaNumber n (state g old) → HasCleanDisk (state g new) → IsUnchangedOrRolledBack (state g old) (state g new)
     pub crash : (n : ℤ) → StoresSchemaNumber n (state g old) → CommitsNothing
 
-  -- if the database has a schema number, the database is unchanged
+  -- `LeavesSchema g old new`: if connection `old` has a schema number, a call to `new` leaves its
+  -- database unchanged, unless the disk has returned wrong data
   abbrev pub LeavesSchema : Type 0
   LeavesSchema = (n : ℤ) → StoresSchemaNumber n (state g old) → HasCleanDisk (state g new) → IsUnchanged (state g old) (state g new)
 
-  -- if the database has a schema number, SQLite can prepare the queries of that schema
+  -- `FindsTables g old new`: if connection `old` has a schema number, SQLite can prepare the
+  -- queries of this schema, unless the disk has returned wrong data up to `new`
   abbrev pub FindsTables : Type 0
   FindsTables = (n : ℤ) → StoresSchemaNumber n (state g old) → HasCleanDisk (state g new) → HasTables n (state g old)
 
   module _ (Allowed : List Run → Type 0) (change : List Run → List Run) where
-    -- if the runs allow the change, the tables represent the changed runs after the call, and a
-    -- crash leaves them
+    -- `Changes g old new Allowed change`: if the tables of connection `old` represent `runs` with
+    -- `Allowed runs`, then those of connection `new` represent `change runs`, and a crash leaves
+    -- only these
     pub record Changes : Type 0 where
       pub stands : (runs : List Run) → StandsFor (state g old) runs → (HasCleanDisk (state g old) → Allowed runs) → StandsFor (state g new) (change runs)
       pub lasts : (runs : List Run) → StandsFor (state g old) runs → (HasCleanDisk (state g old) → Allowed runs) → Leaves (state g new) (Keeps (change runs))
 
-    -- if the runs allow the change, a crash leaves what it left before the call, or the changed
-    -- runs
+    -- `MayChange g old new Allowed change`: if the tables of connection `old` represent `runs` with
+    -- `Allowed runs`, a crash after the call to `new` leaves what it left before, or `change runs`
     abbrev pub MayChange : Type 0
     MayChange = (runs : List Run) → StandsFor (state g old) runs → (HasCleanDisk (state g old) → Allowed runs) → Survives (state g old) (state g new) (Keeps (change runs))

@@ -7,24 +7,25 @@ use Rattle.kt_store.specs.Types.{AllByRecursion, Entry, Int, Null, Passed, Row, 
 abbrev pub HasNoReasonIfPassed : Entry → Type 0
 HasNoReasonIfPassed e = e.verdict.kind ≡ Passed → e.verdict.reason ≡ []
 
--- `HasTexts e`: the texts of `e` are representable in UTF-8
+-- `HasTexts e`: all texts of entry `e`, those of its properties included, are representable in
+-- UTF-8
 abbrev pub HasTexts : Entry → Type 0
 HasTexts e = IsText e.program × IsText e.case_name × IsText e.verdict.reason × AllByRecursion IsPair e.meta
 
--- `CanAdd run e runs`: there is a run with number `run`, and all runs are sound with `e` added to
--- it, if the texts of `e` are texts
+-- `CanAdd run e runs`: `runs` have a run `run`, and with entry `e` added to it each run meets
+-- `IsRun`, if the texts of `e` are representable in UTF-8
 abbrev pub CanAdd : ℕ → Entry → List Run → Type 0
 CanAdd run e runs = (k : ℕ) × (run ≡ suc k) × (k < length runs) × (HasTexts e → AllByRecursion IsRun (with_entry run e runs))
 
--- `IsComplete run runs`: there is a run with number `run`, and it has all its entries
+-- `IsComplete run runs`: `runs` have a run `run`, which has as many entries as its total
 abbrev pub IsComplete : ℕ → List Run → Type 0
 IsComplete run runs = (k : ℕ) × (r : Run) × (run ≡ suc k) × (run_at runs run ≡ Some r) × (length r.entries ≡ r.total)
 
--- `entries_of r`: the entries of run `r`, or none if there is no run
+-- `entries_of r`: the entries of run `r`, or none if `r` is `None`
 abbrev pub entries_of : Option Run → List Entry
 entries_of None = []
 entries_of (Some r) = r.entries
 
--- `finished_run_row r`: the rowid of run `r`, and its row once it is finished
+-- `finished_run_row r`: the rowid of run `r`, followed by the row of `r` marked as finished
 abbrev pub finished_run_row : Run → Row
 finished_run_row r = Int (pos r.number) ∷ Int (pos r.number) ∷ Null ∷ Int (pos r.started) ∷ Int (pos r.total) ∷ Int (pos 1) ∷ []

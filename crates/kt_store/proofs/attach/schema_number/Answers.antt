@@ -9,11 +9,11 @@ use Rattle.kt_store.proofs.attach.schema_number.Goals as goal
 pub ask-requires : goal.ask-requires
 ask-requires g c = number_is
 
--- the rows are those of the number
+-- the query returned one row with the schema number
 are : (g : Over) (c : In_ok-rows g) (n : ℤ) → StoresSchemaNumber n (state g.S.Store c.args.conn.now) → HasCleanDisk (state g.S.Store c.ask.new.conn) → c.in_ok-rows.rows.items ≡ (Int n ∷ []) ∷ []
 are g c n says clean = asked_meta g.S.Store c.args.conn.now c.ask.new.conn (λ k. omega (arith, k, c.ask.ensures.survives.clean)) n c.in_ok-rows.rows.items says clean (c.in_ok-rows.ensures.rows clean)
 
--- the first row has the number
+-- the first row has the schema number
 first_is : (g : Over) (c : In-Some g) (n : ℤ) → c.in_ok-rows.rows.items ≡ (Int n ∷ []) ∷ [] → c.in-Some.row.now ≡ Int n ∷ []
 first_is g c n are = row_is n c.in_ok-rows.rows.items c.in-Some.row.now are (ap (λ l. slice_get l 0) (sym c.deref.ensures.value) ∙ sym c.first.ensures.value ∙ ap option_copied c.in-Some.is)
 

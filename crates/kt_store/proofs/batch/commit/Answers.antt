@@ -6,11 +6,11 @@ use Rattle.kt_store.proofs.batch.commit.Given.{Over}
 use Rattle.kt_store.proofs.batch.commit.Goals.{In_ok-fill}
 use Rattle.kt_store.proofs.batch.commit.Goals as goal
 
--- the statements were run in turn, in a new transaction
+-- the statements were executed in order in a new transaction
 ran : (g : Over) (c : In_ok-fill g) → HasCleanDisk (state g.S.Store c.fill.new.tx.conn.now) → ExecutesInOrder g.S.Store (g.B.Batch.statements c.args.batch.now) (begun c.args.conn.now) c.fill.new.tx.conn.now
 ran g c early = let starts = c.transaction-tx.ensures.begun in rw starts at (c.in_ok-fill.ensures.runs early (rw starts refl))
 
--- a crash leaves what it left before, or what the statements wrote
+-- a crash leaves what it left before, or the tables after all statements
 crash : (g : Over) (c : In_ok-fill g) (end : Held g.row.S.Denot) → Survives (state g.S.Store c.fill.new.tx.conn.now) (state g.S.Store end) (λ db. db ≡ (state g.S.Store c.fill.new.tx.conn.now).now.trees)
     → Survives (state g.S.Store c.args.conn.now) (state g.S.Store end) (MayCommit g.S.Store (g.B.Batch.statements c.args.batch.now) c.args.conn.now)
 crash g c end survives = commit_survives g.S.Store c.args.conn.now c.fill.new.tx.conn.now end (g.B.Batch.statements c.args.batch.now) (ran g c) (rw c.transaction-tx.ensures.begun at c.fill.ensures.uncommitted.survives) survives

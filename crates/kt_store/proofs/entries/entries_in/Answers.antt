@@ -6,7 +6,7 @@ use Rattle.kt_store.proofs.OutputsLemmas.{has as is_at}
 use Rattle.kt_store.proofs.RunLemmas.{one_more}
 use Rattle.kt_store.proofs.entries.entries_in.Goals as goal
 
--- the entry that is found is that of the run
+-- the first of a run's entries at a position is the run's entry at this position
 there : (o : Option Run) (p : ℕ) (e : Entry) → find (is_at p) (entries_of o) ≡ Some e → entry_at o p ≡ Some e
 there None p e is = is
 there (Some r) p e is = is

@@ -4,7 +4,7 @@ use Rattle.kt_store.specs.Inner.Heads.{CountFrom}
 use Rattle.kt_store.proofs.RunLemmas.{one_more}
 use Rattle.kt_store.proofs.heads.heads_in.Goals as goal
 
--- one more head
+-- heads numbered from `n` stay so with one more head of the next number
 counted : (n : ℕ) (heads : List RunHead) (head : RunHead) → CountFrom n heads → head.number ≡ n + length heads → CountFrom n (heads ++ head ∷ [])
 counted n [] head count is = (is ∙ omega arith, tt)
 counted n (first ∷ heads) head count is = (count.0, counted (suc n) heads head count.1 (is ∙ omega arith))

@@ -8,14 +8,15 @@ use Rattle.kt_store.proofs.run_rows.add_run.Goals as goal
 pub execute-requires : goal.execute-requires
 execute-requires g c = begin_is.1
 
--- a crash leaves what it left before, or the runs with the new one
+-- a crash leaves what it left before, or the runs with the new run appended
 crash : (g : Over) (c : After-execute g) → MayChange g.S.Store c.args.conn.now c.execute.new.conn (λ runs. length runs < last_run) (λ runs. runs ++ new_run runs c.args.total c.args.moment ∷ [])
 crash g c runs has room =
     survives_weaker (state g.S.Store c.args.conn.now) (state g.S.Store c.execute.new.conn) _ (Keeps (runs ++ new_run runs c.args.total c.args.moment ∷ []))
     (crash_begin g.S.Store c.args.conn.now c.execute.new.conn runs c.args.total c.args.moment has room (omega (arith, c.ranges.total.fits)) (λ k. omega (arith, k, c.execute.ensures.survives.clean)))
     (rw (c.int.ensures, c.int-2.ensures, c.from.ensures) at c.execute.ensures.survives)
 
--- the facts about the new run
+-- after the INSERT, the tables represent the runs with the new run appended, and the last rowid is
+-- its number
 begun : (g : Over) (c : In_ok-execute g) (runs : List Run) → StandsFor (state g.S.Store c.args.conn.now) runs → (HasCleanDisk (state g.S.Store c.args.conn.now) → length runs < last_run) → HasCleanDisk (state g.S.Store c.execute.new.conn)
     → IsStore (state g.S.Store c.execute.new.conn) (runs ++ new_run runs c.args.total c.args.moment ∷ []) × ((state g.S.Store c.execute.new.conn).last_rowid ≡ pos (suc (length runs))) × IsTrue (state g.S.Store c.execute.new.conn).is_open × IsDatabase (state g.S.Store c.execute.new.conn).now
 begun g c runs has room clean =
