@@ -1,4 +1,4 @@
--- Cases that are run and printed one after the other.
+-- The execution of a plan for `debug`: cases are run and printed one at a time.
 use Rattle.std.proofs.Common.{Option, Result, Ok, Err, take, ◌≡◌, ℕ, Bool, List, [], ◌∷◌, length, refl, sym, ◌∙◌, subst}
 use Rattle.kt_cli.proofs.Common.{Entry, Job, SinkFault, Totals, RunFault, NoMemory, SinkFailed, Gains, AreEntries, EndsAs, Trace, Prints, DebugEnds, debug_bytes, all_debug_bytes, Says}
 use Rattle.kt_sched.specs.RecordOrder.{recorded as record_order}
@@ -7,12 +7,14 @@ use Rattle.kt_cli.proofs.Saying.{says_both, says_nothing}
 
 module _ {S : Type 0} (gives : S → Entry → Result (Unit {0}) SinkFault → S → Type 0) (failed : S → Bool) (held : S → Option (List ℕ)) (name : S → ℕ)
     (each : (s t : S) (e : Entry) (r : Result (Unit {0}) SinkFault) → gives s e r t → (name t ≡ name s) × Prints (failed s) (held s) e r (failed t) (held t)) where
-  -- `Printed es s t`: the outputs and lines of `es` were printed by the same writer
+  -- `Printed es s t`: from printer `s` to `t`, with the same writer, the outputs and lines of the
+  -- entries `es` were printed
   pub record Printed (es : List Entry) (s t : S) : Type 0 where
     pub same_out : name t ≡ name s
     pub says : Says (held s) (failed s) (held t) (failed t) (all_debug_bytes es)
 
-  -- `Ended plan T es answer s t`: `Printed`, with the outcome of the plan
+  -- `Ended plan T es answer s t`: from printer `s` to `t`, the entries `es` were printed, and
+  -- `plan` with the trace `T` ended with the result `answer`
   pub record Ended (plan : List Job) (T : Trace) (es : List Entry) (answer : Result Totals RunFault) (s t : S) : Type 0 where
     pub printed : Printed es s t
     pub ends : DebugEnds plan T es answer
@@ -25,7 +27,7 @@ module _ {S : Type 0} (gives : S → Entry → Result (Unit {0}) SinkFault → S
       let r = printed_all es m t g.2 in
       record { same_out = r.same_out ∙ p.0; says = says_both (held s) (held m) (held t) (failed s) (failed m) (failed t) (debug_bytes e) (all_debug_bytes es) p.1.1 r.says }
 
-  -- a plan that is run for `debug` ends as `Ended` states
+  -- a plan that is executed for `debug` meets `Ended`
   pub debug_ends : (plan : List Job) (T : Trace) (es : List Entry) (answer : Result Totals RunFault) (s t : S) → AreEntries plan T (take (length es) (record_order plan 1 T)) es
       → EndsAs gives plan 1 T es s t answer → Ended plan T es answer s t
   debug_ends plan T es (Ok totals) s t a e = record {

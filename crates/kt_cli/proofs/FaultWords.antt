@@ -1,4 +1,4 @@
--- The messages of faults are ASCII.
+-- The messages of faults are ASCII, so their bytes are their characters.
 use Rattle.std.proofs.Common.{◌≡◌, refl}
 use Rattle.kt_cli.proofs.Common.{chars, RunFault, SinkFailed, StoreFault}
 use Rattle.kt_sched.specs.FaultWords.{run_words}

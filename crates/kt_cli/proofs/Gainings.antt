@@ -1,4 +1,4 @@
--- Entries that are recorded and printed one after the other.
+-- The execution of a plan for `test`: entries are recorded and printed one at a time.
 use Rattle.std.proofs.Common.{Option, Result, Ok, Err, count_by, take, ◌==◌, ◌≤◌, ◌≡◌, ℕ, Bool, List, [], ◌∷◌, ◌++◌, length, refl, sym, ap, ◌∙◌, subst, append-nil}
 use Rattle.std.proofs.Math.Seq.{take-length}
 use Rattle.kt_cli.proofs.Common.{Entry, line_bytes, Job, SinkFault, Totals, RunFault, NoMemory, SinkFailed, Gains, AreEntries, recorded, EndsAs, Trace, StoreCall, Put, Says, Recorded, Recording, RecordEnds, CallsStore, puts, lines}
@@ -6,13 +6,14 @@ use Rattle.kt_store.specs.declared.result_store.StoreSpec as keeping
 use Rattle.kt_cli.proofs.Saying.{says_both, says_nothing}
 use Rattle.kt_cli.proofs.StoreChains.{stored_none, stored_both, stored_as}
 
--- entries for all positions are those of the plan
+-- if there are as many entries as positions, the entries of the first positions are those of all
 pub all_entries : (plan : List Job) (T : Trace) (positions : List ℕ) (es : List Entry) → length es ≡ length positions → AreEntries plan T (take (length es) positions) es → AreEntries plan T positions es
 all_entries plan T positions es e a = subst (λ (ps : List ℕ). AreEntries plan T ps es) (ap (λ (n : ℕ). take n positions) e ∙ take-length positions) a
 
 module _ {S R : Type 0} (keep : keeping.Ghosts R) (gives : S → Entry → Result (Unit {0}) SinkFault → S → Type 0) (state : S → Recording R) (name other : S → ℕ)
     (each : (s t : S) (e : Entry) (r : Result (Unit {0}) SinkFault) → gives s e r t → (name t ≡ name s) × (other t ≡ other s) × Recorded keep (state s) e r (state t)) where
-  -- `Gained es last s t`: the recorder put and printed `es`, and then made the calls `last`
+  -- `Gained es last s t`: from recorder `s` to `t`, the entries `es` were put and printed, and then
+  -- the store calls `last` were made
   pub record Gained (es : List Entry) (last : List StoreCall) (s t : S) : Type 0 where
     pub same_store : name t ≡ name s
     pub same_out : other t ≡ other s
@@ -20,7 +21,7 @@ module _ {S R : Type 0} (keep : keeping.Ghosts R) (gives : S → Entry → Resul
     pub stored : CallsStore keep (puts (state s).number es ++ last) (state s).store (state t).store
     pub says : Says (state s).held (state s).failed (state t).held (state t).failed (lines es)
 
-  -- a recorder that accepted entries has put and printed them
+  -- a recorder that accepted the entries `es` has put and printed them
   pub gains_all : (es : List Entry) (s t : S) → Gains gives es s t → Gained es [] s t
   gains_all [] s t g =
       subst (λ (u : S). Gained [] [] s u) (sym g) (record { same_store = refl; same_out = refl; same_number = refl; stored = stored_none keep (state s).store; says = says_nothing (state s).held (state s).failed })
@@ -37,13 +38,14 @@ module _ {S R : Type 0} (keep : keeping.Ghosts R) (gives : S → Entry → Resul
         says = says_both (state s).held (state m).held (state t).held (state s).failed (state m).failed (state t).failed (line_bytes e) (lines es) p.2.2 r.says;
       }
 
-  -- `Whole plan n T es answer s t`: the recorder's effect over a whole plan
+  -- `Whole plan n T es answer s t`: from recorder `s` to `t`, the entries `es` were put and
+  -- printed. `plan` with the trace `T` at width `n` ended with the result `answer`.
   pub record Whole (plan : List Job) (n : ℕ) (T : Trace) (es : List Entry) (answer : Result Totals RunFault) (s t : S) : Type 0 where
     pub last : List StoreCall
     pub gained : Gained es last s t
     pub ends : RecordEnds plan n (state s).number T es last answer
 
-  -- a recorder over a whole plan has the effect `Whole`
+  -- a plan that is executed with a recorder meets `Whole`
   pub whole : (plan : List Job) (n : ℕ) (T : Trace) (es : List Entry) (answer : Result Totals RunFault) (s t : S) → AreEntries plan T (take (length es) (recorded plan n T)) es → ((i : ℕ) → count_by (λ p. p == i) (recorded plan n T) ≤ 1) → EndsAs gives plan n T es s t answer → Whole plan n T es answer s t
   whole plan n T es (Ok totals) s t a o e = record {
     last = [];

@@ -1,4 +1,4 @@
--- Runs in memory are looked up and changed.
+-- Lookups and changes of runs in memory obey the contract of a store.
 use Rattle.std.proofs.Common.{Option, Some, None, Ok, Err, true, slice_get, insert, ◌==◌, ◌≡◌, ℕ, ◌≤◌, List, [], ◌∷◌, length, arith, refl, sym, ap, ◌∙◌, get_or, set, inr, subst, unwrap_or}
 use Rattle.std.proofs.lemmas.Option.{slice_get_read}
 use Rattle.kt_cli.proofs.Common.{find, nat_tests, set-get_or, Entry, Run, StoreFault, NoRun, CaseOutputs, outputs_of, entry_at, AreNumbered, insert_at, run_at, put_refusal_of, finish_refusal_of, Agrees, Serves, runs_after, StoreCall, Put, Finished, Head, Outputs, RunHead, head_of, option_map, LeavesInMemory, memory_runs, ServesInMemory, FindsPlace, entry_refusal, closing_refusal, place_among}
@@ -7,7 +7,7 @@ use Rattle.kt_store.proofs.Numbered.{numbers_changed, ordered_changed}
 use Rattle.kt_store.proofs.ServeLemmas.{always_outlasts}
 use Rattle.kt_cli.proofs.Numbered.{entry_placed, finish_placed}
 
--- a call over runs in memory obeys the contract of a store
+-- a call that meets `ServesInMemory` obeys the contract of a store
 pub serves_in_memory : (old : List Run) (call : StoreCall) (new : List Run) → ServesInMemory old call new → Serves memory_runs call old new
 serves_in_memory old call new h = record {
   asked = tt;
@@ -17,7 +17,7 @@ serves_in_memory old call new h = record {
   crash = λ runs may is. always_outlasts LeavesInMemory (λ _ _. tt) call runs may old new;
 }
 
--- runs in memory return the head of the run with the number, or of the last run
+-- the head that is found by number obeys the contract of a store
 pub head_served : (old : List Run) (number : Option ℕ) (head : Option RunHead) → head ≡ option_map head_of (find (λ (r : Run). r.number == unwrap_or number (length old)) old)
     → Serves memory_runs (Head number (Ok head)) old old
 head_served old number head is = record {
@@ -39,11 +39,11 @@ module _ (old xs : List Run) (number place : ℕ) (run : Run) (s : xs ≡ old) (
   there : run_at old number ≡ Some run
   there = ap (λ (k : ℕ). run_at old k) f.0 ∙ at_place
 
-  -- a put that fails obeys the contract
+  -- a put that fails meets `ServesInMemory`
   pub put_refused : (e : Entry) (fault : StoreFault) → Some fault ≡ entry_refusal run e.position → ServesInMemory old (Put number e (Err fault)) (set xs place run)
   put_refused e fault h = (inr (ap (λ (o : Option Run). put_refusal_of o e) there ∙ sym h), λ _. same_list xs old place run s r)
 
-  -- a put that succeeds obeys the contract
+  -- a put that succeeds meets `ServesInMemory`
   pub put_well : (e : Entry) (entries : List Entry) → None ≡ entry_refusal run e.position → entries ≡ insert_at e run.entries → ServesInMemory old (Put number e (Ok tt)) (set xs place (record run { entries = entries }))
   put_well e entries h k = (
     ap (λ (o : Option Run). put_refusal_of o e) there ∙ sym h,
@@ -51,32 +51,32 @@ module _ (old xs : List Run) (number place : ℕ) (run : Run) (s : xs ≡ old) (
         ∙ entry_placed 1 place number old run e n (f.0 ∙ omega arith) at_place,
   )
 
-  -- reading the outputs of an entry obeys the contract
+  -- reading the outputs of an entry meets `ServesInMemory`
   pub outputs_well : (position : ℕ) (e : Entry) (outputs : CaseOutputs) → Some e ≡ find (λ (x : Entry). x.position == position) run.entries → outputs ≡ outputs_of e
       → ServesInMemory old (Outputs number position (Ok outputs)) old
   outputs_well position e outputs at is = ((e, ap (λ (o : Option Run). entry_at o position) there ∙ sym at, is), λ _. refl)
 
-  -- reading the outputs of a missing entry obeys the contract
+  -- reading the outputs of a missing entry meets `ServesInMemory`
   pub outputs_missing : (position : ℕ) → None ≡ find (λ (x : Entry). x.position == position) run.entries → ServesInMemory old (Outputs number position (Err NoRun)) old
   outputs_missing position at = (inr (refl, ap (λ (o : Option Run). entry_at o position) there ∙ sym at), λ _. refl)
 
-  -- a finish that fails obeys the contract
+  -- a finish that fails meets `ServesInMemory`
   pub end_refused : (fault : StoreFault) → Some fault ≡ closing_refusal run → ServesInMemory old (Finished number (Err fault)) (set xs place run)
   end_refused fault h = (inr (ap finish_refusal_of there ∙ sym h), λ _. same_list xs old place run s r)
 
-  -- a finish that succeeds obeys the contract
+  -- a finish that succeeds meets `ServesInMemory`
   pub end_well : None ≡ closing_refusal run → ServesInMemory old (Finished number (Ok tt)) (set xs place (record run { finished = true }))
   end_well h = (
     ap finish_refusal_of there ∙ sym h,
     λ n. ap (λ (l : List Run). set l place (record run { finished = true })) s ∙ finish_placed 1 place number old run n (f.0 ∙ omega arith) at_place,
   )
 
--- inserting an entry at its index keeps the order of positions
+-- inserting an entry at the index `place_among` is inserting it with `insert_at`
 pub inserted : (e : Entry) (es : List Entry) → insert es (place_among e.position es) e ≡ insert_at e es
 inserted e [] = refl
 inserted e (x ∷ es) = grind (arith, nat_tests, inserted e es)
 
--- the index of an insertion is at most the number of entries
+-- the index `place_among` is at most the number of entries
 pub place_within : (p : ℕ) (es : List Entry) → place_among p es ≤ length es
 place_within p [] = omega arith
 place_within p (x ∷ es) = grind (arith, nat_tests, place_within p es)

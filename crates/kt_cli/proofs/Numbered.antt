@@ -1,14 +1,14 @@
--- The number of a run is its index plus 1.
+-- Runs that are changed by index and by number: the number is the index plus 1.
 use Rattle.std.proofs.Common.{Some, true, slice_get, slice_set, ◌≡◌, ℕ, zero, suc, ◌+◌, List, [], ◌∷◌, ◌++◌, length, arith, refl, ap, ◌∙◌}
 use Rattle.kt_cli.proofs.Common.{nat_tests, Entry, Run, AreNumbered, insert_at, with_entry, finish, put_all, put_among}
 
--- inserting an entry at a run's index is inserting it into the run of its number
+-- inserting an entry into the run at an index is inserting it into the run with this number
 pub entry_placed : (n k number : ℕ) (runs : List Run) (r : Run) (e : Entry) → AreNumbered n runs → number ≡ n + k → slice_get runs k ≡ Some r → slice_set runs k (record r { entries = insert_at e r.entries }) ≡ with_entry number e runs
 entry_placed n k number [] r e h i there = absurd cc
 entry_placed n zero number (x ∷ runs) r e h i there = grind (arith, nat_tests, h.0)
 entry_placed n (suc k) number (x ∷ runs) r e h i there = grind (arith, nat_tests, h.0, entry_placed (suc n) k number runs r e h.1 (i ∙ omega arith) there)
 
--- finishing the run at an index is finishing the run of its number
+-- finishing the run at an index is finishing the run with this number
 pub finish_placed : (n k number : ℕ) (runs : List Run) (r : Run) → AreNumbered n runs → number ≡ n + k → slice_get runs k ≡ Some r → slice_set runs k (record r { finished = true }) ≡ finish number runs
 finish_placed n k number [] r h i there = absurd cc
 finish_placed n zero number (x ∷ runs) r h i there = grind (arith, nat_tests, h.0)
@@ -30,7 +30,7 @@ entries_last runs run number [] h r i = refl
 entries_last runs run number (e ∷ es) h r i =
     ap (λ (xs : List Run). put_all number es xs) (entry_last 1 runs run number e h r i) ∙ entries_last runs (record run { entries = insert_at e run.entries }) number es h r i
 
--- putting one more entry is putting all entries, and then this one
+-- putting entries with one more at the end is putting the entries, and then this one
 pub put_more : (number : ℕ) (es : List Entry) (e : Entry) (runs : List Run) → put_all number (es ++ e ∷ []) runs ≡ with_entry number e (put_all number es runs)
 put_more number [] e runs = refl
 put_more number (x ∷ es) e runs = put_more number es e (with_entry number x runs)

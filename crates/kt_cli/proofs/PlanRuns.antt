@@ -1,4 +1,4 @@
--- A plan that is run over a store has the effect `ExecutesPlan`.
+-- The execution of a plan over a store meets `ExecutesPlan`.
 use Rattle.std.proofs.Common.{Option, Result, Ok, Err, Bool, false, if◌then◌else◌, ◌≡◌, ℕ, List, [], ◌∷◌, ◌++◌, length, refl, ap, ◌∙◌, subst, append-nil, ◌⊎◌, inl, inr}
 use Rattle.kt_cli.proofs.Common.{Shows, utf8, Entry, SinkFault, Totals, RunFault, NoMemory, SinkFailed, NoEvent, StoreCall, Began, Put, Finished, StoreFault, run_line, memory_line, refusal_line, Says, sink_fault_of, Records, RecordEnds, RecordedAll, RecordedSome, RecordedNone, Scene, scene, CallsStore, puts, ExecutesPlan, PlannedRun, begins, exit_of, results, results_exit, not_begun, not_run, not_put, not_finished, lines}
 use Rattle.kt_cli.specs.Testing.{Tested, TestEndsEarly, ending, recorded as all_recorded}
@@ -8,7 +8,7 @@ use Rattle.kt_store.specs.declared.store_fault.StoreFault.TheVariants as store
 use Rattle.kt_cli.proofs.Saying.{says_both}
 use Rattle.kt_cli.proofs.StoreChains.{stored_both, stored_as}
 
--- the error line of a failed put is that of the store's fault
+-- the error line of a run whose put failed is that of the store's fault
 put_refusal_line : (fault : StoreFault) → run_line (SinkFailed (sink_fault_of fault)) ≡ refusal_line fault
 put_refusal_line (store.NoMemory shortage) = refl
 put_refusal_line _ = refl
@@ -17,7 +17,7 @@ refused_line : (why : SinkFault) (fault : StoreFault) → why ≡ sink_fault_of 
 refused_line why fault is = ap (λ (f : SinkFault). run_line (SinkFailed f)) is ∙ put_refusal_line fault
 
 module _ {L R : Type 0} (l : launcher.Ghosts L) (keep : keeping.Ghosts R) (planned : PlannedRun) (old : Scene L R) where
-  -- a plan whose run could not be begun has the effect `ExecutesPlan`
+  -- a plan whose run could not be begun meets `ExecutesPlan`
   pub ran_unbegun : (mid : R) (total : ℕ) (why : StoreFault) (now : Option (List ℕ)) (f : Bool) (exit : ℕ) → total ≡ length planned.plan → CallsStore keep (Began total planned.moment (Err why) ∷ []) old.store mid
       → Shows old.held now f (utf8 (refusal_line why)) → exit ≡ (if f then 2 else 2) → ExecutesPlan l keep planned old (scene old.world mid now) exit
   ran_unbegun mid total why now f exit t calls s e = record {
@@ -33,7 +33,8 @@ module _ {L R : Type 0} (l : launcher.Ghosts L) (keep : keeping.Ghosts R) (plann
 
   module _ (new : L) (begun after : R) (number total : ℕ) (mid now : Option (List ℕ)) (f g : Bool) (exit : ℕ) (t : total ≡ length planned.plan) (begin : CallsStore keep (Began total planned.moment (Ok number) ∷ []) old.store begun) where
     module _ (answer : Result Totals RunFault) (r : Records l keep planned.plan planned.width number (scene old.world begun old.held) (scene new after mid) answer f) where
-      -- a plan whose run was begun has the effect `ExecutesPlan`, by the calls that follow
+      -- a plan whose run was begun meets `ExecutesPlan` if the calls that follow meet `Tested` or
+      -- `TestEndsEarly`
       ran : (last : R) (more : List StoreCall) (bytes : List ℕ) (due : ℕ) → CallsStore keep more begun last
           → Tested planned r.trace (begins planned (Ok number) ∷ more) bytes due ⊎ TestEndsEarly planned r.trace (begins planned (Ok number) ∷ more) bytes due
           → Says old.held false now g bytes → exit ≡ (if g then 2 else due) → ExecutesPlan l keep planned old (scene new last now) exit
@@ -49,14 +50,14 @@ module _ {L R : Type 0} (l : launcher.Ghosts L) (keep : keeping.Ghosts R) (plann
         printed = record { failed = g; shows = s.more; exits = e };
       }
 
-      -- bytes written after the lines are written after what was there before the lines
+      -- writing the lines and then `bytes` is writing the lines followed by `bytes`
       after_lines : (bytes : List ℕ) → Says mid f now g bytes → Says old.held false now g (lines r.entries ++ bytes)
       after_lines bytes s = says_both old.held mid now false f g (lines r.entries) bytes r.says s
 
       ends_as : (other : Result Totals RunFault) → answer ≡ other → RecordEnds planned.plan planned.width number r.trace r.entries r.last other
       ends_as other a = subst (λ (x : Result Totals RunFault). RecordEnds planned.plan planned.width number r.trace r.entries r.last x) a r.ends
 
-      -- a plan has the effect `ExecutesPlan` if an allocation or a put failed
+      -- a plan whose execution failed at an allocation or a put meets `ExecutesPlan`
       pub ran_failed : (why : RunFault) → answer ≡ Err why → Says mid f now g (utf8 (run_line why)) → exit ≡ (if g then 2 else 2) → ExecutesPlan l keep planned old (scene new after now) exit
       ran_failed (NoMemory refusal) a s e =
           let none : RecordedNone r.trace r.entries r.last = ends_as (Err (NoMemory refusal)) a in
@@ -75,20 +76,20 @@ module _ {L R : Type 0} (l : launcher.Ghosts L) (keep : keeping.Ghosts R) (plann
         every : RecordedAll planned.plan planned.width r.trace r.entries r.last totals
         every = ends_as (Ok totals) a
 
-        -- the puts and one more call have the effect of both
+        -- the puts followed by one more call are together one sequence of calls
         then_ends : (end : StoreCall) → CallsStore keep (end ∷ []) after last → CallsStore keep (puts number r.entries ++ end ∷ []) begun last
         then_ends end p =
             let all : puts number r.entries ++ r.last ≡ puts number r.entries = ap (λ (cs : List StoreCall). puts number r.entries ++ cs) every.taken ∙ append-nil (puts number r.entries) in
             stored_both keep (puts number r.entries) (end ∷ []) begun after last (stored_as keep (puts number r.entries ++ r.last) (puts number r.entries) begun after all r.stored) p
 
-        -- a plan whose run could not be finished has the effect `ExecutesPlan`
+        -- a plan whose run could not be finished meets `ExecutesPlan`
         pub ran_unfinished : (why : StoreFault) → CallsStore keep (Finished number (Err why) ∷ []) after last → (fault : SinkFault) → fault ≡ sink_fault_of why
             → Says mid f now g (utf8 (run_line (SinkFailed fault))) → exit ≡ (if g then 2 else 2) → ExecutesPlan l keep planned old (scene new last now) exit
         ran_unfinished why p fault is s e =
             ran last (puts number r.entries ++ Finished number (Err why) ∷ []) (lines r.entries ++ utf8 (refusal_line why)) 2 (then_ends (Finished number (Err why)) p)
             (inr (not_finished number r.entries why every.all)) (after_lines (utf8 (refusal_line why)) (subst (λ (xs : List ℕ). Says mid f now g (utf8 xs)) (refused_line fault why is) s)) e
 
-        -- a plan whose cases were all recorded has the effect `ExecutesPlan`
+        -- a plan whose cases were all recorded and whose run was finished meets `ExecutesPlan`
         pub ran_all : (due : ℕ) → CallsStore keep (Finished number (Ok tt) ∷ []) after last → Says mid f now g (ending totals.good totals.total totals.bad planned.words planned.unmatched) → due ≡ exit_of totals.bad planned.unmatched → exit ≡ (if g then 2 else due)
             → ExecutesPlan l keep planned old (scene new last now) exit
         ran_all due p s d e =

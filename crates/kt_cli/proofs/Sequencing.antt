@@ -5,11 +5,12 @@ use Rattle.kt_cli.specs.Sequences.{ExecutesAllCommands, none_left, one_and}
 use Rattle.kt_store.specs.declared.result_store.StoreSpec as keeping
 
 module _ {W R : Type 0} (w : World W) (keep : keeping.Ghosts R) where
-  -- `GoesOn commands rest old mid done`: executing `rest` from `mid` completes `commands`
+  -- `GoesOn commands rest old mid done`: from scene `old`, some of `commands` were executed up to
+  -- scene `mid` with the statuses `done`, and executing `rest` from `mid` completes them
   pub record GoesOn (commands rest : List Command) (old mid : Scene W R) (done : List Exit) : Type 0 where
     pub then_all : (new : Scene W R) (exits : List Exit) → ExecutesAllCommands w keep rest mid new exits → ExecutesAllCommands w keep commands old new (done ++ exits)
 
-  -- executing one more command leaves the rest to execute
+  -- `GoesOn` holds after one more command is executed
   pub goes_more : (commands later : List Command) (c : Command) (old mid next : Scene W R) (done : List Exit) (exit : Exit) → GoesOn commands (c ∷ later) old mid done
       → CommandResult w keep c mid next exit.status → GoesOn commands later old next (done ++ exit ∷ [])
   goes_more commands later c old mid next done exit g d = record {
@@ -17,6 +18,6 @@ module _ {W R : Type 0} (w : World W) (keep : keeping.Ghosts R) where
         (g.then_all new (exit ∷ exits) (one_and c later mid next new exit exits d m));
   }
 
-  -- with nothing left, all commands are executed
+  -- if nothing is left to execute, all commands were executed
   pub goes_all : (commands : List Command) (old new : Scene W R) (done : List Exit) → GoesOn commands [] old new done → ExecutesAllCommands w keep commands old new done
   goes_all commands old new done g = subst (λ (xs : List Exit). ExecutesAllCommands w keep commands old new xs) (append-nil done) (g.then_all new [] (none_left new))

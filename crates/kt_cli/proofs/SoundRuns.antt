@@ -1,4 +1,4 @@
--- Effect of a command on the runs of a sound store.
+-- The effect of a command on the runs of a sound store.
 use Rattle.std.proofs.Common.{Option, Some, None, Ok, Err, Bool, true, false, map, ◌≡◌, ℕ, suc, List, [], ◌∷◌, ◌++◌, length, refl, sym, ap, ◌∙◌, subst, append-nil, ◌⊎◌, inl, inr}
 use Rattle.kt_cli.proofs.Common.{AllByRecursion, Entry, Run, Job, plan_fits, AreEntries, IsPlan, Trace, IsStoreFault, entry_at, AreNumbered, new_run, run_at, with_entry, put_refusal, finish_refusal, StoreCall, Began, Put, Finished, Head, LacksRun, Outline, Outputs, Pairs, outputs_of, without_outputs, RunHead, StoreFault, Command, Kind, CommandCalls, Means, stopped, listed, tested, debugged, nothing_to_debug, reported, reported_junit, EndsEarly, no_memory, cut, report_cut, text_cut, junit_cut, CommandResult, Scene, World, AllRecorded, JunitOrUnread, Reported, run_shown, pairs_shown, no_run, ReportedJunit, RunIsUnreadable, TextEndsEarly, no_pairs, no_output, asked_outputs, asked_pairs, with_new, StoreIsSound, put_all, Agrees, runs_after, puts, changed, Agree, PlannedRun, run_for, Tested, TestEndsEarly, not_begun, not_run, not_put, not_finished}
 use Rattle.kt_sched.specs.RecordOrder.{recorded as record_order}
@@ -16,12 +16,12 @@ changed-puts : (number : ℕ) (es : List Entry) (runs : List Run) → changed (p
 changed-puts number [] runs = refl
 changed-puts number (e ∷ es) runs = changed-puts number es (with_entry number e runs)
 
--- the entries of `puts` are its entries
+-- the entries that the calls `puts` put are its entries
 puts_put : (number : ℕ) (es : List Entry) (after : List StoreCall) → entries_put after ≡ [] → entries_put (puts number es ++ after) ≡ es
 puts_put number [] after n = n
 puts_put number (e ∷ es) after n = ap (λ (xs : List Entry). e ∷ xs) (puts_put number es after n)
 
--- no call of `puts` failed
+-- the calls `puts` succeed, so they meet `OnlyFails`
 puts_done : (number : ℕ) (es : List Entry) (after : List StoreCall) → AllByRecursion OnlyFails after → AllByRecursion OnlyFails (puts number es ++ after)
 puts_done number [] after all = all
 puts_done number (e ∷ es) after all = (tt, puts_done number es after all)
@@ -31,21 +31,22 @@ entries_count plan T [] [] a = refl
 entries_count plan T (p ∷ ps) (e ∷ es) a = ap suc (entries_count plan T ps es a.1)
 entries_count plan T _ _ a = absurd a
 
--- if all cases are recorded, there is an entry for each case
+-- if all cases are recorded, there are as many entries as cases
 all_count : (plan : List Job) (n : ℕ) (T : Trace) (es : List Entry) → AllRecorded plan n T es → length es ≡ length plan
 all_count plan n T es a = entries_count plan T (record_order plan n T) es a.are ∙ a.once.all
 
--- a fault with an impossible cause is a failure of the store
+-- a fault whose other cause is impossible is a store fault
 failed : (fault : StoreFault) (Q : Type 0) → IsStoreFault fault ⊎ Q → (Q → ⊥) → IsStoreFault fault ⊎ (fault ≡ StoreFull)
 failed fault Q (inl p) never = inl p
 failed fault Q (inr q) never = absurd (never q)
 
--- `Coming runs calls`: `calls` fail only with the store, and append at most one run
+-- `Coming runs calls`: each of `calls` meets `OnlyFails`, and together they append at most one run
+-- to `runs`
 record Coming (runs : List Run) (calls : List StoreCall) : Type 0 where
   only_fails : AllByRecursion OnlyFails calls
   adds : Adds runs calls
 
--- no calls change nothing
+-- an empty list of calls meets `Coming`
 none_coming : (runs : List Run) (calls : List StoreCall) → calls ≡ [] → Coming runs calls
 none_coming runs calls e = subst (λ (cs : List StoreCall). Coming runs cs) (sym e) (record { only_fails = tt; adds = none refl })
 
@@ -53,7 +54,7 @@ none_coming runs calls e = subst (λ (cs : List StoreCall). Coming runs cs) (sym
 
 module _ (runs : List Run) (h : AreNumbered 1 runs) where
   module _ (k total moment : ℕ) (n : k ≡ suc (length runs)) (es : List Entry) where
-    -- one more call after all puts changes the runs with all entries
+    -- the effect of the puts and one more call is that of this call on the runs with all entries
     after_end : (end : StoreCall) → changed (puts k es ++ end ∷ []) (runs ++ new_run runs total moment ∷ []) ≡ runs_after end (with_new runs moment total false es)
     after_end end =
         changed-append (puts k es) (end ∷ []) (runs ++ new_run runs total moment ∷ [])
@@ -64,7 +65,8 @@ module _ (runs : List Run) (h : AreNumbered 1 runs) where
         subst (λ (rs : List Run). Agrees rs end) (changed-puts k es (runs ++ new_run runs total moment ∷ []) ∙ put_new runs k total moment es h n)
         (agree_later (puts k es) (end ∷ []) (runs ++ new_run runs total moment ∷ []) a).0
 
-    -- a begun run, its puts and one more call append a run with these entries
+    -- the begin of a run, its puts and one more call meet `Coming`: they append a run with the
+    -- entries of the puts
     one_coming : (end : StoreCall) (finished : Bool) → entries_put (end ∷ []) ≡ [] → runs_after end (with_new runs moment total false es) ≡ with_new runs moment total finished es
         → (finished ≡ true → length es ≡ total) → AllByRecursion OnlyFails (end ∷ []) → Coming runs (Began total moment (Ok k) ∷ (puts k es ++ end ∷ []))
     one_coming end finished none_put is whole all = record {
@@ -121,7 +123,7 @@ outputs_change number = asked_change (λ (e : Entry). Outputs number e.position 
 outputs_done : (number : ℕ) (shown : List Entry) (after : List StoreCall) → AllByRecursion OnlyFails after → AllByRecursion OnlyFails (asked_outputs number shown ++ after)
 outputs_done number = asked_done (λ (e : Entry). Outputs number e.position (Ok (outputs_of e))) (λ e runs. refl) (λ e. tt)
 
--- no run was found
+-- the calls of a report that found no run meet `Coming`
 missing_coming : (number : Option ℕ) (runs : List Run) (calls : List StoreCall) (line : List ℕ) → LacksRun number calls line → Coming runs calls
 missing_coming number runs calls line no_last_run = record { only_fails = (tt, tt); adds = none refl }
 missing_coming number runs calls line (none_at_all wanted) = record { only_fails = (tt, (tt, tt)); adds = none refl }
@@ -193,7 +195,7 @@ module _ (seen : CommandCalls) (runs : List Run) (h : AreNumbered 1 runs) (a : A
   coming c failed bytes exit (inr (text_cut options kinds bs x u r)) = text_coming options.run runs h kinds failed seen.calls bytes exit r a
   coming c failed bytes exit (inr (junit_cut options bs x u r)) = junit_or_unread options.run runs h failed seen.calls bytes exit r a
 
--- a command on a sound store of `runs` leaves what `StoreIsSound` states
+-- a command over a sound store of `runs` meets `StoreIsSound`
 pub left_by : {W R : Type 0} (w : World W) (keep : keeping.Ghosts R) (c : Command) (old new : Scene W R) (exit : ℕ) (runs : List Run) (did : CommandResult w keep c old new exit)
     → keep.stands old.store runs → keep.sound new.store → StoreIsSound did runs
 left_by w keep c old new exit runs did h sound =

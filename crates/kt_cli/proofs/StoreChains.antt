@@ -1,14 +1,15 @@
--- Calls of a store, one after the other.
+-- The effect of sequences of store calls.
 use Rattle.std.proofs.Common.{Ok, ◌≡◌, List, [], ◌∷◌, ◌++◌, refl, sym, subst}
 use Rattle.kt_cli.proofs.Common.{Run, StoreCall, Began, Put, Finished, Head, Outline, Outputs, Pairs, chain-append, SurvivesCrash, Serves, runs_after, crash_runs_after, changed, beside, Agree, CallsStore}
 use Rattle.kt_store.specs.declared.result_store.StoreSpec as keeping
 
--- calls and then others change the runs one after the other
+-- the runs after two sequences of calls are those that the second makes of those after the first
 pub changed-append : (xs ys : List StoreCall) (runs : List Run) → changed (xs ++ ys) runs ≡ changed ys (changed xs runs)
 changed-append [] ys runs = refl
 changed-append (x ∷ xs) ys runs = changed-append xs ys (runs_after x runs)
 
--- calls and then others change what a crash may leave one after the other
+-- the crash outcomes after two sequences of calls are those that the second makes of those after
+-- the first
 pub beside-append : (xs ys : List StoreCall) (runs : List Run) (may : List (List Run)) → beside (xs ++ ys) runs may ≡ beside ys (changed xs runs) (beside xs runs may)
 beside-append [] ys runs may = refl
 beside-append (x ∷ xs) ys runs may = beside-append xs ys (runs_after x runs) (crash_runs_after x runs may)
@@ -17,12 +18,12 @@ agree_both : (xs ys : List StoreCall) (runs : List Run) → Agree runs xs → Ag
 agree_both [] ys runs a b = b
 agree_both (x ∷ xs) ys runs a b = (a.0, agree_both xs ys (runs_after x runs) a.1 b)
 
--- later calls agree with the runs that the earlier ones left
+-- if two sequences of calls agree with the runs, the second agrees with the runs after the first
 pub agree_later : (xs ys : List StoreCall) (runs : List Run) → Agree runs (xs ++ ys) → Agree (changed xs runs) ys
 agree_later [] ys runs a = a
 agree_later (x ∷ xs) ys runs a = agree_later xs ys (runs_after x runs) a.1
 
--- a crash after a call leaves the runs after it or others in `crash_runs_after`
+-- a crash after a call leaves the runs after the call, or one of `crash_runs_after`
 crash_by : {R : Type 0} (Leaves : R → List (List Run) → Type 0) (call : StoreCall) (runs : List Run) (may : List (List Run)) (a b : R) → ((m : List (List Run)) → SurvivesCrash Leaves call runs m a b) → Leaves a (runs ∷ may)
     → Leaves b (runs_after call runs ∷ crash_runs_after call runs may)
 crash_by Leaves (Began total moment (Ok number)) runs may a b h l = h may
@@ -35,11 +36,11 @@ crash_by Leaves (Outputs number position answer) runs may a b h l = h (runs ∷ 
 crash_by Leaves _ runs may a b h l = h may l
 
 module _ {R : Type 0} (keep : keeping.Ghosts R) where
-  -- no calls change nothing
+  -- an empty list of calls meets `CallsStore`
   pub stored_none : (a : R) → CallsStore keep [] a a
   stored_none a = record { answered = refl; kept = record { stands = λ runs h. h; earlier = λ runs h s. s; agree = λ runs h s. tt; crash = λ runs may h l. l } }
 
-  -- calls and then others have the effect of both
+  -- two sequences of calls that meet `CallsStore` meet it together
   pub stored_both : (xs ys : List StoreCall) (a b d : R) → CallsStore keep xs a b → CallsStore keep ys b d → CallsStore keep (xs ++ ys) a d
   stored_both xs ys a b d p q =
       let x = p.kept in
@@ -54,11 +55,11 @@ module _ {R : Type 0} (keep : keeping.Ghosts R) where
         };
       }
 
-  -- equal lists of calls have the same effect
+  -- `CallsStore` holds for an equal list of calls
   pub stored_as : (xs ys : List StoreCall) (a b : R) → xs ≡ ys → CallsStore keep xs a b → CallsStore keep ys a b
   stored_as xs ys a b e p = subst (λ (cs : List StoreCall). CallsStore keep cs a b) e p
 
-  -- one call that obeys the contract has its effect on the store
+  -- one call that meets `Serves` meets `CallsStore`
   pub stored_call : (call : StoreCall) (a b : R) → Serves keep call a b → CallsStore keep (call ∷ []) a b
   stored_call call a b s = record {
     answered = (b, s.asked, refl);

@@ -1,4 +1,4 @@
--- Commands over a world and a store.
+-- The execution of commands over a world and a store.
 use Rattle.std.proofs.Common.{Option, Some, Ok, Err, Bool, true, false, take, ◌==◌, if◌then◌else◌, ◌≡◌, ℕ, List, [], ◌∷◌, ◌++◌, refl, sym, ap, ◌∙◌, subst, ◌⊎◌, inl, inr}
 use Rattle.kt_cli.proofs.Common.{utf8, Kind, IsIdle, Job, StoreCall, Chain, Candidate, Command, ReportOptions, Entry, RunFault, NoMemory, SinkFailed, Totals, NoEvent, Trace, cases_of, needs_case, ExecutesDebug, all_debug_bytes, debug_exit, memory_line, run_line, CommandCalls, IsPrepared, OnlyListsCases, MakesNoCalls, Means, stopped, tested, debugged, reported, reported_junit, taken, MakesCallPrefix, selecting, preparing, EndsEarly, no_memory, cut, report_cut, text_cut, junit_cut, CommandResult, Says, Printed, WorldCall, leads_by, host_calls, TextOrUnread, JunitOrUnread, WritesReport, Reported, ReportedJunit, Scene, scene, World, launcher_of, Shows, ExecutesPlan, run_for, chain-append}
 use Rattle.kt_base.specs.declared.child.Role.{Role}
@@ -19,21 +19,22 @@ use Rattle.kt_args.specs.declared.command.Command.TheVariants as command
 use Rattle.kt_cli.proofs.Saying.{says_both}
 use Rattle.kt_cli.proofs.StoreChains.{stored_none, stored_as}
 
--- bytes were printed, and the exit status is the expected one, under another name
+-- `Printed` holds for an equal exit status
 pub printed_as : (was now : Option (List ℕ)) (f : Bool) (exit due : ℕ) (bytes : List ℕ) (own : ℕ) → Shows was now f bytes → due ≡ own → exit ≡ (if f then 2 else due) → Printed was now exit bytes own
 printed_as was now f exit due bytes own s k e = record { failed = f; shows = s; exits = e ∙ ap (λ (x : ℕ). if f then 2 else x) k }
 
 module _ {W : Type 0} (w : World W) where
-  -- `HasSelected c options old picked new`: the selection `picked` leads from `old` to `new`
+  -- `HasSelected c options old picked new`: the command `c` with `options` made the selection
+  -- `picked`, and its calls led the world from `old` to `new`
   abbrev HasSelected : Command → CaseOptions → W → CommandSelection → W → Type 0
   HasSelected c options old picked new = Answered (leads_by w.asks w.replies) old new (λ questions. SelectsOrShort (needs_case c) options questions (Ok picked))
 
-  -- an idle world is idle after a call of its host
+  -- a world without running children has none after a call of its host
   pub idle_after : ((s t : W) (q : Reply) → w.replies s q t → (k : ℕ) (role : Role) → w.running t k role ≡ w.running s k role) → ((s t : W) (q : Reply) → w.replies s q t → (k : ℕ) → w.pending t k ≡ w.pending s k)
       → (mid new : W) (m : Reply) → w.replies mid m new → IsIdle (w.running mid) (w.pending mid) → IsIdle (w.running new) (w.pending new)
   idle_after d e mid new m t j = record { runs = λ k role. d mid new m t k role ∙ j.runs k role; pends = λ k. e mid new m t k ∙ j.pends k }
 
-  -- a command that started no case did what its calls of the world mean
+  -- a command that started no case meets `ExecutesWithoutStore` if its world calls mean its output
   asks_only : (c : Command) (old new : W) (was now : Option (List ℕ)) (exit : ℕ) (questions : List WorldCall) (bytes : List ℕ) (due : ℕ) → Chain (leads_by w.asks w.replies) old questions new
       → (q : Printed was now exit bytes due) → Means (asked_only questions) c bytes due ⊎ EndsEarly (asked_only questions) q.failed c bytes due
       → ExecutesWithoutStore w c old new was now exit
@@ -42,7 +43,7 @@ module _ {W : Type 0} (w : World W) where
   only_asked : (questions : List WorldCall) → OnlyListsCases (asked_only questions)
   only_asked questions = record { trace = refl; calls = refl }
 
-  -- a command that a fault stopped prints the fault
+  -- a command that a fault stopped meets `ExecutesWithoutStore`
   pub stopped_only : (c : Command) (options : CaseOptions) (old new : W) (was now : Option (List ℕ)) (exit : ℕ) (fault : Stop) → cases_of c ≡ Some options
       → Answered (leads_by w.asks w.replies) old new (λ questions. SelectsOrShort (needs_case c) options questions (Err fault))
       → Printed was now exit (utf8 (stop_line fault)) (stop_exit fault) → ExecutesWithoutStore w c old new was now exit
@@ -56,20 +57,21 @@ module _ {W : Type 0} (w : World W) where
   picked_is needed options questions picked (inl s) = absurd s.0
   picked_is needed options questions picked (inr s) = s
 
-  -- a command that only selected cases did what the selection means
+  -- a command that only selected cases meets `ExecutesWithoutStore`
   pub picked_only : (c : Command) (needed : Bool) (options : CaseOptions) (old new : W) (was now : Option (List ℕ)) (exit : ℕ) (picked : CommandSelection) (bytes : List ℕ) (due : ℕ)
       → ((questions : List WorldCall) → Selects needed options questions (Ok picked) → OnlyListsCases (asked_only questions) → Means (asked_only questions) c bytes due)
       → Answered (leads_by w.asks w.replies) old new (λ questions. SelectsOrShort needed options questions (Ok picked)) → Printed was now exit bytes due → ExecutesWithoutStore w c old new was now exit
   picked_only c needed options old new was now exit picked bytes due means a p =
       asks_only c old new was now exit a.asked bytes due a.chain p (inl (means a.asked (picked_is needed options a.asked picked a.holds) (only_asked a.asked)))
 
-  -- the calls of a selection, and then the first calls about its cases
+  -- the calls of a selection, followed by the first calls about its cases, are a prefix of the
+  -- command's calls
   prepared_first : (needed : Bool) (options : CaseOptions) (questions : List WorldCall) (answers : List Reply) (picked : CommandSelection) (cases : List Candidate) → SelectsOrShort needed options questions (Ok picked) → cases ≡ taken needed picked.chosen.cases
       → SurveysFirst cases answers → MakesCallPrefix needed options (questions ++ host_calls answers)
   prepared_first needed options questions answers picked cases a same s =
       preparing questions picked answers (picked_is needed options questions picked a) (subst (λ (cs : List Candidate). SurveysFirst cs answers) same s)
 
-  -- a command ends early if an allocation fails before the plan is made
+  -- a command whose allocation failed before the plan was made meets `ExecutesWithoutStore`
   pub short_only : (c : Command) (options : CaseOptions) (old mid new : W) (was now : Option (List ℕ)) (exit : ℕ) (picked : CommandSelection) (cases : List Candidate) → cases_of c ≡ Some options
       → HasSelected c options old picked mid → cases ≡ taken (needs_case c) picked.chosen.cases → Answered w.replies mid new (λ answers. SurveysFirst cases answers)
       → Printed was now exit (utf8 memory_line) 2 → ExecutesWithoutStore w c old new was now exit
@@ -77,11 +79,12 @@ module _ {W : Type 0} (w : World W) where
       asks_only c old new was now exit (a.asked ++ host_calls b.asked) (utf8 memory_line) 2 (chain-append (leads_by w.asks w.replies) a.asked (host_calls b.asked) old mid new a.chain (chain_of_host w.asks w.replies b.asked mid new b.chain)) p
       (inr (no_memory c options e (prepared_first (needs_case c) options a.asked b.asked picked cases a.holds same b.holds) (only_asked (a.asked ++ host_calls b.asked))))
 
-  -- `Prepares picked cases plan answers`: `plan` is that of `cases`, by the host's `answers`
+  -- `Prepares picked cases plan answers`: `plan` is that of `cases` of the selection `picked`, by
+  -- the `answers` of the host about their requirements
   abbrev pub Prepares : CommandSelection → List Candidate → List Job → List Reply → Type 0
   Prepares picked cases plan answers = (host : Host) × Surveys cases answers host × ArePlanned picked.settings.config host 0 cases plan
 
-  -- the calls for the selection, for requirements, and the last ones, together
+  -- the calls for the selection, those for requirements and the last ones are together one sequence
   asks_all : (before : List WorldCall) (answers last : List Reply) (old mid asked begun : W) → Chain (leads_by w.asks w.replies) old before mid
       → Chain w.replies mid answers asked → Chain w.replies asked last begun → Chain (leads_by w.asks w.replies) old (before ++ (host_calls answers ++ host_calls last)) begun
   asks_all before answers last old mid asked begun p q r =
@@ -95,7 +98,7 @@ module _ {W : Type 0} (w : World W) where
   prepared needed options before answers last picked cases plan trace calls s p =
       record { before = before; selects = picked_is needed options before picked s; answers = answers; host = p.0; surveys = p.1; asked = refl; planned = p.2 }
 
-  -- `debug` prints its case after the case ran
+  -- a `debug` whose case ran meets `ExecutesWithoutStore`
   pub debug_only : (options : CaseOptions) (old mid begun new : W) (was now : Option (List ℕ)) (exit : ℕ) (picked : CommandSelection) (first : Candidate) (others cases some : List Candidate) (plan : List Job) (failed : Bool) (totals : Totals) (due : ℕ)
       → HasSelected (command.Debug options) options old picked mid → cases ≡ picked.chosen.cases → cases ≡ first ∷ others → some ≡ take 1 cases
       → Answered w.replies mid begun (Prepares picked some plan)
@@ -114,7 +117,7 @@ module _ {W : Type 0} (w : World W) where
         printed = record { failed = failed; shows = d.says.more; exits = e ∙ ap (λ (y : ℕ). if failed then 2 else y) (k ∙ ap (λ (y : ℕ). if y == 0 then 0 else 1) d.ends.1.bad) };
       }
 
-  -- `debug` ends early if an allocation fails before its case starts
+  -- a `debug` whose allocation failed before its case was started meets `ExecutesWithoutStore`
   pub debug_short : (options : CaseOptions) (old mid begun new : W) (was between now : Option (List ℕ)) (exit : ℕ) (picked : CommandSelection) (some : List Candidate) (plan : List Job) (f g : Bool) (fault : RunFault)
       → Answered (leads_by w.asks w.replies) old mid (λ questions. SelectsOrShort true options questions (Ok picked))
       → some ≡ take 1 picked.chosen.cases → Answered w.replies mid begun (Prepares picked some plan) → ExecutesDebug (launcher_of w) plan begun new was between f (Err fault) → Says between f now g (utf8 (run_line fault)) → exit ≡ (if g then 2 else 2)
@@ -133,7 +136,7 @@ module _ {W : Type 0} (w : World W) where
       }
 
   module _ {R : Type 0} (keep : keeping.Ghosts R) where
-    -- a command that makes no calls of the store did what `CommandResult` states
+    -- a command that makes no store calls meets `CommandResult`
     pub did_asked : (c : Command) (old new : W) (store : R) (was now : Option (List ℕ)) (exit : ℕ) → ExecutesWithoutStore w c old new was now exit → CommandResult w keep c (scene old store was) (scene new store now) exit
     did_asked c old new store was now exit t = record {
       seen = t.seen;
@@ -145,7 +148,7 @@ module _ {W : Type 0} (w : World W) where
       printed = t.printed;
     }
 
-    -- `test` did what `CommandResult` states, after its plan was run
+    -- a `test` whose plan was executed meets `CommandResult`
     pub did_test : (old new : Scene W R) (options : CaseOptions) (file : List ℕ) (mid asked begun : W) (picked : CommandSelection) (cases : List Candidate) (plan : List Job) (moment exit : ℕ)
         → HasSelected (command.Test options file) options old.world picked mid → cases ≡ picked.chosen.cases
         → Answered w.replies mid asked (Prepares picked cases plan) → w.replies asked (Now moment) begun

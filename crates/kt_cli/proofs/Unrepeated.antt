@@ -1,11 +1,11 @@
--- The entry that must come next has a position that no entry before it has.
+-- The next entry to record has a position that no entry before it has.
 use Rattle.std.proofs.Common.{Some, slice_get, count_by, take, ◌==◌, nat_le, ◌≡◌, ℕ, zero, suc, ◌≤◌, Bool, true, false, List, [], ◌∷◌, length, refl, ◌∙◌, ap, arith}
 use Rattle.kt_cli.proofs.Common.{nat_tests, option_map, slice_get-map, slice_get_within, Entry, Run, Job, IsEntry, decided, IsEntryOf, AreEntries, IsPlan, Due, recorded, Event, Trace, of, StoreFault, has_position, insert_at, put_refusal, IsStopped, with_new, put_among, by_position}
 use Rattle.kt_sched.specs.RecordOrder.{dues}
 use Rattle.kt_sched.proofs.Lists.{count-cons, counted_one}
 use Rattle.kt_cli.proofs.NewRuns.{takes_entry}
 
--- inserting an entry at another position adds no entry at this position
+-- inserting an entry with another position adds no entry with this position
 insert_none : (i : ℕ) (e : Entry) (es : List Entry) → (e.position == i) ≡ false → has_position i es ≡ false → has_position i (insert_at e es) ≡ false
 insert_none i e [] n h = grind (arith, nat_tests)
 insert_none i e (x ∷ es) n h = grind (arith, nat_tests, insert_none i e es n)
@@ -15,7 +15,7 @@ among_none i there [] t h = t
 among_none i there (e ∷ es) t h =
     among_none i (insert_at e there) es (insert_none i e there (grind (arith, nat_tests)) t) (grind (arith, nat_tests))
 
--- if a test passes once in a list, it passes nowhere before that element
+-- if a test passes at most once in a list, it passes for no element before one that passes
 none_before : (q : ℕ → Bool) (ps : List ℕ) (k p : ℕ) → slice_get ps k ≡ Some p → q p ≡ true → count_by q ps ≤ 1 → count_by q (take k ps) ≡ 0
 none_before q [] k p e t c = absurd cc
 none_before q (x ∷ ps) zero p e t c = refl
@@ -27,7 +27,7 @@ entry_at job _ _ (decided v d) = refl
 entry_at job _ _ _ = refl
 
 module _ (plan : List Job) (T : Trace) (is : IsPlan plan) where
-  -- an entry has the position of its case
+  -- the entry of a case has the case's position in the plan
   position_is : (i : ℕ) (e : Entry) → IsEntryOf plan T i e → e.position ≡ i
   position_is i e h = entry_at h.job (of i T) e h.entry_is ∙ is.placed i h.job h.place
 
@@ -36,7 +36,7 @@ module _ (plan : List Job) (T : Trace) (is : IsPlan plan) where
   none_at i (p ∷ ps) (e ∷ es) a c = grind (arith, nat_tests, position_is p e a.0, count-cons (λ p. p == i) p ps, none_at i ps es a.1)
   none_at i _ _ a c = absurd a
 
-  -- a new run accepts the entry that must come next
+  -- a new run accepts the next entry to record
   pub due_is_taken : (runs : List Run) (number moment n : ℕ) (es : List Entry) (e : Entry) (fault : StoreFault) → number ≡ suc (length runs) → IsStopped plan n T es e
       → put_refusal (with_new runs moment (length plan) false es) number e ≡ Some fault → ⊥
   due_is_taken runs number moment n es e fault k s f =

@@ -1,16 +1,16 @@
--- Error lines of commands.
+-- The error lines of commands.
 use Rattle.std.specs.Prelude.{ℕ, List, ◌++◌, codes}
 use Rattle.kt_cli.specs.Types.{StoreFault}
 use Rattle.kt_store.specs.Ask.{fault_words}
 
--- `fault_line words`: the error line with the message `words`.
+-- `fault_line words`: the error line with the message `words`, in characters.
 abbrev pub fault_line : List ℕ → List ℕ
 fault_line words = codes "kyua: E: " ++ words ++ codes "\n"
 
--- The error line of a failed allocation.
+-- The error line of a command whose allocation failed.
 abbrev pub memory_line : List ℕ
 memory_line = fault_line (codes "out of memory")
 
--- `refusal_line fault`: the error line of a call of the store that failed with `fault`.
+-- `refusal_line fault`: the error line of a command whose store call failed with `fault`.
 abbrev pub refusal_line : StoreFault → List ℕ
 refusal_line fault = fault_line (fault_words fault)

@@ -1,4 +1,4 @@
--- Results that a command gets from a machine and a system.
+-- The results of a command's world calls over a machine (files and clock) and a system (processes).
 use Rattle.std.specs.Prelude.{ℕ, Bool, false, ◌≡◌, ◌≤◌, ◌++◌, List, length, Option, Some, None, Result, Err, IfOk, bytes_eq, codes}
 use Rattle.std.proofs.Common.{ap}
 use Rattle.kt_cli.specs.Types.{Asked, Call, Ended, HostWorld, Job, Now, ReadFault, Role, StartAnswer, Reply, utf8}
@@ -13,41 +13,45 @@ use Rattle.kt_plan.specs.Reply.{ReadConfig, Lists, Finds, IsRoot, HasMemory, Has
 use Rattle.kt_suite.specs.Answers.{Read, Exists}
 use Rattle.kt_suite.specs.declared.tree.ReadFault.TheVariants.{Failed}
 
--- `is_root user`: `user`, the value of `USER`, is `root`.
+-- `is_root user`: `true` if `user`, the value of the variable `USER`, is `root`.
 abbrev pub is_root : Option (List ℕ) → Bool
 is_root None = false
 is_root (Some user) = bytes_eq user (codes "root")
 
--- `IsShort answer`: the file in `answer` has at most `read_limit` bytes.
+-- `IsShort answer`: if `answer` is the content of a file, it has at most `read_limit` bytes.
 abbrev pub IsShort : Result (List ℕ) ReadFault → Type 0
 IsShort answer = IfOk answer (λ bytes. length bytes ≤ read_limit)
 
--- `path_below directory path`: the path of a file of the tree, in bytes.
+-- `path_below directory path`: `directory`, which ends with a slash or is empty, followed by
+-- `path`, in bytes.
 abbrev pub path_below : List ℕ → List ℕ → List ℕ
 path_below directory path = utf8 directory ++ utf8 path
 
 module _ {M O : Type 0} where
-  -- `with_machine world machine`: `world` with the state `machine` of its machine.
+  -- `with_machine world machine`: `world` with its machine replaced by `machine`.
   abbrev pub with_machine : HostWorld M O → M → HostWorld M O
   with_machine world machine = record { machine = machine; directory = world.directory; driver = world.driver; around = world.around }
 
-  -- `Asks old Answered new`: from `old` to `new` only the state of the machine changed, by
-  -- `Answered`.
+  -- `Asks old Answered new`: from the world `old` to `new`, only the machine changed. The relation
+  -- `Answered` holds between its state in `old` and in `new`.
   abbrev pub Asks : HostWorld M O → (M → M → Type 0) → HostWorld M O → Type 0
   Asks old Answered new = (new ≡ with_machine old new.machine) × Answered old.machine new.machine
 
 module _ {M O : Type 0} (answers : M → HostResponse → M → Type 0) where
-  -- `IsFileCall old asked new`: the tree's call `asked` is one of the machine, about the path below the
-  -- Kyuafile's directory.
+  -- `IsFileCall answers old asked new`: `asked`, a call for a file below the Kyuafile's directory,
+  -- leads the world from `old` to `new`. The world makes the call of the machine for the joined
+  -- path. `answers` is the relation of the machine.
   abbrev pub IsFileCall : HostWorld M O → Asked → HostWorld M O → Type 0
   IsFileCall old (Read path answer) new =
       Asks old (CallsAtPath answers (path_below old.directory path) (FrontOf (path_below old.directory path) answer) (answer ≡ Err Failed)) new × IsShort answer
   IsFileCall old (Exists path answer) new =
       Asks old (CallsAtPath answers (path_below old.directory path) (IsFile (path_below old.directory path) answer) (answer ≡ false)) new
 
-  -- `IsHostAnswer leads old reply new`: the world's call `reply` with its result leads from `old`
-  -- to `new`. A list of cases changes only the driver. Configuration files and required files are
-  -- looked up at their own paths, programs by `IsFoundByPath`. Memory and disk space are unknown.
+  -- `IsHostAnswer answers leads old reply new`: the world's call `reply` with its result leads the
+  -- world from `old` to `new`. Listing the cases of a program changes only the driver.
+  -- Configuration files and required files are looked up at their own paths, and required programs
+  -- by `IsFoundByPath`. The results for memory and disk space are always `None`. `answers` and
+  -- `leads` are the relations of the machine and the system.
   abbrev pub IsHostAnswer : (O → Call → O → Type 0) → HostWorld M O → Reply → HostWorld M O → Type 0
   IsHostAnswer leads old (ReadConfig path answer) new = Asks old (λ m n. answers m (FrontOf (utf8 path) answer) n) new × IsShort answer
   IsHostAnswer leads old (Lists program variables answer) new =
@@ -60,19 +64,21 @@ module _ {M O : Type 0} (answers : M → HostResponse → M → Type 0) where
   IsHostAnswer leads old (Now moment) new = Asks old (λ m n. answers m (HasMoment moment) n) new
 
 module _ {M O : Type 0} (leads : O → Call → O → Type 0) where
-  -- `HostStarts old job role answer new`: the driver of the world starts a child, and nothing else
+  -- `HostStarts leads old job role answer new`: the driver of the world `old` starts the child of
+  -- `job` and `role` with the result `answer`, which leads to `new`. Nothing else in the world
   -- changes.
   abbrev pub HostStarts : HostWorld M O → Job → Role → StartAnswer → HostWorld M O → Type 0
   HostStarts old job role answer new =
       DriverStarts leads old.driver job role answer new.driver × (new.machine ≡ old.machine) × (new.directory ≡ old.directory) × (new.around ≡ old.around)
 
-  -- `HostWaits old ended new`: the driver of the world waits for a child, and nothing else changes.
+  -- `HostWaits leads old ended new`: the driver of the world `old` waits for a child with the
+  -- result `ended`, which leads to `new`. Nothing else in the world changes.
   abbrev pub HostWaits : HostWorld M O → Ended → HostWorld M O → Type 0
   HostWaits old ended new = DriverWaits leads old.driver ended new.driver × (new.machine ≡ old.machine) × (new.directory ≡ old.directory) × (new.around ≡ old.around)
 
 module _ {M O : Type 0} where
-  -- `host_world m o`: the relations of a world over a machine and a system, from their relations
-  -- `m` and `o`.
+  -- `host_world m o`: the relations of a `HostWorld`, from those of its machine, `m`, and those of
+  -- its system, `o`.
   abbrev pub host_world : machine.Ghosts M → system.Ghosts O → World (HostWorld M O)
   host_world m o = record {
     running = λ w. shown_in w.driver.running;
@@ -83,16 +89,18 @@ module _ {M O : Type 0} where
     replies = IsHostAnswer m.answers o.leads;
   }
 
-  -- `asked_kept old new`: a call of the machine does not change which children run.
+  -- `asked_kept old new`: theorem: a call of the machine does not change which children run.
   asked_kept : (old new : HostWorld M O) → new ≡ with_machine old new.machine → new.driver.running ≡ old.driver.running
   asked_kept old new h = ap (λ (w : HostWorld M O). w.driver.running) h
 
-  -- `look_kept answers old new asked`: no call of the tree changes which children run.
+  -- `look_kept answers old new asked`: theorem: the call `asked` for a file does not change which
+  -- children run.
   pub look_kept : (answers : M → HostResponse → M → Type 0) (old new : HostWorld M O) (asked : Asked) → IsFileCall answers old asked new → new.driver.running ≡ old.driver.running
   look_kept answers old new (Read path answer) h = asked_kept old new h.0.0
   look_kept answers old new (Exists path answer) h = asked_kept old new h.0
 
-  -- `running_kept answers leads old new answer`: no call of the world changes which children run.
+  -- `running_kept answers leads old new answer`: theorem: the world's call `answer` does not change
+  -- which children run.
   pub running_kept : (answers : M → HostResponse → M → Type 0) (leads : O → Call → O → Type 0) (old new : HostWorld M O) (answer : Reply) → IsHostAnswer answers leads old answer new
       → new.driver.running ≡ old.driver.running
   running_kept answers leads old new (ReadConfig path answer) h = asked_kept old new h.0.0

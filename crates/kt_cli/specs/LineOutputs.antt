@@ -1,45 +1,52 @@
--- A buffered writer, which may write line by line.
+-- The state of a `LineOutput`, a buffered writer that may write line by line.
 use Rattle.std.specs.Prelude.{ℕ, Bool, true, false, List, [], ◌≡◌, ◌<◌, ◌||◌, Option, Some, None, length, is_some}
 use Rattle.std.specs.Io.KnownBytes.{append_known}
 use Rattle.kt_cli.specs.declared.output.flushing.FlushFault.{FlushFault}
 use Rattle.kt_cli.specs.declared.output.line_output.LineOutput.{LineOutput}
 
--- `unwritten l`: the bytes that `l` was given and that are not written. After a failure they never
--- are.
+-- `unwritten l`: the bytes that were given to the writer `l` and are not written to its inner
+-- writer yet. After a failure they are never written.
 abbrev pub unwritten : {W : Type 0} → LineOutput W → List ℕ
 unwritten l = l.held
 
--- `has_failed l`: a write of `l` has failed.
+-- `has_failed l`: `true` if a write of the inner writer of `l` has failed.
 abbrev pub has_failed : {W : Type 0} → LineOutput W → Bool
 has_failed l = l.failed
 
--- `unflushed l`: the fault of the inner writer's flush, if it failed.
+-- `unflushed l`: the fault of the flush of the inner writer of `l`, or `None` if no flush failed.
 abbrev pub unflushed : {W : Type 0} → LineOutput W → Option FlushFault
 unflushed l = l.unflushed
 
--- `is_broken l`: a call has failed, and `l` writes nothing more.
+-- `is_broken l`: `true` if a write or a flush of the inner writer of `l` has failed. Then `l`
+-- writes nothing more.
 abbrev pub is_broken : {W : Type 0} → LineOutput W → Bool
 is_broken l = has_failed l || is_some (unflushed l)
 
--- `given_bytes contents l`: all bytes that `l` was given: the written ones and then the others.
+-- `given_bytes contents l`: all bytes that were given to `l`: those in the inner writer, followed
+-- by the unwritten bytes. `contents` returns the content of the inner writer, `None` if it is
+-- unknown.
 abbrev pub given_bytes : {W : Type 0} → (W → Option (List ℕ)) → LineOutput W → Option (List ℕ)
 given_bytes contents l = append_known (contents l.out) (unwritten l)
 
--- The state of a buffered writer: all given bytes, the unwritten bytes, whether a write failed, and
--- the fault of the inner writer's flush.
+-- The state of a buffered writer: all bytes that were given to the writer, and the unwritten ones
+-- among them. `failed` is whether a write of the inner writer failed, and `unflushed` is the fault
+-- of its flush.
 pub record LineState : Type 0 where
   pub given : Option (List ℕ)
   pub unwritten : List ℕ
   pub failed : Bool
   pub unflushed : Option FlushFault
 
--- `line_state contents l`: the state of `l`.
+-- `line_state contents l`: the state of the writer `l`. `contents` returns the content of the inner
+-- writer, `None` if it is unknown.
 abbrev pub line_state : {W : Type 0} → (W → Option (List ℕ)) → LineOutput W → LineState
 line_state contents l = record { given = given_bytes contents l; unwritten = unwritten l; failed = has_failed l; unflushed = unflushed l }
 
--- `FlushResult failed flush unwritten fails`: the result `fails` of a flush, by the state after it.
--- Either all bytes are written, or a write has failed and some bytes are unwritten, or the flush of
--- the inner writer failed.
+-- `FlushResult failed flush unwritten fails`: `fails` is whether a flush failed. After the flush,
+-- `failed` is whether a write has failed, `flush` is the fault of the inner writer's flush, and
+-- `unwritten` are the unwritten bytes. Without both faults, all bytes are written and the flush
+-- succeeded. If a write has failed, bytes are unwritten and the flush failed. If only the inner
+-- flush failed, the flush failed.
 abbrev pub FlushResult : Bool → Option FlushFault → List ℕ → Bool → Type 0
 FlushResult false None unwritten fails = (unwritten ≡ []) × (fails ≡ false)
 FlushResult true flush unwritten fails = (0 < length unwritten) × (fails ≡ true)

@@ -1,4 +1,5 @@
--- The meaning of a command: its output and its exit status, by the results of its calls.
+-- The meaning of a command: its output and its exit status, as functions of the results of its
+-- calls.
 use Rattle.std.specs.Prelude.{ℕ, Bool, true, false, List, [], ◌∷◌, ◌++◌, ◌≡◌, ◌⊎◌, Some, Ok, Err, take, flat_map, if◌then◌else◌}
 use Rattle.kt_cli.specs.Types.{Candidate, CaseOptions, Chain, Command, Entry, Job, Kind, Leads, NoEvent, Now, CommandSelection, WorldCall, Stop, StoreCall, Reply, Trace, cases_of, leads_by, needs_case, utf8}
 use Rattle.kt_metadata.specs.declared.host.Host.{Host}
@@ -21,31 +22,36 @@ use Rattle.kt_cli.specs.Stores.{CallsStore}
 use Rattle.kt_cli.specs.Testing.{all_matched, run_for, Tested, TestEndsEarly}
 use Rattle.kt_cli.specs.Warnings.{warnings}
 
--- The calls of one command with their results, each list in order: of the world, of the launcher
--- with its plan, and of the store.
+-- The calls of one command with their results, each list in order. `questions` are the calls of the
+-- world, and `calls` are those of the store. `plan` and `trace` are the jobs and the events of the
+-- launcher.
 pub record CommandCalls : Type 0 where
   pub questions : List WorldCall
   pub plan : List Job
   pub trace : Trace
   pub calls : List StoreCall
 
--- `LeadsWorld w seen old new`: the calls `seen` lead the world from `old` to `new`.
+-- `LeadsWorld w seen old new`: the calls `seen` lead the world from state `old` to `new`: first the
+-- questions, then the events of the launcher. `w` has the relations of the world.
 pub record LeadsWorld {W : Type 0} (w : World W) (seen : CommandCalls) (old new : W) : Type 0 where
   pub begun : W
   pub asked : Chain (leads_by w.asks w.replies) old seen.questions begun
   pub ran : Leads w.starts w.waits seen.plan seen.trace begun new
 
--- `listing words chosen`: a line for each selected case, and a warning for each filter in `words`
--- that selects none.
+-- `listing words chosen`: the output of `list`: a line for each case of the selection `chosen`, and
+-- a warning for each of the filters `words` that selects none.
 abbrev pub listing : List (List ℕ) → Chosen → List ℕ
 listing words chosen = utf8 (flat_map case_line chosen.cases) ++ utf8 (warnings words chosen.unmatched)
 
--- `listing_exit chosen`: 0 if each filter selects a case, else 1.
+-- `listing_exit chosen`: the exit status of `list`: 0 if each filter of the selection `chosen`
+-- selects a case, else 1.
 abbrev pub listing_exit : Chosen → ℕ
 listing_exit chosen = if all_matched chosen.unmatched then 0 else 1
 
--- `IsPrepared needed options seen picked cases last`: `cases` were selected, the host was queried
--- for their requirements, then the calls `last` were made, and the plan is that of `cases`.
+-- `IsPrepared needed options seen picked cases last`: the questions in `seen` are those of the
+-- selection `picked` by `options`, then those for the requirements of `cases`, then `last`. The
+-- plan in `seen` is that of `cases`. `needed` is `true` for `debug`, which needs exactly one filter
+-- that names a case.
 pub record IsPrepared (needed : Bool) (options : CaseOptions) (seen : CommandCalls) (picked : CommandSelection) (cases : List Candidate) (last : List Reply) : Type 0 where
   pub before : List WorldCall
   pub selects : Selects needed options before (Ok picked)
@@ -55,18 +61,20 @@ pub record IsPrepared (needed : Bool) (options : CaseOptions) (seen : CommandCal
   pub asked : seen.questions ≡ before ++ (host_calls answers ++ host_calls last)
   pub planned : ArePlanned picked.settings.config host 0 cases seen.plan
 
--- `OnlyListsCases seen`: no case was started and the store was not called. Programs may have listed
--- their cases.
+-- `OnlyListsCases seen`: by the calls `seen`, no case was started and the store was not called.
+-- Programs may have listed their cases.
 pub record OnlyListsCases (seen : CommandCalls) : Type 0 where
   pub trace : seen.trace ≡ NoEvent
   pub calls : seen.calls ≡ []
 
--- `MakesNoCalls seen`: the world was not called and no case was started.
+-- `MakesNoCalls seen`: by the calls `seen`, the world was not called and no case was started. The
+-- store may have been called.
 pub record MakesNoCalls (seen : CommandCalls) : Type 0 where
   pub questions : seen.questions ≡ []
   pub trace : seen.trace ≡ NoEvent
 
--- `Means seen c bytes exit`: `c` prints `bytes` and has the status `exit`, by the calls `seen`.
+-- `Means seen c bytes exit`: by the calls `seen`, the command `c` prints `bytes` and has the exit
+-- status `exit`, without an early end. Each constructor is one kind of command or outcome.
 pub data Means (seen : CommandCalls) : Command → List ℕ → ℕ → Type 0 where
   stopped : (c : Command) (options : CaseOptions) (fault : Stop) → cases_of c ≡ Some options → Selects (needs_case c) options seen.questions (Err fault) → OnlyListsCases seen
       → Means seen c (utf8 (stop_line fault)) (stop_exit fault)
@@ -85,21 +93,23 @@ pub data Means (seen : CommandCalls) : Command → List ℕ → ℕ → Type 0 w
   reported_junit : (options : ReportOptions) (bytes : List ℕ) (exit : ℕ) → MakesNoCalls seen → ReportedJunit options.run seen.calls bytes exit
       → Means seen (command.ReportJunit options) bytes exit
 
--- `taken needed cases`: the selected cases that a command runs: all, or the first for `debug`
--- (`needed`).
+-- `taken needed cases`: those of the selected `cases` that a command runs: the first if `needed` is
+-- `true`, as for `debug`, else all.
 abbrev pub taken : Bool → List Candidate → List Candidate
 taken false cases = cases
 taken true cases = take 1 cases
 
--- `MakesCallPrefix needed options questions`: `questions` are the calls of a command over test cases up
--- to a failed allocation. The calls for the cases come first, then those for their requirements.
+-- `MakesCallPrefix needed options questions`: `questions` are a prefix of the world calls of a
+-- command with `options`, up to a failed allocation. The calls that select cases come first, then
+-- those for the requirements of the cases. `needed` is `true` for `debug`.
 pub data MakesCallPrefix (needed : Bool) (options : CaseOptions) : List WorldCall → Type 0 where
   selecting : (questions : List WorldCall) → SelectsFirst needed options questions → MakesCallPrefix needed options questions
   preparing : (before : List WorldCall) (picked : CommandSelection) (answers : List Reply) → Selects needed options before (Ok picked)
       → SurveysFirst (taken needed picked.chosen.cases) answers → MakesCallPrefix needed options (before ++ host_calls answers)
 
--- `EndsEarly seen failed c bytes exit`: a failed allocation, the store, or a `failed` writer ends
--- `c` early, with `bytes` and `exit`. After a failed write a report makes no more calls of the
+-- `EndsEarly seen failed c bytes exit`: by the calls `seen`, the command `c` ends early with the
+-- output `bytes` and the exit status `exit`. The cause is a failed allocation, a failed call of the
+-- store, or a failed write (`failed`). After a failed write a report makes no more calls of the
 -- store.
 pub data EndsEarly (seen : CommandCalls) (failed : Bool) : Command → List ℕ → ℕ → Type 0 where
   no_memory : (c : Command) (options : CaseOptions) → cases_of c ≡ Some options → MakesCallPrefix (needs_case c) options seen.questions → OnlyListsCases seen
@@ -115,9 +125,10 @@ pub data EndsEarly (seen : CommandCalls) (failed : Bool) : Command → List ℕ 
       → EndsEarly seen failed (command.ReportJunit options) bytes exit
 
 module _ {W R : Type 0} (w : World W) (r : keeping.Ghosts R) where
-  -- `CommandResult w r c old new exit`: `execute` ran `c`, with the calls `seen`, which include those of the
-  -- store. The output is what `c` means, or `c` ended early. A failed writer has a proper prefix of
-  -- the output. `stored` states the effect on the runs, and nothing else depends on the store.
+  -- `CommandResult w r c old new exit`: `execute` ran the command `c` from scene `old` to `new`
+  -- with the exit status `exit`. `seen` are its calls. The output is that of `Means` or
+  -- `EndsEarly`. If a write failed, the writer has a proper prefix of the output. `stored` states
+  -- the effect on the runs, and no other field depends on what the store contains.
   pub record CommandResult (c : Command) (old new : Scene W R) (exit : ℕ) : Type 0 where
     pub seen : CommandCalls
     pub course : LeadsWorld w seen old.world new.world

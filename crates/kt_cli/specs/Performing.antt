@@ -1,4 +1,4 @@
--- The whole program: it opens the results, executes the command and closes the results, or it
+-- The whole program: it opens the results file, executes the command and closes the file, or
 -- rejects the arguments.
 use Rattle.std.specs.Prelude.{ℕ, Bool, false, List, ◌≡◌, Option, None, Ok, Err, [], Some, Result, if◌then◌else◌}
 use Rattle.std.specs.Io.KnownBytes.{Keeps}
@@ -31,8 +31,9 @@ use Rattle.kt_cli.specs.Platforms.{Opened, Closed, Found}
 use Rattle.kt_cli.specs.Refused.{driver_line, command_text, failure_exit, wrong_words_exit, Refused}
 use Rattle.kt_cli.specs.Scenes.{Scene, scene, with_world, with_store, World}
 
--- The relations of the parts of a program: its machine, its system, its platform, and the results
--- that the platform opens.
+-- The relations of the parts of a program: `machine` (files and clock), `system` (processes) and
+-- `platform` (results files and environment). `results` has those of the stores that the platform
+-- opens.
 pub record Program (M O P S : Type 0) : Type 1 where
   pub machine : machine.Ghosts M
   pub system : system.Ghosts O
@@ -40,22 +41,24 @@ pub record Program (M O P S : Type 0) : Type 1 where
   pub results : keeping.Ghosts S
 
 module _ {M O P S : Type 0} where
-  -- `program machine system platform results`: a program of these parts.
+  -- `program machine system platform results`: the `Program` with the relations of these parts.
   abbrev pub program : machine.Ghosts M → system.Ghosts O → platform.Ghosts P S → keeping.Ghosts S → Program M O P S
   program machine system platform results = record { machine = machine; system = system; platform = platform; results = results }
 
--- The state before or after a command: the platform, and the handles to the host.
+-- The state of a program before or after a command: its platform, and its handles of the host
+-- (`outside`).
 pub record State (M O P : Type 0) : Type 0 where
   pub platform : P
   pub outside : HostHandles M O
 
--- `state platform outside`: a state of these parts.
+-- `state platform outside`: the `State` with these parts.
 abbrev pub state : {M O P : Type 0} → P → HostHandles M O → State M O P
 state platform outside = record { platform = platform; outside = outside }
 
 module _ {O : Type 0} (o : system.Ghosts O) (os : O) where
-  -- `IsMade here base kyuafile d`: `d` is a new driver for the programs of `kyuafile`, with a new
-  -- root directory in `base`.
+  -- `IsMade o os here base kyuafile d`: `d` is a new driver for the programs of `kyuafile`, made
+  -- from the system `os` with a new root directory in `base`. `here` is the working directory, and
+  -- no child runs.
   pub record IsMade (here base kyuafile : List ℕ) (d : Driver O) : Type 0 where
     pub calls : List Call
     pub asked : Chain o.leads os calls d.os
@@ -64,23 +67,26 @@ module _ {O : Type 0} (o : system.Ghosts O) (os : O) where
     pub first : d.next ≡ 0
     pub none_runs : d.running ≡ idle_state
 
-  -- `NoRoot base fault left`: no driver was created, because `base` is not absolute, no root
-  -- directory could be created in it, or an allocation failed. `left` is the system afterwards.
+  -- `NoRoot o os base fault left`: no driver was created, because `base` is not absolute, no root
+  -- directory could be created in `base`, or an allocation failed. `fault` is the cause. `os` and
+  -- `left` are the system before and after.
   pub data NoRoot (base : List ℕ) : DriverFault → O → Type 0 where
     not_absolute : is_absolute base ≡ false → NoRoot base NoWorkDirectory os
     none_made : (fault : DriverFault) (calls : List Call) (left : O) → Chain o.leads os calls left → FindsRoot base calls (Err fault) → NoRoot base fault left
 
 module _ {M O : Type 0} (o : system.Ghosts O) (before : HostHandles M O) where
-  -- `NoDriver base fault after`: no driver was created, and the machine was not called.
+  -- `NoDriver o before base fault after`: no driver with a root directory in `base` was created,
+  -- because of `fault`, and the machine was not called. `before` and `after` are the handles of the
+  -- host.
   abbrev pub NoDriver : List ℕ → DriverFault → HostHandles M O → Type 0
   NoDriver base fault after = NoRoot o before.os base fault after.os × (after.machine ≡ before.machine)
 
 module _ {M O R : Type 0} (m : machine.Ghosts M) (o : system.Ghosts O) (r : keeping.Ghosts R) (before after : Scene (HostHandles M O) R) where
-  -- `ExecutesOverDriver around options c exit`: `c` was executed over the files below its Kyuafile's
-  -- directory and over a new driver, whose root directory was removed afterwards. Nothing else was
-  -- called. The calls of the driver are those for the events of the trace, from a state without
-  -- running children. Each poll and kill belongs to one child, and each outcome is that of the
-  -- table for the child's results.
+  -- `ExecutesOverDriver m o r before after around options c exit`: from scene `before` to `after`,
+  -- the command `c` with `options` was executed in the process environment `around`, and its exit
+  -- status is `exit`. `c` used the files below its Kyuafile's directory, and a new driver, whose
+  -- root directory was removed at the end. Nothing else was called. The calls of the driver's
+  -- system are those for the events of the trace, from a state without running children.
   pub record ExecutesOverDriver (around : ProcessEnv) (options : CaseOptions) (c : Command) (exit : ℕ) : Type 0 where
     pub old : HostWorld M O
     pub new : HostWorld M O
@@ -93,15 +99,16 @@ module _ {M O R : Type 0} (m : machine.Ghosts M) (o : system.Ghosts O) (r : keep
     pub left : after.world.machine ≡ new.machine
     pub closed : (done : Bool) × o.leads new.driver.os (RemoveTree new.driver.root done) after.world.os
 
--- A world that can't be called.
+-- The relations of a world that can't be called.
 abbrev pub no_world : World (Unit {0})
 no_world = record { running = λ w k role. None; pending = λ w k. false; starts = λ w job role answer v. ⊥; waits = λ w ended v. ⊥; asks = λ w asked v. ⊥; replies = λ w answer v. ⊥ }
 
 module _ {M O P S R : Type 0} (p : Program M O P S) (r : keeping.Ghosts R) where
-  -- `OverProcesses c old new exit`: `c` was executed over a store. A report needs only the store. A
-  -- command over test cases also gets the surroundings of the process and a new driver. Without
-  -- these, an error line is printed and the store is unchanged. Nothing else of the machine and the
-  -- system is called.
+  -- `OverProcesses p r c old new exit`: from scene `old` to `new`, the command `c` was executed
+  -- over a store with the specification `r`, and its exit status is `exit`. A report uses only the
+  -- store. A command over test cases also reads the working directory and the environment of the
+  -- process, and creates a driver. If one of these steps fails, an error line is printed, and the
+  -- store is unchanged.
   pub data OverProcesses (c : Command) (old new : Scene (State M O P) R) (exit : ℕ) : Type 0 where
     needs_nothing : cases_of c ≡ None → new.world ≡ old.world → CommandResult no_world r c (with_world tt old) (with_world tt new) exit → OverProcesses c old new exit
     done : (options : CaseOptions) (around : ProcessEnv) → cases_of c ≡ Some options → p.platform.provides old.world.platform (Found (Ok around)) new.world.platform
@@ -112,16 +119,18 @@ module _ {M O P S R : Type 0} (p : Program M O P S) (r : keeping.Ghosts R) where
         → NoDriver p.system old.world.outside options.work fault new.world.outside → new.store ≡ old.store → Printed old.held new.held exit (utf8 (driver_line fault)) failure_exit
         → OverProcesses c old new exit
 
--- `FlushesOutput held now due exit`: all bytes for standard output were written, and `exit` is `due`. If
--- some bytes are unwritten, or the flush failed, `exit` is 2.
+-- `FlushesOutput held now due exit`: a flush of standard output, which had been given `held`, led
+-- to the state `now`. If all bytes were written, `exit` is `due`. If some bytes are unwritten, or
+-- the flush failed, `exit` is 2.
 pub record FlushesOutput (held : Option (List ℕ)) (now : LineState) (due exit : ℕ) : Type 0 where
   pub kept : Keeps held now.given
   pub failed : Bool
   pub ends : FlushResult now.failed now.unflushed now.unwritten failed
   pub exits : exit ≡ (if failed then failure_exit else due)
 
--- `PrintsShortage was now exit`: an allocation failed while the arguments were parsed, and an error
--- line is printed on standard output.
+-- `PrintsShortage was now exit`: an allocation failed while the arguments were parsed. The
+-- out-of-memory line was printed on standard output and flushed, which led from the given bytes
+-- `was` to the state `now`. `exit` is the exit status.
 pub record PrintsShortage (was : Option (List ℕ)) (now : LineState) (exit : ℕ) : Type 0 where
   pub held : Option (List ℕ)
   pub due : ℕ
@@ -133,21 +142,23 @@ pub record Streams : Type 0 where
   pub out : LineState
   pub errors : Option (List ℕ)
 
--- `Rejected fault was now exit`: the `fault` of the arguments is printed on standard error, and
--- nothing on standard output. A failed allocation is printed on standard output instead.
+-- `Rejected fault was now exit`: arguments were rejected with `fault`, and `exit` is the exit
+-- status. From the streams `was` to `now`, the text of `fault` was printed on standard error, and
+-- nothing on standard output. An out-of-memory fault was printed on standard output instead.
 abbrev pub Rejected : CommandFault → Streams → Streams → ℕ → Type 0
 Rejected (command.NoMemory shortage) was now exit = PrintsShortage was.out.given now.out exit × (now.errors ≡ was.errors)
 Rejected fault was now exit = Refused was.errors now.errors exit (utf8 (command_text fault)) wrong_words_exit × (now.out.given ≡ was.out.given)
 
--- `access_of c`: `test` adds a run to its results file, another command only reads.
+-- `access_of c`: the access with which the command `c` opens its results file: `Record` for `test`,
+-- else `Read`.
 abbrev pub access_of : Command → Access
 access_of (Test options file) = Record
 access_of _ = Read
 
 module _ {M O P S : Type 0} (p : Program M O P S) where
-  -- `WithResults c file old new exit`: the results in `file` were opened, `c` was executed, and the
-  -- results were closed once. If the open failed, an error line is printed, and nothing else is
-  -- done.
+  -- `WithResults p c file old new exit`: from scene `old` to `new`, the results file `file` was
+  -- opened, the command `c` was executed, and the file was closed once. `exit` is the exit status.
+  -- If the open failed, an error line was printed, and nothing else was called.
   pub data WithResults (c : Command) (file : List ℕ) (old new : Scene (State M O P) (Unit {0})) (exit : ℕ) : Type 0 where
     not_opened : (fault : StoreFault) → p.platform.provides old.world.platform (Opened file (access_of c) (Err fault)) new.world.platform → new.world.outside ≡ old.world.outside
         → Printed old.held new.held exit (utf8 (refusal_line fault)) failure_exit → WithResults c file old new exit
@@ -156,21 +167,25 @@ module _ {M O P S : Type 0} (p : Program M O P S) where
         → OverProcesses p p.results c (scene (state begun old.world.outside) store old.held) (scene (state done new.world.outside) after held) due
         → p.platform.provides done (Closed after answer) new.world.platform → ClosesResults answer held new.held due exit → WithResults c file old new exit
 
-  -- `RunsCommand c file old new exit`: `c` was executed over the results in `file`, or, without a file,
-  -- over an empty store in memory.
+  -- `RunsCommand p c file old new exit`: from scene `old` to `new`, the command `c` was executed
+  -- over the results file `file`. Without a file, `c` was executed over an empty store in memory.
+  -- `exit` is the exit status.
   abbrev pub RunsCommand : Command → Option (List ℕ) → Scene (State M O P) (Unit {0}) → Scene (State M O P) (Unit {0}) → ℕ → Type 0
   RunsCommand c (Some file) old new exit = WithResults c file old new exit
   RunsCommand c None old new exit = (after : List Run) × OverProcesses p memory_runs c (with_store [] old) (with_store after new) exit
 
-  -- `ExecutesAndWrites c old new was now exit`: `c` was executed, and then all its output was written.
+  -- `ExecutesAndWrites p c old new was now exit`: from state `old` to `new`, the command `c` was
+  -- executed, and then its output was flushed. Standard output had been given `was`, and its state
+  -- is then `now`. `exit` is the exit status.
   pub record ExecutesAndWrites (c : Command) (old new : State M O P) (was : Option (List ℕ)) (now : LineState) (exit : ℕ) : Type 0 where
     pub held : Option (List ℕ)
     pub due : ℕ
     pub done : RunsCommand c (results_of c) (scene old tt was) (scene new tt held) due
     pub flushed : FlushesOutput held now due exit
 
-  -- `RunsArguments command old new was now exit`: the `command` in the arguments was executed, or its
-  -- fault was printed and nothing was called.
+  -- `RunsArguments p command old new was now exit`: `command`, the parse of the arguments, was
+  -- executed from state `old` to `new`, or its fault was printed and nothing was called. `was` and
+  -- `now` are the streams before and after, and `exit` is the exit status.
   abbrev pub RunsArguments : Result Command CommandFault → State M O P → State M O P → Streams → Streams → ℕ → Type 0
   RunsArguments (Ok c) old new was now exit = ExecutesAndWrites c old new was.out.given now.out exit × (now.errors ≡ was.errors)
   RunsArguments (Err fault) old new was now exit = Rejected fault was now exit × (new ≡ old)

@@ -3,10 +3,11 @@ use Rattle.std.specs.Prelude.{ℕ, List, ◌++◌, codes, if◌then◌else◌}
 use Rattle.kt_cli.specs.Types.{is_absolute}
 use Rattle.kt_suite.specs.Paths.{parent_of}
 
--- `absolute here path`: the absolute form of `path`, with `here` as the working directory.
+-- `absolute here path`: `path` if it is absolute, else `path` below the working directory `here`.
 abbrev pub absolute : List ℕ → List ℕ → List ℕ
 absolute here path = if is_absolute path then path else here ++ codes "/" ++ path
 
--- `source_directory here kyuafile`: the directory of `kyuafile`, without a slash at its end.
+-- `source_directory here kyuafile`: the absolute path of the directory of `kyuafile`, without a
+-- slash at its end. `here` is the working directory.
 abbrev pub source_directory : List ℕ → List ℕ → List ℕ
 source_directory here kyuafile = parent_of (absolute here kyuafile)

@@ -1,4 +1,4 @@
--- Calls of the program's platform.
+-- The calls of a platform, which opens results files and reads the environment of the process.
 use Rattle.std.specs.Prelude.{ℕ, ◌⊎◌, ◌≡◌, List, Result, Ok, Err}
 use Rattle.sqlite_disk.specs.declared.Disk as disk
 use Rattle.sqlite_store.specs.declared.store.FileStore.{FileStore}
@@ -8,17 +8,18 @@ use Rattle.kt_store.specs.Files.{Ends, Finds}
 use Rattle.kt_store.specs.declared.store_fault.StoreFault.TheVariants.{UnknownSchema}
 use Rattle.kt_cli.specs.Around.{IsFound}
 
--- A call of a platform with its result: to open a results file, to close it, and to read the
--- surroundings of the process.
+-- A call of a platform with its result (`answer`): open a results file, close it, or read the
+-- working directory and environment of the process.
 pub data HostCall (S : Type 0) : Type 0 where
   Opened : (file : List ℕ) (access : Access) (answer : Result S StoreFault) → HostCall S
   Closed : (results : S) (answer : Result (Unit {0}) StoreFault) → HostCall S
   Found : (answer : Result ProcessEnv DriverFault) → HostCall S
 
--- `IsHostOfFiles path image call`: the results of a platform that stores runs in files, of which the file
--- at `path` has the content `image`. An opened store has the runs of that file. After a close only
--- the database file has the runs. A fault comes from a failed statement or allocation, or is an
--- unknown schema.
+-- `IsHostOfFiles path image call`: the result of `call` is that of a platform that stores runs in
+-- files. The results file at `path` has the content `image`, and a store that is opened at `path`
+-- has the runs of this file. After a close, the database file alone has the runs. An open fails
+-- only with out of memory, a failed database or an unknown schema. A close fails only with one of
+-- the first two. The working directory and the environment meet `IsFound`.
 abbrev pub IsHostOfFiles : {D : Type 0} {g : disk.Ghosts D} → List ℕ → Image → HostCall (FileStore D g) → Type 0
 IsHostOfFiles path image (Opened file access (Ok results)) = file ≡ path → Finds image results
 IsHostOfFiles path image (Opened file access (Err fault)) = IsStoreFault fault ⊎ (fault ≡ UnknownSchema)

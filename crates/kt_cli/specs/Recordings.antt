@@ -1,4 +1,4 @@
--- Recording of a plan's cases.
+-- The entries that are recorded for a plan and a trace.
 use Rattle.std.specs.Prelude.{ℕ, List, ◌==◌, ◌≡◌, ◌≤◌, Some, count_by, length, take, slice_get}
 use Rattle.kt_cli.specs.Types.{Entry, Job, Trace}
 use Rattle.kt_sched.specs.EntryOf.{IsEntryOf, AreEntries}
@@ -6,15 +6,17 @@ use Rattle.kt_sched.specs.RecordOrder.{Due, dues, recorded}
 use Rattle.kt_sched.specs.Run.{NamesEachOnce}
 use Rattle.kt_sched.specs.ScheduleRules.{Legal, Stopped}
 
--- `AllRecorded plan n T entries`: the trace `T` is legal at width `n`, and each case of `plan` is
--- recorded once, with the verdict that its events give.
+-- `AllRecorded plan n T entries`: the trace `T` of `plan` is legal at width `n`. `entries` has one
+-- entry for each case of `plan`, in record order, with the verdict that follows from the case's
+-- events.
 pub record AllRecorded (plan : List Job) (n : ℕ) (T : Trace) (entries : List Entry) : Type 0 where
   pub legal : Legal plan n T
   pub once : NamesEachOnce plan (recorded plan n T)
   pub are : AreEntries plan T (recorded plan n T) entries
 
--- `IsStopped plan n T entries refused`: `entries` were recorded, the put of the next entry
--- `refused` failed, and the schedule stopped there.
+-- `IsStopped plan n T entries refused`: in the trace `T` of `plan` at width `n`, `entries` were
+-- recorded in record order, each case at most once. The put of the next entry, `refused`, failed,
+-- and no body was started afterwards.
 pub record IsStopped (plan : List Job) (n : ℕ) (T : Trace) (entries : List Entry) (refused : Entry) : Type 0 where
   pub due : Due
   pub next : slice_get (dues plan n T) (length entries) ≡ Some due

@@ -6,25 +6,27 @@ use Rattle.kt_sched.specs.Children.{Child}
 use Rattle.kt_suite.specs.declared.tree.Tree as tree
 use Rattle.kt_plan.specs.declared.world.World as world
 
--- A world, a store of runs, and the content of a writer.
+-- The state before or after a command: a world, a store of runs, and the content of the writer
+-- (`held`). An unknown content is `None`.
 pub record Scene (W R : Type 0) : Type 0 where
   pub world : W
   pub store : R
   pub held : Option (List ℕ)
 
--- `scene world store held`: a scene of these parts.
+-- `scene world store held`: the `Scene` with these parts.
 abbrev pub scene : {W R : Type 0} → W → R → Option (List ℕ) → Scene W R
 scene world store held = record { world = world; store = store; held = held }
 
--- `with_world world s`: `s` with another world.
+-- `with_world world s`: the scene `s` with its world replaced by `world`.
 abbrev pub with_world : {V W R : Type 0} → W → Scene V R → Scene W R
 with_world world s = scene world s.store s.held
 
--- `with_store store s`: `s` with another store.
+-- `with_store store s`: the scene `s` with its store replaced by `store`.
 abbrev pub with_store : {W R T : Type 0} → T → Scene W R → Scene W T
 with_store store s = scene s.world store s.held
 
--- `World W`: the relations of a world: those of its launcher, those of its tree, and its own.
+-- `World W`: the relations of a world with states `W`. The first four are those of its launcher,
+-- and `asks` is that of its file tree. `replies` is that of its other calls.
 abbrev pub World : Type 0 → Type 1
 World W = record {
   running : W → ℕ → Role → Option Child;
@@ -35,10 +37,11 @@ World W = record {
   replies : W → Reply → W → Type 0;
 }
 
--- `world_of t l w`: the relations of a world, from those of its three traits.
+-- `world_of t l w`: the relations of a world, from those of its traits `Tree` (`t`), `Launcher`
+-- (`l`) and `World` (`w`).
 abbrev pub world_of : {W : Type 0} → tree.Ghosts W → launcher.Ghosts W → world.Ghosts W → World W
 world_of t l w = record { running = l.running; pending = l.pending; starts = l.starts; waits = l.waits; asks = t.asks; replies = w.replies }
 
--- `launcher_of w`: the relations of the launcher of `w`.
+-- `launcher_of w`: the relations of the launcher, from the relations `w` of a world.
 abbrev pub launcher_of : {W : Type 0} → World W → launcher.Ghosts W
 launcher_of w = record { running = w.running; pending = w.pending; starts = w.starts; waits = w.waits }

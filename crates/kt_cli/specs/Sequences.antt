@@ -7,8 +7,9 @@ use Rattle.kt_cli.specs.Meaning.{CommandResult}
 use Rattle.kt_cli.specs.Scenes.{Scene, World}
 
 module _ {W R : Type 0} (w : World W) (r : keeping.Ghosts R) where
-  -- `ExecutesAllCommands commands old new exits`: each command was executed in the state that the command before
-  -- it left.
+  -- `ExecutesAllCommands w r commands old new exits`: `commands` were executed in order, from scene
+  -- `old` to `new`, each in the scene that the command before it left. `exits` are their exit
+  -- statuses.
   pub data ExecutesAllCommands : List Command → Scene W R → Scene W R → List Exit → Type 0 where
     none_left : (here : Scene W R) → ExecutesAllCommands [] here here []
     one_and : (c : Command) (more : List Command) (old mid new : Scene W R) (exit : Exit) (exits : List Exit) → CommandResult w r c old mid exit.status → ExecutesAllCommands more mid new exits

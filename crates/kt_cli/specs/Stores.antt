@@ -1,15 +1,16 @@
--- Calls of a store, and their effect on its runs.
+-- The effect of a sequence of store calls on the represented runs.
 use Rattle.std.specs.Prelude.{ℕ, List, [], ◌∷◌, ◌++◌, ⊤, Ok, Err}
 use Rattle.kt_cli.specs.Types.{Agrees, Began, Chain, Entry, Finished, Head, Outline, Outputs, Pairs, Put, Run, StoreCall, runs_after, with_entry}
 use Rattle.kt_store.specs.Runs.{new_run, insert_at, finish}
 use Rattle.kt_store.specs.declared.result_store.StoreSpec as keeping
 
--- `put_among there entries`: `there` with each of `entries` inserted at its position.
+-- `put_among there entries`: the list `there` with each of `entries` inserted in the order of
+-- positions.
 abbrev pub put_among : List Entry → List Entry → List Entry
 put_among there [] = there
 put_among there (e ∷ es) = put_among (insert_at e there) es
 
--- `by_position entries`: `entries` in the order of their positions.
+-- `by_position entries`: `entries` sorted by position.
 abbrev pub by_position : List Entry → List Entry
 by_position entries = put_among [] entries
 
@@ -18,8 +19,9 @@ abbrev pub puts : ℕ → List Entry → List StoreCall
 puts number [] = []
 puts number (e ∷ es) = Put number e (Ok tt) ∷ puts number es
 
--- `crash_runs_after call runs may`: the lists of runs, other than the current one, that a crash may leave
--- after `call`, if it might leave `may` before.
+-- `crash_runs_after call runs may`: the lists of runs, other than the current one, that a crash may
+-- leave after `call` on a store with `runs`. `may` are those that a crash might leave before the
+-- call.
 abbrev pub crash_runs_after : StoreCall → List Run → List (List Run) → List (List Run)
 crash_runs_after (Began total moment (Ok number)) runs may = []
 crash_runs_after (Began total moment (Err fault)) runs may = (runs ++ new_run runs total moment ∷ []) ∷ may
@@ -34,35 +36,36 @@ crash_runs_after (Outputs number position answer) runs may = may
 
 -- ---- calls in sequence
 
--- `changed calls runs`: `runs` after `calls`.
+-- `changed calls runs`: the runs of a store with `runs` after `calls`, in order.
 abbrev pub changed : List StoreCall → List Run → List Run
 changed [] runs = runs
 changed (call ∷ calls) runs = changed calls (runs_after call runs)
 
 -- `beside calls runs may`: the lists of runs, other than the current one, that a crash may leave
--- after `calls`.
+-- after `calls` on a store with `runs`. `may` are those that a crash might leave before the calls.
 abbrev pub beside : List StoreCall → List Run → List (List Run) → List (List Run)
 beside [] runs may = may
 beside (call ∷ calls) runs may = beside calls (runs_after call runs) (crash_runs_after call runs may)
 
--- `Agree runs calls`: the result of each of `calls` agrees with the runs at that time.
+-- `Agree runs calls`: on a store with `runs`, the result of each of `calls` is correct for the runs
+-- after the calls before it.
 abbrev pub Agree : List Run → List StoreCall → Type 0
 Agree runs [] = ⊤
 Agree runs (call ∷ calls) = Agrees runs call × Agree (runs_after call runs) calls
 
 module _ {R : Type 0} (r : keeping.Ghosts R) where
-  -- `ChangesRuns calls old new`: the effect of `calls` on a store. If it contained any `runs`, it then
-  -- contains these with their changes. If it is sound afterwards, it was sound before, and each
-  -- result agrees with the runs. If a crash left `runs` or others, it then leaves the changed runs,
-  -- or one of `beside`.
+  -- `ChangesRuns r calls old new`: the effect of `calls` on a store, from state `old` to `new`. If
+  -- `old` represents runs, `new` represents the changed runs. If `new` is sound, `old` was sound,
+  -- and each result agrees with the runs. If a crash in `old` left `runs` or one of `may`, a crash
+  -- in `new` leaves the changed runs or one of `beside calls runs may`.
   pub record ChangesRuns (calls : List StoreCall) (old new : R) : Type 0 where
     pub stands : (runs : List Run) → r.stands old runs → r.stands new (changed calls runs)
     pub earlier : (runs : List Run) → r.stands old runs → r.sound new → r.sound old
     pub agree : (runs : List Run) → r.stands old runs → r.sound new → Agree runs calls
     pub crash : (runs : List Run) (may : List (List Run)) → r.stands old runs → r.leaves old (runs ∷ may) → r.leaves new (changed calls runs ∷ beside calls runs may)
 
-  -- `CallsStore calls old new`: `calls` with their results lead the store from `old` to `new`, with the
-  -- effect `ChangesRuns`.
+  -- `CallsStore r calls old new`: `calls` with their results lead a store with the specification
+  -- `r` from state `old` to `new`, with the effect `ChangesRuns`.
   pub record CallsStore (calls : List StoreCall) (old new : R) : Type 0 where
     pub answered : Chain r.answers old calls new
     pub kept : ChangesRuns calls old new

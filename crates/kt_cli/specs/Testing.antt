@@ -1,4 +1,4 @@
--- A plan that is run over a store: its calls of the store, its output and its exit status.
+-- The store calls, the output and the exit status of `test`, once its plan is made.
 use Rattle.std.specs.Prelude.{ℕ, Bool, true, false, List, [], ◌∷◌, ◌++◌, ◌≡◌, ◌==◌, ◌&&◌, Result, Ok, Err, length, if◌then◌else◌}
 use Rattle.kt_cli.specs.Types.{Began, CaseOptions, Entry, Finished, Job, NoEvent, CommandSelection, Put, StoreCall, StoreFault, Trace, utf8}
 use Rattle.kt_cli.specs.FaultLines.{memory_line, refusal_line}
@@ -7,31 +7,36 @@ use Rattle.kt_cli.specs.Stores.{puts}
 use Rattle.kt_cli.specs.Totals.{lines, totals_text, good_count, bad_count}
 use Rattle.kt_cli.specs.Warnings.{warnings}
 
--- `all_matched unmatched`: no filter is in `unmatched`, the filters that select no case.
+-- `all_matched unmatched`: `true` if `unmatched`, the positions of the filters that select no case,
+-- is empty.
 abbrev pub all_matched : List ℕ → Bool
 all_matched [] = true
 all_matched (position ∷ unmatched) = false
 
--- `ending good total bad words unmatched`: the totals, and a warning for each filter in `words` at
--- a position in `unmatched`.
+-- `ending good total bad words unmatched`: the totals, followed by a warning for each of the
+-- filters `words` at a position in `unmatched`. `good` of `total` cases are good, and `bad` are
+-- bad.
 abbrev pub ending : ℕ → ℕ → ℕ → List (List ℕ) → List ℕ → List ℕ
 ending good total bad words unmatched = utf8 (totals_text good total bad) ++ utf8 (warnings words unmatched)
 
--- `results entries words unmatched`: the lines of `entries`, followed by the totals and the
--- warnings.
+-- `results entries words unmatched`: the output of `test`: the lines of `entries`, the totals, and
+-- a warning for each of the filters `words` at a position in `unmatched`.
 abbrev pub results : List Entry → List (List ℕ) → List ℕ → List ℕ
 results entries words unmatched = lines entries ++ ending (good_count entries) (length entries) (bad_count entries) words unmatched
 
--- `exit_of bad unmatched`: 0 if no entry is bad and each filter selects a case, else 1.
+-- `exit_of bad unmatched`: the exit status of a command with `bad` failed or broken cases and the
+-- unmatched filters `unmatched`: 0 if there are neither, else 1.
 abbrev pub exit_of : ℕ → List ℕ → ℕ
 exit_of bad unmatched = if bad == 0 && all_matched unmatched then 0 else 1
 
--- `results_exit entries unmatched`: `exit_of` for these entries.
+-- `results_exit entries unmatched`: the exit status of `test` with the recorded `entries` and the
+-- unmatched filters `unmatched`.
 abbrev pub results_exit : List Entry → List ℕ → ℕ
 results_exit entries unmatched = exit_of (bad_count entries) unmatched
 
--- A plan to run: its width, its start time, the filters as given, and the positions of the filters
--- that select no case.
+-- A plan before its run begins, with its jobs and its width. `words` are the filters as given, and
+-- `unmatched` are the positions of those that select no case. `moment` is the start, in
+-- milliseconds since 1970-01-01 UTC.
 pub record PlannedRun : Type 0 where
   pub plan : List Job
   pub width : ℕ
@@ -39,23 +44,26 @@ pub record PlannedRun : Type 0 where
   pub unmatched : List ℕ
   pub moment : ℕ
 
--- `run_for plan options picked moment`: the run of `plan`, for the selection `picked` by `options`.
+-- `run_for plan options picked moment`: the planned run of `plan`, for the selection `picked` by
+-- `options`, with the start `moment`.
 abbrev pub run_for : List Job → CaseOptions → CommandSelection → ℕ → PlannedRun
 run_for plan options picked moment =
     record { plan = plan; width = picked.settings.config.parallelism; words = options.filters; unmatched = picked.chosen.unmatched; moment = moment }
 
--- `begins planned answer`: the call that begins the run, with its result.
+-- `begins planned answer`: the store call that begins the run `planned`, with its result `answer`.
 abbrev pub begins : PlannedRun → Result ℕ StoreFault → StoreCall
 begins planned answer = Began (length planned.plan) planned.moment answer
 
--- `Tested planned T calls bytes exit`: the run was begun, each case was put and then printed, in
--- the order of recording, and the run was finished.
+-- `Tested planned T calls bytes exit`: the run `planned` with the trace `T` was completed. `calls`
+-- begin the run, put each entry in the order of recording, and finish the run. `bytes` is the
+-- output, and `exit` the exit status.
 pub data Tested (planned : PlannedRun) (T : Trace) : List StoreCall → List ℕ → ℕ → Type 0 where
   recorded : (number : ℕ) (entries : List Entry) → AllRecorded planned.plan planned.width T entries
       → Tested planned T (begins planned (Ok number) ∷ (puts number entries ++ Finished number (Ok tt) ∷ [])) (results entries planned.words planned.unmatched) (results_exit entries planned.unmatched)
 
--- `TestEndsEarly planned T calls bytes exit`: a failed allocation or a failed call of the store ended the
--- run early. The error line is that of this fault.
+-- `TestEndsEarly planned T calls bytes exit`: a failed allocation or a failed store call ended the
+-- run `planned` early, after the trace `T` and the store calls `calls`. `bytes` ends with the error
+-- line of this fault, and `exit` is 2.
 pub data TestEndsEarly (planned : PlannedRun) (T : Trace) : List StoreCall → List ℕ → ℕ → Type 0 where
   not_begun : (fault : StoreFault) → T ≡ NoEvent → TestEndsEarly planned T (begins planned (Err fault) ∷ []) (utf8 (refusal_line fault)) 2
   not_run : (number : ℕ) → T ≡ NoEvent → TestEndsEarly planned T (begins planned (Ok number) ∷ []) (utf8 memory_line) 2

@@ -1,4 +1,4 @@
-//! The commands of kyua(1), over any world, results store and writer, and over the host.
+//! The commands of kyua(1): over any world, results store and writer, and over the host.
 #![tactic(auto)]
 
 mod commands;

@@ -13,10 +13,10 @@ use kt_sched::RunFault;
 use kt_store::StoreFault;
 use std::io::Write;
 
-/// The exit status of wrong arguments.
+/// The exit status of a command with wrong arguments (kyua(1)).
 const WRONG_ARGUMENTS: u8 = 3;
 
-/// Writes an error line with this message (this profile).
+/// Writes an error line with the message `words`: `kyua: E: MESSAGE` (this profile).
 fn write_fault<O: Write>(words: &str, out: &mut O) -> Result<(), OutputFault>
     ensures { Shows (O.contents out.old) (O.contents out.new) (is_err result)
         (utf8 (fault_line (chars words.now))) }
@@ -26,7 +26,8 @@ fn write_fault<O: Write>(words: &str, out: &mut O) -> Result<(), OutputFault>
 
 /// Writes the error line of a failed allocation.
 ///
-/// The refusal isn't printed: it is a parameter so that only a real failure can lead here.
+/// `_refusal` isn't printed. It is a parameter so that only a caller with a failed allocation can
+/// print this line.
 #[tactic(auto, unfolding(crate::proofs::Common::chars))]
 pub fn write_memory<O: Write>(_refusal: NoMemory, out: &mut O) -> Result<(), OutputFault>
     ensures { Shows (O.contents out.old) (O.contents out.new) (is_err result) (utf8 memory_line) }
@@ -34,7 +35,8 @@ pub fn write_memory<O: Write>(_refusal: NoMemory, out: &mut O) -> Result<(), Out
     write_fault(OUT_OF_MEMORY, out)
 }
 
-/// Writes the error line of a failed run, unless an earlier write failed.
+/// Writes the error line of a run that failed with `fault`. If `written`, the result of the earlier
+/// writes, is an error, writes nothing and returns this error.
 pub fn write_run_fault<O: Write>(
     written: Result<(), OutputFault>,
     fault: RunFault,
@@ -65,7 +67,7 @@ fn write_stop<O: Write>(stop: &Stop, out: &mut O) -> Result<(), OutputFault>
     emit(b"\n", out)
 }
 
-/// Returns the exit status of a stopped command: 3 if the arguments are wrong, else 2.
+/// Returns the exit status of a command that `stop` stopped: 3 if the arguments are wrong, else 2.
 fn stop_status(stop: &Stop) -> u8
     ensures { result ≡ stop_exit stop.now }
 {
@@ -75,7 +77,8 @@ fn stop_status(stop: &Stop) -> u8
     }
 }
 
-/// Prints the fault that stopped a command, and returns the exit status.
+/// Prints the fault that stopped a command, and returns the exit status: 3 if the arguments are
+/// wrong, else 2. The status is also 2 if the write fails.
 pub fn stopped<O: Write>(fault: Stop, out: &mut O) -> Exit
     ensures { Printed (O.contents out.old) (O.contents out.new) result.status
         (utf8 (stop_line fault)) (stop_exit fault) }
@@ -99,10 +102,11 @@ pub fn print_store_fault<O: Write>(fault: StoreFault, out: &mut O) -> Exit
     ended(write_refusal(fault, out), FAILED)
 }
 
-/// Returns the exit status of a command after its results file was closed.
+/// Returns the exit status of a command that ended with `exit`, after its results file was closed
+/// with the result `closed`.
 ///
-/// If the close failed, this prints why and returns 2. The entries are then safe in the log next to
-/// the file. If the status is 2 already, nothing more is printed.
+/// If the close failed, prints the fault and returns 2. The entries are then safe in the log next
+/// to the file. If the status is 2 already, prints nothing.
 pub fn with_closed<O: Write>(exit: Exit, closed: Result<(), StoreFault>, out: &mut O) -> Exit
     ensures { ClosesResults closed (O.contents out.old) (O.contents out.new) exit.status result.status }
 {
@@ -146,7 +150,8 @@ pub fn print_command_fault<O: Write>(fault: &CommandFault, out: &mut O) -> Exit
     }
 }
 
-/// Writes the warning that the filter at this position matches no case.
+/// Writes the warning that the filter at index `position` of `words` matches no case. Writes
+/// nothing if there is no such filter.
 fn write_warning_at<O: Write>(
     words: &[Text],
     position: usize,
@@ -168,8 +173,8 @@ fn write_warning_at<O: Write>(
     }
 }
 
-/// Writes a warning for each filter that matches no case, in order, with the filter as it was
-/// given.
+/// Writes a warning for each filter that matches no case, in the order of the filters. The warning
+/// quotes the filter as it was given.
 pub fn write_warnings<O: Write>(
     options: &CaseOptions,
     chosen: &Chosen,

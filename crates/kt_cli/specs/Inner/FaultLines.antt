@@ -1,4 +1,4 @@
--- Error lines of commands.
+-- The error lines of runs.
 use Rattle.std.specs.Prelude.{ℕ, List}
 use Rattle.kt_sched.specs.FaultWords.{run_words}
 use Rattle.kt_cli.specs.Types.{RunFault}

@@ -1,4 +1,4 @@
--- Recording of an entry: it is put into a run, and then its line is printed.
+-- The recording of an entry: the entry is put into a run, and then its line is printed.
 use Rattle.std.specs.Prelude.{ℕ, Bool, List, [], ◌∷◌, ◌≡◌, Option, Result, Ok, Err}
 use Rattle.kt_cli.specs.Types.{Entry, Put, Run, SinkFault, StoreFault, line_bytes}
 use Rattle.kt_sched.specs.declared.sink.SinkFault.TheVariants.{Memory, Other}
@@ -8,31 +8,33 @@ use Rattle.kt_cli.specs.Inner.Pages.{Says}
 use Rattle.kt_cli.specs.Inner.Stores.{put_all}
 use Rattle.kt_cli.specs.Stores.{CallsStore}
 
--- `sink_fault_of fault`: the fault of the scheduler's sink for `fault` of the store.
+-- `sink_fault_of fault`: the fault that a `Sink` returns to the scheduler for the store's `fault`.
 abbrev pub sink_fault_of : StoreFault → SinkFault
 sink_fault_of (NoMemory shortage) = Memory
 sink_fault_of other = Other
 
--- `HasRecorded Stands number store put`: the store contains some runs, with the entries `put` added to run
--- `number`.
+-- `HasRecorded Stands number store put`: `store` represents some runs with the entries `put` added
+-- to run `number`. `Stands store runs` states that `store` represents `runs`.
 abbrev pub HasRecorded : {R : Type 0} → (R → List Run → Type 0) → ℕ → R → List Entry → Type 0
 HasRecorded Stands number store put = (first : List Run) × Stands store (put_all number put first)
 
--- The state of a recorder: the store, the number of the run, whether a write failed, and the
--- content of the writer.
+-- The state of a `Recorder`: the store, the number of the run, whether a write has failed, and the
+-- content of the writer (`held`).
 pub record Recording (R : Type 0) : Type 0 where
   pub store : R
   pub number : ℕ
   pub failed : Bool
   pub held : Option (List ℕ)
 
--- `recording store number failed held`: a recording of these parts.
+-- `recording store number failed held`: the `Recording` with these parts.
 abbrev pub recording : {R : Type 0} → R → ℕ → Bool → Option (List ℕ) → Recording R
 recording store number failed held = record { store = store; number = number; failed = failed; held = held }
 
 module _ {R : Type 0} (r : keeping.Ghosts R) where
-  -- `Recorded old e result new`: the put of `e` succeeded and its line was written, or the put
-  -- failed and nothing was written.
+  -- `Recorded r old e result new`: a put of the entry `e` into a recorder in state `old` led to
+  -- state `new`, with the result `result`. The put into the store succeeded and the entry's line
+  -- was written, unless an earlier write failed. Or the put into the store failed and nothing was
+  -- written.
   abbrev pub Recorded : Recording R → Entry → Result (Unit {0}) SinkFault → Recording R → Type 0
   Recorded old e (Ok x) new =
       (new.number ≡ old.number) × CallsStore r (Put old.number e (Ok tt) ∷ []) old.store new.store × Says old.held old.failed new.held new.failed (line_bytes e)

@@ -1,4 +1,4 @@
--- Outcomes of the recording of a plan.
+-- The state after a plan was executed and recorded, by the result.
 use Rattle.std.specs.Prelude.{ℕ, Bool, false, List, [], ◌∷◌, ◌++◌, ◌≡◌, Result, Ok, Err}
 use Rattle.kt_cli.specs.Types.{Counts, Entry, Job, Leads, NoEvent, Put, RunFault, SinkFailed, SinkFault, StoreCall, StoreFault, Totals, Trace}
 use Rattle.kt_sched.specs.declared.launcher.Launcher as launcher
@@ -11,21 +11,25 @@ use Rattle.kt_cli.specs.Stores.{CallsStore, puts}
 use Rattle.kt_cli.specs.Totals.{lines}
 use Rattle.kt_cli.specs.Recordings.{AllRecorded, IsStopped}
 
--- `RecordedAll plan n T entries last totals`: every case was recorded and counted.
+-- `RecordedAll plan n T entries last totals`: each case of `plan` was recorded in `entries`, with
+-- the trace `T` at width `n`, and `totals` counts them. No other store call was made: `last` is
+-- empty.
 pub record RecordedAll (plan : List Job) (n : ℕ) (T : Trace) (entries : List Entry) (last : List StoreCall) (totals : Totals) : Type 0 where
   pub all : AllRecorded plan n T entries
   pub counts : Counts entries totals
   pub taken : last ≡ []
 
--- `RecordedNone T entries last`: an allocation failed before the first call, and nothing was
--- recorded.
+-- `RecordedNone T entries last`: an allocation failed before the first case was started: the trace
+-- `T`, the recorded `entries` and the store calls `last` are empty.
 pub record RecordedNone (T : Trace) (entries : List Entry) (last : List StoreCall) : Type 0 where
   pub events : T ≡ NoEvent
   pub none : entries ≡ []
   pub taken : last ≡ []
 
 module _ (plan : List Job) (n number : ℕ) (T : Trace) (entries : List Entry) (last : List StoreCall) where
-  -- `RecordedSome fault`: the put of the next entry failed, and `fault` is its fault.
+  -- `RecordedSome plan n number T entries last fault`: `entries` were recorded, and `last` is the
+  -- failed put of the next entry into run `number`. `fault` is the fault that the sink returned for
+  -- it.
   pub record RecordedSome (fault : SinkFault) : Type 0 where
     pub entry : Entry
     pub refusal : StoreFault
@@ -33,16 +37,18 @@ module _ (plan : List Job) (n number : ℕ) (T : Trace) (entries : List Entry) (
     pub one : last ≡ Put number entry (Err refusal) ∷ []
     pub stopped : IsStopped plan n T entries entry
 
-  -- `RecordEnds outcome`: the state of a recording, by its `outcome`.
+  -- `RecordEnds plan n number T entries last outcome`: `entries` were recorded and `last` is the
+  -- failed put, if any, as the result `outcome` of the execution of `plan` requires.
   abbrev pub RecordEnds : Result Totals RunFault → Type 0
   RecordEnds (Ok totals) = RecordedAll plan n T entries last totals
   RecordEnds (Err (SinkFailed fault)) = RecordedSome fault
   RecordEnds (Err (NoMemory refusal)) = RecordedNone T entries last
 
 module _ {L R : Type 0} (l : launcher.Ghosts L) (r : keeping.Ghosts R) (plan : List Job) (n number : ℕ) where
-  -- `Records old new answer failed`: the events of the launcher, and the calls that put entries
-  -- into run `number`. The lines of the entries are printed in the order of the puts. The last put
-  -- may have failed.
+  -- `Records l r plan n number old new answer failed`: from scene `old` to `new`, `plan` was
+  -- executed at width `n` with the result `answer`. The store calls put entries into run `number`,
+  -- and the last put may have failed. The lines of the successful puts were printed in order,
+  -- unless a write failed (`failed`).
   pub record Records (old new : Scene L R) (answer : Result Totals RunFault) (failed : Bool) : Type 0 where
     pub trace : Trace
     pub leads : Leads l.starts l.waits plan trace old.world new.world

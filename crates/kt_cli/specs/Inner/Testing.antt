@@ -1,4 +1,4 @@
--- Execution of a plan over a store.
+-- The execution of a plan over a store.
 use Rattle.std.specs.Prelude.{ℕ, List, ◌⊎◌}
 use Rattle.kt_sched.specs.declared.launcher.Launcher as launcher
 use Rattle.kt_cli.specs.Types.{Leads, StoreCall, Trace}
@@ -9,8 +9,9 @@ use Rattle.kt_cli.specs.Stores.{CallsStore}
 use Rattle.kt_cli.specs.Testing.{PlannedRun, TestEndsEarly, Tested}
 
 module _ {L R : Type 0} (l : launcher.Ghosts L) (r : keeping.Ghosts R) where
-  -- `ExecutesPlan planned old new exit`: `planned` was run, with the events of the launcher, the calls
-  -- of the store, and the output.
+  -- `ExecutesPlan l r planned old new exit`: from scene `old` to `new`, the run `planned` was begun
+  -- and its plan executed, with the exit status `exit`. The store calls and the output are those of
+  -- `Tested` or `TestEndsEarly`, by the events of the launcher.
   pub record ExecutesPlan (planned : PlannedRun) (old new : Scene L R) (exit : ℕ) : Type 0 where
     pub trace : Trace
     pub leads : Leads l.starts l.waits planned.plan trace old.world new.world

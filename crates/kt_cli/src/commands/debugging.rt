@@ -13,9 +13,9 @@ use kt_sched::{Job, Launcher, RunFault, Totals, run_cases};
 use std::alloc::Global;
 use std::io::Write;
 
-/// Executes a plan one case at a time, and prints each case's output and line.
+/// Executes a plan one case at a time. Prints the output of each case, followed by its line.
 ///
-/// Returns the outcome of the run, and whether all output could be written.
+/// Returns the totals or the fault of the run, and the result of writing the output.
 fn print_cases<L: Launcher, O: Write>(
     alloc: Global,
     plan: Items<Job>,
@@ -40,8 +40,8 @@ fn print_cases<L: Launcher, O: Write>(
 
 /// Executes `debug`: runs the first selected case, and prints its output and its line.
 ///
-/// Nothing is recorded. The exit status is 0 if the case is good, 1 if it is bad or no case is
-/// selected, else that of the fault.
+/// Nothing is recorded. The exit status is 1 if the case failed or is broken, or if no case is
+/// selected. It is 3 if the arguments are wrong, 2 after any other fault, and else 0.
 pub fn debug<W: World, O: Write>(
     alloc: Global,
     options: &CaseOptions,

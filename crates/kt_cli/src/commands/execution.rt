@@ -13,14 +13,16 @@ use kt_store::ResultStore;
 use std::alloc::Global;
 use std::io::Write;
 
-/// Executes a command over a world and a results store, and writes its output.
+/// Executes a command over a world and a results store, writes its output, and returns its exit
+/// status.
 ///
-/// `test` calls its world before the store, so a fault of the configuration or of a Kyuafile begins
-/// no run. It puts an entry before it writes the entry's line. After a failed write it goes on
-/// recording. After a failed put it only starts pending cleanups.
+/// `test` reads the configuration and the Kyuafiles before it begins a run, so their faults add no
+/// run. `test` puts an entry before it writes the entry's line. After a failed write, `test` still
+/// records entries. After a failed put, `test` only starts pending cleanups.
 ///
-/// The calls, the output and the exit status follow from the results of earlier calls, even if the
-/// store forgets entries. `theorem_of_sound_stores` states which runs the store has afterwards.
+/// The contract derives the calls, the output and the exit status from the results of earlier
+/// calls, even if the store forgets entries. `theorem_of_sound_stores` states which runs a store
+/// has afterwards if it forgets nothing.
 pub fn execute<W: World, R: ResultStore, O: Write>(
     alloc: Global,
     command: &Command,
@@ -50,13 +52,13 @@ pub fn execute<W: World, R: ResultStore, O: Write>(
     }
 }
 
-/// Executes commands one after the other, also after a failed one, and returns their exit statuses.
+/// Executes `commands` in order, also after a failed command, and returns their exit statuses.
 ///
-/// The list of exit statuses is allocated first, so that no command runs whose exit status is lost.
+/// The list of exit statuses is allocated before the first command, so that no exit status is lost.
 ///
 /// # Errors
 ///
-/// - `NoMemory`: the list can't be allocated. No command has run.
+/// - `NoMemory`: the list can't be allocated. No command was executed.
 pub fn execute_all<W: World, R: ResultStore, O: Write>(
     alloc: Global,
     commands: &[Command],
@@ -83,11 +85,12 @@ pub fn execute_all<W: World, R: ResultStore, O: Write>(
     Ok(exits)
 }
 
-/// Theorem: `execute` appends at most one run to a sound store, and changes no other run.
+/// Theorem: `execute` adds at most one run to a sound store, and changes no other run.
 ///
-/// A sound store returns what was written. The new run has exactly the entries that were put, and
-/// is finished only if it has all of them. A call fails only if the store itself failed or has the
-/// maximum number of runs.
+/// A store is sound if it returns exactly what was written. The new run has exactly the entries
+/// that were put, and is finished only if it has an entry for each of its cases. A call of the
+/// store fails only if memory ran out, the database failed, or the store has the maximum number of
+/// runs.
 pub fn theorem_of_sound_stores<W: World, R: ResultStore>()
     ensures { (c : Command) (old new : Scene W R) (exit : ℕ) (runs : List Run)
         (did : CommandResult W.World R.StoreSpec c old new exit) → R.stands old.store runs

@@ -29,7 +29,8 @@ fn write_listing<O: Write>(
 
 /// Executes `list`: prints `PROGRAM:CASE` for each selected case, and returns the exit status.
 ///
-/// The exit status is 0 if every filter selects a case, else 1 or that of a fault.
+/// The exit status is 0 if every filter selects a case, and 1 if a filter selects none. It is 3 if
+/// the arguments are wrong, and 2 after any other fault.
 pub fn list<W: World, O: Write>(
     alloc: Global,
     options: &CaseOptions,

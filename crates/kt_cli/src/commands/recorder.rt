@@ -7,19 +7,22 @@ use kt_sched::{Sink, SinkFault};
 use kt_store::{ResultStore, StoreFault};
 use std::io::Write;
 
-/// A `Sink` that puts each entry into a run of a store, and then writes the entry's line.
+/// A `Sink` that puts each entry into run `number` of a results store, and then writes the entry's
+/// line.
 #[derive(Drop)]
 pub struct Recorder<'a, R, O> {
+    /// The results store.
     pub results: &'a mut R,
+    /// The writer of the command's output.
     pub out: &'a mut O,
-    /// The number of the run.
+    /// The number of the run into which entries are put.
     pub number: u64,
-    /// The result of the writes so far. After an error nothing more is written, but recording goes
-    /// on.
+    /// The result of the writes so far. After an error nothing more is written, but entries are
+    /// still put.
     pub written: Result<(), OutputFault>,
 }
 
-/// Converts a fault of the store to a fault of the scheduler's sink.
+/// Converts a fault of the results store to the fault that a `Sink` returns to the scheduler.
 pub fn sink_fault(fault: StoreFault) -> SinkFault
     ensures { result ≡ sink_fault_of fault }
 {
@@ -41,7 +44,7 @@ impl<R: ResultStore, O: Write> Sink for Recorder<'_, R, O> {
         (recording t.results.now t.number (is_err t.written) (O.contents t.out.now)) };
 
     fn put(&mut self, entry: Entry) -> Result<(), SinkFault> {
-        // A printed entry must be recorded, so the put comes first.
+        // An entry whose line is printed must be recorded, so the put comes first.
         if let Err(fault) = self.results.put(self.number, &entry) {
             return Err(sink_fault(fault));
         }
@@ -56,12 +59,14 @@ impl<R: ResultStore, O: Write> Sink for Recorder<'_, R, O> {
 /// A `Sink` that prints the output of each case and then its line. It stores no entries.
 #[derive(Drop)]
 pub struct Printer<'a, O> {
+    /// The writer of the command's output.
     pub out: &'a mut O,
     /// The result of the writes so far. After an error nothing more is written.
     pub written: Result<(), OutputFault>,
 }
 
-/// Writes the output of a case and then its line, unless an earlier write failed.
+/// Writes the output of a case and then its line. If `written`, the result of the earlier writes,
+/// is an error, writes nothing and returns this error.
 fn write_entry<O: Write>(
     written: Result<(), OutputFault>,
     entry: &Entry,

@@ -14,7 +14,8 @@ use kt_store::ResultStore;
 use std::alloc::Global;
 use std::io::Write;
 
-/// A plan with the number of its run and the maximum number of active cases.
+/// A plan with the number of its run and its width, the maximum number of cases that are active at
+/// once.
 #[derive(Drop)]
 struct NumberedPlan {
     plan: Items<Job>,
@@ -22,9 +23,9 @@ struct NumberedPlan {
     number: u64,
 }
 
-/// Executes a plan, and records and prints each entry.
+/// Executes a plan. Puts each entry into the plan's run, and then prints the entry's line.
 ///
-/// Returns the outcome of the run, and whether all lines could be written.
+/// Returns the totals or the fault of the run, and the result of writing the lines.
 fn record_cases<L: Launcher, R: ResultStore, O: Write>(
     alloc: Global,
     numbered: NumberedPlan,
@@ -58,7 +59,9 @@ fn record_cases<L: Launcher, R: ResultStore, O: Write>(
     (answer, recorder.written)
 }
 
-/// Writes an empty line and the totals of a run: `1/3 passed (2 failed)`.
+/// Writes an empty line and the totals of a run, for example `1/3 passed (2 failed)`. `good` of the
+/// `total` cases are good: they passed, were skipped or failed as expected. `bad` cases failed or
+/// are broken.
 fn write_totals<O: Write>(good: u64, total: u64, bad: u64, out: &mut O) -> Result<(), OutputFault>
     ensures { Shows (O.contents out.old) (O.contents out.new) (is_err result)
         (utf8 (totals_text good total bad)) }
@@ -80,8 +83,8 @@ fn write_totals<O: Write>(good: u64, total: u64, bad: u64, out: &mut O) -> Resul
     )
 }
 
-/// Writes the totals, and a warning for each filter that selects no case, unless an earlier write
-/// failed.
+/// Writes the totals, and a warning for each filter that selects no case. If `written`, the result
+/// of the earlier writes, is an error, writes nothing and returns this error.
 fn write_ending<O: Write>(
     written: Result<(), OutputFault>,
     totals: Totals,
@@ -97,7 +100,8 @@ fn write_ending<O: Write>(
     write_warnings(options, chosen, out)
 }
 
-/// A plan to run: its jobs, the options and the selection that they come from, and the start time.
+/// A plan before its run begins, with the options and the selection that the jobs come from.
+/// `moment` is the start, in milliseconds since 1970-01-01 UTC.
 #[derive(Drop)]
 struct PlannedRun<'a> {
     plan: Items<Job>,
@@ -106,7 +110,7 @@ struct PlannedRun<'a> {
     moment: u64,
 }
 
-/// Begins a run, runs its plan, finishes the run, and returns the exit status.
+/// Begins a run, executes its plan, finishes the run, and returns the exit status of `test`.
 fn run_plan<L: Launcher, R: ResultStore, O: Write>(
     alloc: Global,
     planned: PlannedRun<'_>,
@@ -158,9 +162,10 @@ fn run_plan<L: Launcher, R: ResultStore, O: Write>(
     }
 }
 
-/// Executes `test`: runs the selected cases and records them, and returns the exit status.
+/// Executes `test`: runs the selected cases, records them in a new run, and returns the exit
+/// status.
 ///
-/// `file` is the path of the results file, which is open already.
+/// `results` is the open results file. `file` is its path, and only the contract uses it.
 pub fn test<W: World, R: ResultStore, O: Write>(
     alloc: Global,
     options: &CaseOptions,

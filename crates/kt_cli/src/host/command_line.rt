@@ -13,9 +13,9 @@ use std::io::Write;
 
 /// Executes the command in the arguments of the process, and returns the exit status.
 ///
-/// The first argument is the program's own name. Wrong arguments are reported on `errors`. The
-/// output of `kyua test` is written line by line, that of another command in blocks of 64 KiB. The
-/// returned `HostHandles` is the given one, after the calls of the command.
+/// The first of `words` is the program's own name. Wrong arguments are reported on `errors`, the
+/// standard error. The output of `kyua test` is written line by line, and the output of another
+/// command in blocks of 64 KiB. `outside` is returned in its state after the command.
 pub fn run_args<M: HostFiles + Drop, O: Os + Drop, P: ResultsHost, W: Write, E: Write>(
     outside: HostHandles<M, O>,
     platform: &mut P,

@@ -10,7 +10,7 @@ use kt_suite::{parent_path, split_path};
 use std::alloc::Global;
 use std::io::Write;
 
-/// Returns the absolute path of a Kyuafile's directory, without a slash at its end.
+/// Returns the absolute path of the directory of `kyuafile`, without a slash at its end.
 ///
 /// `here` is the absolute working directory.
 ///
@@ -29,10 +29,12 @@ pub fn source_of(alloc: Global, here: &str, kyuafile: &Text) -> Result<Text, NoM
     parent_path(alloc, &path)
 }
 
-/// Creates the driver that runs the test programs of a Kyuafile, with its root directory in `work`.
+/// Creates the driver that runs the test programs of `kyuafile`. The driver creates its root
+/// directory, which contains all work directories, in the directory `work`.
 ///
 /// `here` is the absolute working directory. Fails with `NoWorkDirectory` if `work` is not absolute
-/// or no root directory can be created in it. An error returns `os`.
+/// or the root directory can't be created. Fails with `NoMemory` if an allocation fails. `os` is
+/// returned with the error.
 fn driver_of<O: Os + Drop>(
     alloc: Global,
     os: O,
@@ -54,11 +56,17 @@ fn driver_of<O: Os + Drop>(
     }
 }
 
-/// Executes a command over test cases on the host.
+/// Executes `list`, `test` or `debug` on the host, over the test cases that `options` select.
 ///
-/// The command has its own root directory for work directories, which is removed at the end. Fails,
-/// and changes no results, if the driver can't be created. The returned `HostHandles` is the given
-/// one, after the calls of the command.
+/// The command has its own root directory for work directories, which is removed at the end.
+/// `outside` is returned in its state after the command.
+///
+/// # Errors
+///
+/// The driver can't be created. The results and the output are unchanged.
+///
+/// - `NoWorkDirectory`: `options.work` is not absolute, or no root directory can be created in it.
+/// - `NoMemory`: an allocation fails.
 pub fn execute_over_cases<M: HostFiles + Drop, O: Os + Drop, S: ResultStore, W: Write>(
     outside: HostHandles<M, O>,
     around: ProcessEnv,

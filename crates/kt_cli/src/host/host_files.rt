@@ -1,7 +1,7 @@
 use kt_base::Bytes;
 use kt_suite::ReadFault;
 
-/// An interface to the files and the clock of the host. Links are followed.
+/// An interface to the files and the clock of the host. Symbolic links are followed.
 ///
 /// An implementation may return any result that the contracts allow. The contracts of commands are
 /// about the results that were returned.
@@ -10,10 +10,11 @@ pub trait HostFiles {
     ghost use Rattle.kt_base.specs.Moments.{IsMoment};
     ghost use Rattle.kt_cli.specs.Machines.{HostResponse, FrontOf, IsFile, IsThere, IsProgram, HasMoment, read_limit};
 
-    /// A relation: a call with its result leads from the first state to the second.
+    /// `answers old call new`: `call` with its result leads the host from state `old` to `new`.
     ghost answers: { Self → HostResponse → Self → Type 0 };
 
-    /// Reads a regular file, or its first 1,048,577 bytes, one more than a script may have.
+    /// Reads a regular file, at most its first 1,048,577 bytes. This is one byte more than a script
+    /// may have.
     ///
     /// # Errors
     ///
@@ -24,17 +25,18 @@ pub trait HostFiles {
         ensures answered { answers self.old (FrontOf path.now result) self.new }
         ensures short { IfOk result (λ bytes. length bytes ≤ read_limit) };
 
-    /// Returns `true` if the path is that of a regular file.
+    /// Returns `true` if `path` names a regular file. Returns `false` if it can't be examined.
     fn is_file(&mut self, path: &str) -> bool
         ensures { answers self.old (IsFile path.now result) self.new };
 
-    /// Returns `true` if the path exists.
+    /// Returns `true` if `path` names a file of any type. Returns `false` if it can't be examined.
     fn is_there(&mut self, path: &str) -> bool
         ensures { answers self.old (IsThere path.now result) self.new };
 
-    /// Returns `true` if the path is that of a regular file that someone may execute.
+    /// Returns `true` if `path` names a regular file with an execute permission bit.
     ///
-    /// It is enough if the owner, the group or others may execute the file.
+    /// The bit of the owner, of the group or of others is enough. Returns `false` if `path` can't
+    /// be examined.
     fn is_program(&mut self, path: &str) -> bool
         ensures { answers self.old (IsProgram path.now result) self.new };
 

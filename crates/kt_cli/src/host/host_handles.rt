@@ -1,6 +1,6 @@
 use std::alloc::Global;
 
-/// A set of handles through which a command reaches the host.
+/// A set of handles with which a command accesses the host.
 #[derive(Drop)]
 pub struct HostHandles<M: Drop, O: Drop> {
     /// The allocator.

@@ -1,10 +1,10 @@
 ghost use Rattle.std.specs.Prelude.{◌≡◌, ◌++◌, ◌+◌, ◌≤◌, ◌<◌, length, take, IfSome, IfNone};
 ghost use Rattle.kt_cli.specs.Common.{longest_path};
 
-/// The length of the longest path that the host accepts, in bytes.
+/// The maximum length of a path that the host accepts, in bytes (`PATH_MAX` without the null byte).
 pub const LONGEST_PATH: usize = 4_095;
 
-/// Copies a part of a path to `room`, at index `from`, and returns the index after it.
+/// Copies `piece` into the buffer `room` at index `from`, and returns the index after the copy.
 ///
 /// Returns `None` if the buffer is too short.
 fn put(room: &mut [u8], from: usize, piece: &str) -> Option<usize>
@@ -24,7 +24,8 @@ fn put(room: &mut [u8], from: usize, piece: &str) -> Option<usize>
     Some(end)
 }
 
-/// Joins `directory`, `between` and `name` to a path in a buffer.
+/// Joins `directory`, `between` and `name`, without other separators, to a path in the buffer
+/// `room`.
 ///
 /// Returns `None` if the path has more than 4,095 bytes. Allocates nothing.
 pub fn joined_path<'a>(

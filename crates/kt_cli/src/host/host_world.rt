@@ -10,11 +10,14 @@ use kt_suite::{Program, ReadFault, Tree};
 
 /// A `World` of the host: files, environment, clock, and a driver of test programs.
 ///
-/// Paths of the tree are relative to the directory of the Kyuafile.
+/// The paths of Kyuafiles and test programs are relative to the directory of the command's
+/// Kyuafile.
 #[derive(Drop)]
 pub struct HostWorld<M: Drop, O: Os + Drop> {
+    /// The files and the clock of the host.
     pub(crate) machine: M,
-    /// The directory of the tree, with a slash at its end, or empty for the working directory.
+    /// The directory of the command's Kyuafile, with a slash at its end, or empty for the working
+    /// directory.
     pub(crate) directory: Text,
     /// The driver, which starts test programs and lists their cases.
     pub(crate) driver: Driver<O>,

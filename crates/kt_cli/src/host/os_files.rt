@@ -12,7 +12,8 @@ use std::rt::{Clock, Files};
 use std::time::SystemTime;
 use std::{fs, io};
 
-/// The maximum number of bytes that are read of a file: one more than a script may have.
+/// The maximum number of bytes that are read from a file. This is one byte more than a script may
+/// have.
 const READ_LIMIT: usize = 1_048_577;
 
 /// The permission bits for execution by the owner, the group and others.
@@ -25,7 +26,7 @@ pub struct OsFiles<'a, R> {
     pub rt: &'a R,
 }
 
-/// Converts an error of a system call to a fault of reading a file.
+/// Converts the `io::Error` of a system call to the fault of reading a file.
 fn fault_of(error: io::Error) -> ReadFault {
     if let Some(refusal) = NoMemory::in_error(&error) {
         return ReadFault::Memory(refusal);
@@ -36,7 +37,8 @@ fn fault_of(error: io::Error) -> ReadFault {
     }
 }
 
-/// Returns `true` if the owner, the group or others may execute a file with this mode.
+/// Returns `true` if the owner, the group or others may execute a file with the permission bits
+/// `mode`.
 fn may_execute(mode: u32) -> bool
     ensures { result ≡ may_execute mode }
 {
@@ -44,7 +46,8 @@ fn may_execute(mode: u32) -> bool
 }
 
 impl<R: Files<File = File> + Clock + AllocGlobal> HostFiles for OsFiles<'_, R> {
-    // Only the contracts of the trait restrict the results of the host.
+    // The results of the host are restricted only by the contracts of the trait, so this relation
+    // is trivial.
     ghost answers = { λ _ _ _. Unit {0} };
 
     fn front(&mut self, path: &str) -> Result<Bytes, ReadFault> {

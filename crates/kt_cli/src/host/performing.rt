@@ -14,9 +14,10 @@ use kt_child::Os;
 use kt_store::{Access, ResultStore};
 use std::io::Write;
 
-/// Executes a command over an open results store.
+/// Executes a command over the open results store `results`, and returns its exit status.
 ///
-/// Commands over test cases also get the working directory and the environment of the process.
+/// `list`, `test` and `debug` also get the working directory and the environment of the process.
+/// `outside` is returned in its state after the command.
 fn perform_over<M: HostFiles + Drop, O: Os + Drop, P: ResultsHost, S: ResultStore, W: Write>(
     outside: HostHandles<M, O>,
     platform: &mut P,
@@ -68,7 +69,8 @@ fn access_of(command: &Command) -> Access
     }
 }
 
-/// Opens a results file, executes a command over it, and closes the file.
+/// Opens the results file `file`, executes a command over it, and closes the file. Returns the exit
+/// status, which is 2 if the open or the close fails.
 fn perform_in_file<M: HostFiles + Drop, O: Os + Drop, P: ResultsHost, W: Write>(
     outside: HostHandles<M, O>,
     platform: &mut P,
@@ -90,9 +92,11 @@ fn perform_in_file<M: HostFiles + Drop, O: Os + Drop, P: ResultsHost, W: Write>(
     (with_closed(exit, closed, out), outside)
 }
 
-/// Prints why the arguments are rejected, on standard error, and returns the exit status.
+/// Prints why the arguments are rejected to `errors`, the standard error, and returns the exit
+/// status.
 ///
-/// An out-of-memory message goes to standard output, as every other message does.
+/// An out-of-memory message is printed to `out`, the standard output, where the messages of
+/// commands are printed.
 fn reject<W: Write, E: Write>(fault: &CommandFault, out: &mut LineOutput<W>, errors: &mut E) -> Exit
     ensures { Rejected fault.now
         (record { out = line_state W.contents out.old; errors = E.contents errors.old })
@@ -110,10 +114,9 @@ fn reject<W: Write, E: Write>(fault: &CommandFault, out: &mut LineOutput<W>, err
 
 /// Executes a parsed command, or prints the fault of its arguments, and returns the exit status.
 ///
-/// The command runs over the machine and the system of `outside`, and over the results file that
-/// the platform opens and closes. `list` and `debug` run over an empty store in memory. At the end
-/// all output is written. The returned `HostHandles` is the given one, after the calls of the
-/// command.
+/// The command uses the files, the clock and the system of `outside`, and the results file that
+/// `platform` opens and closes. `list` and `debug` use no results file, but an empty store in
+/// memory. At the end all output is written. `outside` is returned in its state after the command.
 pub fn run_command<M: HostFiles + Drop, O: Os + Drop, P: ResultsHost, W: Write, E: Write>(
     outside: HostHandles<M, O>,
     platform: &mut P,

@@ -13,7 +13,8 @@ use std::path::PathBuf;
 use std::rt::Env;
 use std::{env, io};
 
-/// The maximum length of an environment variable in bytes: Linux takes no longer one.
+/// The maximum length of an environment variable, in bytes. Linux accepts no longer variable
+/// (`MAX_ARG_STRLEN`).
 const LONGEST_VARIABLE: usize = 131_072;
 
 /// A copy of the working directory of a command's process, and of its variables `PATH` and `USER`.
@@ -28,9 +29,10 @@ pub struct ProcessEnv {
     pub user: Option<Text>,
 }
 
-/// Copies the value of a variable out of the buffer that the system filled.
+/// Copies the value of a variable from the start of the buffer `room`. `answer` is its length, or
+/// the error of reading the variable.
 ///
-/// Returns `None` if the variable is not set or is not UTF-8.
+/// Returns `None` if the variable is not set, is not UTF-8 or is longer than the buffer.
 fn value_of(
     alloc: Global,
     answer: Result<usize, FillError>,
@@ -48,9 +50,9 @@ fn value_of(
     }
 }
 
-/// Reads an environment variable through the buffer `room`.
+/// Reads the environment variable `name` with the buffer `room`.
 ///
-/// Returns `None` if the variable is not set or is not UTF-8.
+/// Returns `None` if the variable is not set, is not UTF-8 or is longer than the buffer.
 fn variable<R: Env + AllocGlobal>(
     rt: &R,
     name: &str,
@@ -64,9 +66,10 @@ fn variable<R: Env + AllocGlobal>(
     value_of(rt.alloc(), answer, room)
 }
 
-/// Copies the path of the working directory out of the system's result.
+/// Copies the path of the working directory from `answer`, the result of the system.
 ///
-/// Fails with `NoWorkDirectory` if the system returned an error other than out of memory.
+/// Fails with `NoMemory` if an allocation failed, and with `NoWorkDirectory` if the system returned
+/// another error.
 fn working_directory_of(alloc: Global, answer: io::Result<PathBuf>) -> Result<Text, DriverFault>
     ensures { IsWorkingDirectory (result_map_both path_buf_bytes (λ error. error) answer) result }
 {
@@ -82,7 +85,7 @@ fn working_directory_of(alloc: Global, answer: io::Result<PathBuf>) -> Result<Te
 impl ProcessEnv {
     ghost use Rattle.kt_cli.specs.HostAnswers.{is_root};
 
-    /// Reads `PATH` and `USER` from the environment.
+    /// Reads `PATH` and `USER` from the environment. `here` is the absolute working directory.
     ///
     /// A variable that is not UTF-8 counts as not set.
     ///
@@ -104,7 +107,7 @@ impl ProcessEnv {
     ///
     /// # Errors
     ///
-    /// - `NoWorkDirectory`: the working directory is not known.
+    /// - `NoWorkDirectory`: the system returned no working directory.
     /// - `NoMemory`: an allocation fails.
     pub fn of_process<R: Env + AllocGlobal>(rt: &R) -> Result<ProcessEnv, DriverFault>
         ensures { IsFound result }

@@ -4,7 +4,8 @@ use crate::HostFiles;
 use crate::host::host_path::{LONGEST_PATH, joined_path};
 use kt_base::{Text, has_slash, is_absolute};
 
-/// Returns `true` if a directory has a program. The empty directory is the working directory.
+/// Returns `true` if `directory` has an executable regular file `name`. An empty `directory` is the
+/// working directory. Returns `false` if the joined path is longer than 4,095 bytes.
 fn is_in<M: HostFiles>(machine: &mut M, directory: &str, name: &str) -> bool
     ensures { HasProgram M.answers name.now directory.now result machine.old machine.new }
 {
@@ -16,7 +17,8 @@ fn is_in<M: HostFiles>(machine: &mut M, directory: &str, name: &str) -> bool
     }
 }
 
-/// Returns `true` if one of the directories in `among`, separated by colons, has a program.
+/// Returns `true` if a directory in `among`, a list separated by colons, has an executable regular
+/// file `name`.
 fn is_among<M: HostFiles>(machine: &mut M, among: &str, name: &str) -> bool
     ensures { SearchesDirectories M.answers name.now (directories among.now) result machine.old machine.new }
 {
@@ -30,10 +32,11 @@ fn is_among<M: HostFiles>(machine: &mut M, among: &str, name: &str) -> bool
     is_in(machine, rest, name)
 }
 
-/// Returns `true` if a required program exists.
+/// Returns `true` if the required program `name` exists (`required_programs` of kyuafile(5)).
 ///
-/// A program with an absolute path must be at that path. A name without a slash must be in a
-/// directory of `path`, the value of `PATH`. Other names are not found.
+/// A program is an executable regular file. An absolute `name` must be the path of a program. A
+/// `name` without a slash must be a program in a directory of `path`, the value of `PATH`. Other
+/// names are never found.
 pub fn is_found<M: HostFiles>(machine: &mut M, path: &Option<Text>, name: &Text) -> bool
     ensures { IsFoundByPath M.answers path.now name.now result machine.old machine.new }
 {

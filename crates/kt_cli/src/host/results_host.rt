@@ -13,20 +13,21 @@ pub trait ResultsHost {
     /// A store of the runs in an open results file.
     type Results: ResultStore + Drop;
 
-    /// A relation: a call with its result leads from the first state to the second.
+    /// `provides old call new`: `call` with its result leads the host from state `old` to `new`.
     ghost provides: { Self → HostCall Self.Results → Self → Type 0 };
 
-    /// Opens a results file, to add a run or only to read runs.
+    /// Opens the results file with the path `file`, to add a run or only to read runs.
     ///
     /// # Errors
     ///
     /// - `Store`: the file can't be opened, read or written, or is not a results file.
-    /// - `UnknownSchema`: the tables of the file have an unknown schema number.
+    /// - `UnknownSchema`: the schema number in the file is missing or unknown.
     /// - `NoMemory`: an allocation fails.
     fn open(&mut self, file: &Text, access: Access) -> Result<Self::Results, StoreFault>
         ensures { provides self.old (Opened file.now access result) self.new };
 
-    /// Closes a results file. Afterwards only that file has the runs.
+    /// Closes a results file. Its log is copied into the file, so that all runs are in the file
+    /// alone.
     ///
     /// # Errors
     ///
@@ -41,7 +42,7 @@ pub trait ResultsHost {
     ///
     /// # Errors
     ///
-    /// - `NoWorkDirectory`: the working directory is not known.
+    /// - `NoWorkDirectory`: the system returned no working directory.
     /// - `NoMemory`: an allocation fails.
     fn process_env(&mut self) -> Result<ProcessEnv, DriverFault>
         ensures { provides self.old (Found result) self.new };

@@ -5,7 +5,7 @@ use kt_base::{Entry, NoMemory, Output, Text, Variables, Verdict};
 use kt_store::{CaseOutputs, no_output};
 use std::alloc::Global;
 
-/// Copies a verdict, with its reason as text.
+/// Copies a verdict. The copy has the reason as a text.
 fn copy_of_verdict(alloc: Global, verdict: &Verdict) -> Result<Verdict, NoMemory>
     ensures { IfOk result (λ copy. copy ≡ verdict.now) }
 {
@@ -25,6 +25,10 @@ fn copy_of_output(output: &Output) -> Result<Output, NoMemory>
 }
 
 /// Copies the outputs of an entry's body and cleanup.
+///
+/// # Errors
+///
+/// - `NoMemory`: an allocation fails.
 pub fn copy_of_outputs(entry: &Entry) -> Result<CaseOutputs, NoMemory>
     ensures { IfOk result (λ copy. copy ≡ outputs_of entry.now) }
 {
@@ -34,7 +38,7 @@ pub fn copy_of_outputs(entry: &Entry) -> Result<CaseOutputs, NoMemory>
     })
 }
 
-/// Copies an entry without its properties and outputs. The reason is copied as text.
+/// Copies an entry without its properties and outputs. The copy has the reason as a text.
 fn outlined(alloc: Global, entry: &Entry) -> Result<Entry, NoMemory>
     ensures { IfOk result (λ copy. copy ≡ outlined entry.now) }
 {
@@ -52,6 +56,10 @@ fn outlined(alloc: Global, entry: &Entry) -> Result<Entry, NoMemory>
 }
 
 /// Copies an entry with its properties and outputs.
+///
+/// # Errors
+///
+/// - `NoMemory`: an allocation fails.
 pub fn copy_of_entry(alloc: Global, entry: &Entry) -> Result<Entry, NoMemory>
     ensures { IfOk result (λ copy. copy ≡ entry.now) }
 {
@@ -62,7 +70,11 @@ pub fn copy_of_entry(alloc: Global, entry: &Entry) -> Result<Entry, NoMemory>
     Ok(copy)
 }
 
-/// Copies entries without their properties and outputs, in order.
+/// Copies entries without their properties and outputs, in the same order.
+///
+/// # Errors
+///
+/// - `NoMemory`: an allocation fails.
 pub fn outlined_all(alloc: Global, entries: &[Entry]) -> Result<Vec<Entry>, NoMemory>
     ensures { IfOk result (λ copies. copies.items ≡ map outlined entries.now) }
 {

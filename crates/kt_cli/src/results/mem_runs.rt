@@ -5,14 +5,14 @@ use std::alloc::Global;
 use std::marker::Model;
 use std::mem;
 
-/// The maximum number of recorded runs.
+/// The maximum number of runs in a store (this profile).
 const RUN_LIMIT: usize = 1_000_000;
 
 /// A store of recorded runs in memory.
 ///
-/// The examples of kt_rows use it. `list` and `debug` are given an empty one, and never call it. In
-/// contracts its value is the list of runs. The number of a run is its position in the list,
-/// counted from 1.
+/// The examples of kt_rows use this store. `list` and `debug` get an empty store of this type, and
+/// never call it. In contracts, the value of a `MemRuns` is the list of its runs. The number of a
+/// run is its index in the list plus 1.
 #[derive(Drop)]
 pub struct MemRuns {
     runs: Vec<Run>,
@@ -43,7 +43,8 @@ impl MemRuns {
         }
     }
 
-    /// Appends a run without entries, and returns its number.
+    /// Appends an unfinished run without entries, and returns its number. `moment` is its start, in
+    /// milliseconds since 1970-01-01 UTC.
     ///
     /// Fails with `StoreFull` if there are 1,000,000 runs, and with `NoMemory` if the allocation
     /// fails.
@@ -80,7 +81,8 @@ impl MemRuns {
         Ok((number - 1) as usize)
     }
 
-    /// Inserts a copy of an entry into run `number`, in the order of positions.
+    /// Inserts a copy of an entry into run `number`, in the order of positions. Fails with `NoRun`,
+    /// or with the fault of [`refused_entry`], or with `NoMemory`.
     fn put_entry(&mut self, number: u64, entry: &Entry) -> Result<(), StoreFault>
         ensures { ServesInMemory self.old (Put number entry.now result) self.new }
     {
@@ -96,7 +98,7 @@ impl MemRuns {
         Ok(())
     }
 
-    /// Marks run `number` as finished.
+    /// Marks run `number` as finished. Fails with `NoRun`, or with the fault of [`refused_end`].
     fn end_run(&mut self, number: u64) -> Result<(), StoreFault>
         ensures { ServesInMemory self.old (Finished number result) self.new }
     {
@@ -109,7 +111,8 @@ impl MemRuns {
         Ok(())
     }
 
-    /// Returns the entries of run `number`, without their properties and outputs.
+    /// Returns the entries of run `number`, without their properties and outputs. Fails with
+    /// `NoRun` if there is no such run, and with `NoMemory` if an allocation fails.
     fn outline_of(&self, number: u64) -> Result<Vec<Entry>, StoreFault>
         ensures { ServesInMemory self.now
             (Outline number (seen_as (λ found. found.items) result)) self.now }
@@ -121,8 +124,8 @@ impl MemRuns {
         }
     }
 
-    /// Returns the properties of the entry at `position` of run `number`, or none without this
-    /// entry.
+    /// Returns the properties of the entry at `position` of run `number`. Returns no properties if
+    /// there is no such run or entry. Fails with `NoMemory` if an allocation fails.
     fn pairs_at(&self, number: u64, position: u32) -> Result<Variables, StoreFault>
         ensures { ServesInMemory self.now (Pairs number position result) self.now }
     {
@@ -140,7 +143,8 @@ impl MemRuns {
 
     /// Returns the outputs of the entry at `position` of run `number`.
     ///
-    /// Fails with `NoRun` if there is no such run or no such entry.
+    /// Fails with `NoRun` if there is no such run or entry, and with `NoMemory` if an allocation
+    /// fails.
     fn outputs_at(&self, number: u64, position: u32) -> Result<CaseOutputs, StoreFault>
         ensures { ServesInMemory self.now (Outputs number position result) self.now }
     {
@@ -154,7 +158,8 @@ impl MemRuns {
         }
     }
 
-    /// Returns the head of the first run with the number, or else of the last run.
+    /// Returns the head of run `number`, or of the last run if `number` is `None`. Returns `None`
+    /// if there is no such run.
     fn head_at(&self, number: Option<u64>) -> Option<RunHead>
         ensures found { result ≡ option_map head_of (find (λ (r : Run). r.number
             == unwrap_or number (length self.now)) self.now) }
@@ -226,7 +231,7 @@ fn short(refusal: NoMemory) -> StoreFault
     StoreFault::from(refusal)
 }
 
-/// Returns the head of a run: all but its entries.
+/// Returns the head of a run, which is the run without its entries.
 fn head(run: &Run) -> RunHead
     ensures { result ≡ head_of run.now }
 {
@@ -238,7 +243,7 @@ fn head(run: &Run) -> RunHead
     }
 }
 
-/// Returns the first run with the number.
+/// Returns the first run with `number`, or `None` if there is no such run.
 fn run_numbered(runs: &[Run], number: u64) -> Option<&Run>
     ensures found { option_copied result ≡ find (λ (r : RunValue). r.number == number) runs.now }
     ensures numbered { IfSome (option_copied result) (λ r. r.number ≡ number) }
@@ -246,9 +251,9 @@ fn run_numbered(runs: &[Run], number: u64) -> Option<&Run>
     runs.iter().find(|run| run.number == number)
 }
 
-/// Returns the index at which an entry with this position is inserted.
+/// Returns the index at which an entry with `position` is inserted.
 ///
-/// It is the number of entries before the first one with a greater position.
+/// The index is the number of entries before the first entry with a greater position.
 fn place_among(entries: &[Entry], position: u32) -> usize
     ensures { result ≡ place_among position entries.now }
 {
@@ -262,7 +267,8 @@ fn place_among(entries: &[Entry], position: u32) -> usize
     place
 }
 
-/// Inserts an entry, in the order of positions.
+/// Inserts an entry before the first entry with a greater position. If the allocation fails,
+/// `entries` is unchanged.
 fn insert_entry(alloc: Global, entries: &mut Items<Entry>, entry: Entry) -> Result<(), NoMemory>
     ensures ok { OnOk result (entries.new ≡ insert_at entry entries.old) }
     ensures err { OnErr result (entries.new ≡ entries.old) }
@@ -275,7 +281,8 @@ fn insert_entry(alloc: Global, entries: &mut Items<Entry>, entry: Entry) -> Resu
     Ok(())
 }
 
-/// Inserts a copy of an entry, in the order of positions.
+/// Inserts a copy of an entry before the first entry with a greater position. If an allocation
+/// fails, `entries` is unchanged.
 fn add_copy(alloc: Global, entries: &mut Items<Entry>, entry: &Entry) -> Result<(), NoMemory>
     ensures ok { OnOk result (entries.new ≡ insert_at entry.now entries.old) }
     ensures err { OnErr result (entries.new ≡ entries.old) }
@@ -285,21 +292,22 @@ fn add_copy(alloc: Global, entries: &mut Items<Entry>, entry: &Entry) -> Result<
     Ok(())
 }
 
-/// Returns the first entry at this position, if there is any.
+/// Returns the first entry with `position`, or `None` if there is no such entry.
 fn entry_at(entries: &[Entry], position: u32) -> Option<&Entry>
     ensures { option_copied result ≡ find (λ (e : Recorded). e.position == position) entries.now }
 {
     entries.iter().find(|x| x.position == position)
 }
 
-/// Returns `true` if an entry has this position.
+/// Returns `true` if an entry has `position`.
 fn has_position(entries: &[Entry], position: u32) -> bool
     ensures { result ≡ has_position position entries.now }
 {
     entries.iter().any(|x| x.position == position)
 }
 
-/// Returns the fault of putting an entry at this position into a run, if that is not allowed.
+/// Returns the fault of a put of an entry with `position` into a run, the first that applies.
+/// Returns `None` if the run accepts the entry.
 fn refused_entry(run: &Run, position: u32) -> Option<StoreFault>
     ensures { result ≡ entry_refusal run.now position }
 {
@@ -315,7 +323,8 @@ fn refused_entry(run: &Run, position: u32) -> Option<StoreFault>
     None
 }
 
-/// Returns the fault of finishing a run, if that is not allowed.
+/// Returns the fault of finishing a run, the first that applies. Returns `None` if the run can be
+/// finished.
 fn refused_end(run: &Run) -> Option<StoreFault>
     ensures { result ≡ closing_refusal run.now }
 {

@@ -3,7 +3,7 @@ use Rattle.kt_cli.proofs.Common.{shows_as, shows_error, utf8, shows_cut_off, sho
 use Rattle.kt_cli.proofs.Utf8Sums.{utf8_flat_map}
 use Rattle.kt_cli.proofs.messages.write_warnings.Goals as goal
 
--- `warned words position`: the warning about the filter at `position`
+-- `warned words position`: the warning about the filter at index `position` of `words`
 abbrev warned : List (List ℕ) → ℕ → List ℕ
 warned words position = warning_at (slice_get words position)
 

@@ -5,7 +5,7 @@ use Rattle.kt_cli.proofs.Common.{encode, shows_as, shows_both, shows_error, show
 use Rattle.kt_cli.proofs.Utf8Sums.{utf8_flat_map}
 use Rattle.kt_cli.proofs.commands.listing.write_listing.Goals as goal
 
--- the line of a case
+-- the parts of a case's line, in UTF-8, are the bytes of `case_line`
 line_is : (k : Candidate) → utf8 k.path ++ codes ":" ++ utf8 k.case.name ++ codes "\n" ≡ utf8 (case_line k)
 unfolding encode
 line_is k = sym (utf8_four k.path (codes ":") k.case.name (codes "\n"))

@@ -9,13 +9,14 @@ use Rattle.kt_cli.specs.declared.host.host_files.HostFiles as machine
 use Rattle.kt_cli.proofs.host.host_execution.execute_over_cases.Goals as goal
 
 module _ {M O : Type 0} (m : machine.Ghosts M) (o : system.Ghosts O) where
-  -- no calls of the world change which children run
+  -- a sequence of world calls does not change which children run
   all_running_kept : (qs : List WorldCall) (old new : HostWorld M O) → Chain (leads_by (IsFileCall m.answers) (IsHostAnswer m.answers o.leads)) old qs new → new.driver.running ≡ old.driver.running
   all_running_kept [] old new h = ap (λ (w : HostWorld M O). w.driver.running) h
   all_running_kept (CallToTree asked ∷ qs) old new h = all_running_kept qs h.0 new h.2 ∙ look_kept m.answers old h.0 asked h.1
   all_running_kept (CallToHost answer ∷ qs) old new h = all_running_kept qs h.0 new h.2 ∙ running_kept m.answers o.leads old h.0 answer h.1
 
-  -- from a driver without running children, each end in the trace is that of a child
+  -- the launcher's calls of a command, from a driver without running children, are those of the
+  -- trace
   courses_by_trace : (seen : CommandCalls) (old new : HostWorld M O) (course : LeadsWorld (host_world m o) seen old new) → old.driver.running ≡ idle_state
       → RunsFrom o.leads seen.plan seen.trace (driver_state_of idle_state course.begun.driver.next) course.begun.driver new.driver
   courses_by_trace seen old new course none =

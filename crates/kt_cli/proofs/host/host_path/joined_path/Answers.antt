@@ -2,13 +2,13 @@ use Rattle.std.proofs.Common.{◌≡◌, ℕ, true, false, Option, Some, None, I
 use Rattle.std.proofs.lemmas.Str.{IsUtf8-append}
 use Rattle.kt_cli.proofs.host.host_path.joined_path.Goals as goal
 
--- a path that is joined of texts is UTF-8
+-- a path that is concatenated from UTF-8 texts is UTF-8
 is_text : (first second path directory between name : List ℕ) → IsUtf8 directory → IsUtf8 between → IsUtf8 name
     → first ≡ directory → second ≡ first ++ between → path ≡ second ++ name → IsUtf8 path
 is_text first second path directory between name d b n one two three =
     rw (three, two, one) (IsUtf8-append (directory ++ between) name (IsUtf8-append directory between d b) n)
 
--- if a result can't be an error, its value exists
+-- if a result can't be an error, the option made from it is not `None`
 never_none : {A B E : Type 0} (P : Type 0) (o : Option A) (r : Result B E) (good : B → Type 0) (bad : E → Type 0) → is_some o ≡ is_ok r → MatchResult r good bad → ((e : E) → bad e → ⊥) → IfNone o P
 never_none P None (Ok x) good bad e m refuted = absurd (let n : false ≡ true = e in cc)
 never_none P None (Err fault) good bad e m refuted = absurd (refuted fault m)

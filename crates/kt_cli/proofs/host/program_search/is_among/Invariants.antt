@@ -4,7 +4,7 @@ use denote.Shadow.{shadow}
 use Rattle.kt_cli.proofs.Common.{SearchesDirectories, directories}
 use Rattle.kt_cli.proofs.host.program_search.is_among.Given as goal
 
--- the result of searching the rest is the result of the whole search
+-- the result of the search in the remaining directories is the result of the whole search
 abbrev pub invariant-loop-directory : goal.invariant-loop-directory
 invariant-loop-directory g l =
     ((answer : Bool) (new : g.row.M.Denot) → SearchesDirectories g.M.HostFiles.answers l.name (directories l.rest) answer l.machine new

@@ -6,7 +6,7 @@ use Rattle.std.proofs.lemmas.List.{append_assoc, take-append-drop}
 use Rattle.std.proofs.lemmas.List.Edits.{take-paste}
 use Rattle.kt_cli.proofs.output.held_bytes.HeldBytes.write_buffered.Goals as goal
 
--- after the first held bytes were written, written and held bytes together are the same
+-- writing the first `n` held bytes keeps the written bytes followed by the held bytes
 moved : (old new : Option (List ℕ)) (held : List ℕ) (n : ℕ) → Appends old new (take n held) → Keeps (append_known old held) (append_known new (drop n held))
 moved None new held n h = tt
 moved (Some xs) None held n h = absurd h
