@@ -1,5 +1,5 @@
 -- Re-exports of the names that most proofs of this crate cite. Declares nothing.
-pub use Rattle.std.proofs.Common.{Bool, Equal, Err, Greater, IfErr, IfOk, IfSome, IsPermutation, IsSome, IsTrue, Less, List, None, Ok, Option, Ordering, Result, Some, [], ap, append-nil, ap₂, arith, codes, cond, drop, false, filter, get_or, inl, inr, is_err, length, length-append, map, nat_lt, ne_eqb, not, option_map, pos, refl, reverse, rules, slice_get, subst, subst₂, suc, sym, take, true, true≢false, w64, zero, ℕ, ℤ, ◌%◌, ◌&&◌, ◌++◌, ◌+◌, ◌-◌, ◌<◌, ◌==◌, ◌∙◌, ◌∷◌, ◌≡◌, ◌≢◌, ◌≤◌, ◌⊎◌}
+pub use Rattle.std.proofs.Common.{Bool, Equal, Err, Greater, IfErr, IfOk, IfSome, IsPermutation, IsSome, IsTrue, Less, List, None, Ok, OnOk, Option, Ordering, Result, Some, [], ap, append-nil, ap₂, arith, codes, cond, drop, false, filter, get_or, inl, inr, is_err, length, length-append, map, nat_lt, ne_eqb, not, option_map, pos, refl, reverse, rules, slice_get, subst, subst₂, suc, sym, take, true, true≢false, w64, zero, ℕ, ℤ, ◌%◌, ◌&&◌, ◌++◌, ◌+◌, ◌-◌, ◌<◌, ◌==◌, ◌∙◌, ◌∷◌, ◌≡◌, ◌≢◌, ◌≤◌, ◌⊎◌}
 pub use Rattle.std.proofs.Math.Logic.{∥∥₁_elim, ∥∥₁_map}
 pub use Rattle.std.proofs.lemmas.Bool.{and_parts, cases_eq, cond-true, eq-eqb, not-true, or_right}
 pub use Rattle.std.proofs.lemmas.Bool.Decides.{nat_tests}
@@ -69,7 +69,7 @@ pub use Rattle.sqlite_wal.specs.Files.{outcomes, seen_image}
 pub use Rattle.sqlite_wal.specs.Reads.{AreClean, are_clean}
 pub use Rattle.sqlite_wal.specs.Recovery.{AreWhole, IsIgnored, only_page}
 pub use Rattle.kt_store.specs.Attaching.{Current}
-pub use Rattle.kt_store.specs.Files.{HasWithoutLog}
+pub use Rattle.kt_store.specs.Files.{Closed, Ends, FailsToEnd, HasTrees, StaysNumbered}
 pub use Rattle.kt_store.specs.Runs.{IsRun, HasSchemaNumber, Tables, entry_rows, prop_rows, finish, new_run, pair_rows, with_entry}
 pub use Rattle.kt_store.specs.Serving.{Agrees, SurvivesCrash, runs_after}
 pub use Rattle.kt_store.specs.StoreCalls.{StoreCall}
@@ -87,5 +87,5 @@ pub use Rattle.kt_dbfile.specs.Inner.Cursors.{IsAt, Places, SelectsColumns, begi
 pub use Rattle.kt_dbfile.specs.Inner.Edits.{WritesEntryRows, IsSettledStore, new_run_row}
 pub use Rattle.kt_dbfile.specs.Inner.Known.{HasRuns, by_trees, readings, runs_file}
 pub use Rattle.kt_dbfile.specs.Inner.NewFiles.{HoldsEmpty, IsNewNameOf}
-pub use Rattle.kt_dbfile.specs.Common.{AreNamed, AreNumbered, AreOrdered, AreRuns, AreWide, Began, CanAdd, CountsUnderKey, EndsTransaction, EndsIn, Finished, HasCommitted, Head, HoldsCommit, HoldsRuns, IsComplete, IsPair, IsStoreFault, IsAttached, IsAttachedFiles, Keeps, IsSchema2OfOne, ListsRuns, OnlyReadsStore, OnlyMovesCursors, ObeysSchema, Outline, Outputs, Pairs, Put, PutsRows, Serves, SelectsUnderKey, ArePlacesOf, StandsFor, WritesRows, finished_run_row, entries_of, entry_row, has_position, head_of, in_columns, outlined, outputs_of, pair_row, pair_rows_from, places_2, run_at, run_row, schema_2, seen_as, unnumbered}
+pub use Rattle.kt_dbfile.specs.Common.{AreNamed, AreNumbered, AreOrdered, AreRuns, AreWide, Began, CanAdd, CountsUnderKey, EndsTransaction, Finished, HasCommitted, Head, HoldsCommit, HoldsRuns, IsComplete, IsPair, IsStoreFault, IsAttached, IsAttachedFiles, Keeps, IsSchema2OfOne, ListsRuns, OnlyReadsStore, OnlyMovesCursors, ObeysSchema, Outline, Outputs, Pairs, Put, PutsRows, Serves, SelectsUnderKey, ArePlacesOf, StandsFor, WritesRows, finished_run_row, entries_of, entry_row, has_position, head_of, in_columns, outlined, outputs_of, pair_row, pair_rows_from, places_2, run_at, run_row, schema_2, seen_as, unnumbered}
 pub use Rattle.kt_dbfile.specs.Inner.Opening.{OpensOver}

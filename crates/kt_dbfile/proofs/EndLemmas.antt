@@ -1,5 +1,5 @@
 -- The ends of calls that write the trees of a store: a commit or a rollback.
-use Rattle.kt_dbfile.proofs.Common.{Agrees, Database, EndsTransaction, Err, Ghosts, HasCleanDisk, HasCommitted, HasRuns, Held, HoldsCommit, IsLive, IsSettledStore, IsSound, IsTrue, Keeps, IsSchema2OfOne, List, Lists, OnlyReadsStore, Ok, SurvivesCrash, Result, Run, Schema, Serves, ArePlacesOf, StandsFor, StoreCall, StoreFault, Trees, WritesRows, ap, catalog_tree, runs_after, clean_if_open, false, inl, inr, is_err, lists_once, places_2, readings, refl, runs_file, schema_2, state, subst, sym, true, true≢false, ◌∙◌, ◌∷◌, ◌≡◌}
+use Rattle.kt_dbfile.proofs.Common.{Agrees, Database, EndsTransaction, Err, Ghosts, HasCleanDisk, HasCommitted, HasRuns, Held, HoldsCommit, IsLive, IsSettledStore, IsSound, IsTrue, Keeps, IsSchema2OfOne, List, Lists, OnlyReadsStore, Ok, SurvivesCrash, Result, Run, Schema, Serves, ArePlacesOf, StandsFor, StaysNumbered, StoreCall, StoreFault, Trees, WritesRows, ap, catalog_tree, runs_after, clean_if_open, false, inl, inr, is_err, lists_once, places_2, readings, refl, runs_file, schema_2, state, subst, sym, true, true≢false, ◌∙◌, ◌∷◌, ◌≡◌}
 use Rattle.sqlite_trees.specs.View.{View, IsClean, IsRolledBack}
 use Rattle.kt_dbfile.specs.declared.places.Places.{Places}
 use Rattle.kt_dbfile.proofs.SeenLemmas.{read_serves}
@@ -9,7 +9,7 @@ use Rattle.kt_store.proofs.Numbered.{numbers_changed, ordered_changed}
 
 module _ (old new : View) (back : IsRolledBack old new) (clean : IsClean new) where
   pub rolled_held : HoldsCommit old new
-  rolled_held opened = ((back.kept clean).was_open opened, (back.kept clean).committed opened)
+  rolled_held opened = ((back.kept clean).was_open opened, (back.kept clean).committed opened, back.numbered)
 
 -- a store that is not broken is open
 open_if_sound : (v : View) → (v.is_open ≡ false → IsTrue v.is_broken) → v.is_broken ≡ false → IsTrue v.is_open
@@ -70,12 +70,19 @@ module _ {S : Type 0} (g : Ghosts S) (dirty : (s : S) → (g.view s).is_clean �
     rows (Ok x) wrote none runs h clean = subst (λ l. Keeps l (g.view mid).trees) (writes.done x runs) (wrote.rows runs (has runs h) clean)
     rows (Err f) wrote none runs h clean = absurd (true≢false none)
 
+    -- the trees are numbered as before the call
+    stays_numbered : (written result : Result T StoreFault) → WritesRows g schema call old mid written → EndsTransaction g mid new written result → StaysNumbered (g.view old) (g.view new)
+    stays_numbered written result wrote ended clean opened =
+        let second = ended.numbered clean opened in
+        let first = wrote.held (ended.clean clean) second.0 in
+        (first.0, second.1 ∙ first.2)
+
     -- the call serves, by its end
     pub ended_served : (written result : Result T StoreFault) → WritesRows g schema call old mid written → EndsTransaction g mid new written result → Serves (runs_file g) (call result) old new
     ended_served written (Ok x) wrote ended =
         let done = subst (λ r. WritesRows g schema call old mid r) ended.value wrote in
         record {
-          asked = tt;
+          asked = stays_numbered written (Ok x) wrote ended;
           stands = λ runs h. made (call (Ok x)) runs h (λ late. done.agrees runs (has runs h) (ended.clean late)) (λ late. wrote.clean (ended.clean late)) (λ opened.
               let late = clean_if_open (g.view new) (dirty new) opened in
               subst (Keeps (runs_after (call (Ok x)) runs)) (sym (ended.done late).1) (done.rows runs (has runs h) (ended.clean late)));
@@ -86,7 +93,7 @@ module _ {S : Type 0} (g : Ghosts S) (dirty : (s : S) → (g.view s).is_clean �
               inl (subst (Keeps (change runs)) (sym (settles new trees opened found ∙ (ended.done late).1)) (rows (Ok x) done refl runs h (ended.clean late))));
         }
     ended_served written (Err e) wrote ended = record {
-      asked = tt;
+      asked = stays_numbered written (Err e) wrote ended;
       stands = λ runs h. made (call (Err e)) runs h (agrees runs h) (λ late. wrote.clean (ended.clean late)) (λ opened.
           let late = clean_if_open (g.view new) (dirty new) opened in
           let second = ended.kept late opened in

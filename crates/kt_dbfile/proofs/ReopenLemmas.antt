@@ -1,23 +1,52 @@
 -- A close leaves files that meet the conditions of an open.
-use Rattle.kt_dbfile.proofs.Common.{EndsIn, FileStore, HasWithoutLog, HoldsDatabase, HoldsRuns, Image, IsOfRuns, IsTrue, Keeps, List, Recovers, Run, [], adopts_of, file_alone, kept_schema, schema_2, settled, size_is_allowed, subst, ∥∥₁_elim, ∥∥₁_map, ◌≡◌}
+use Rattle.kt_dbfile.proofs.Common.{AreClean, Closed, FailsToEnd, FileStore, HasTrees, HoldsDatabase, HoldsRuns, Image, IsClean, IsOfRuns, IsTrue, Keeps, IsSchema2OfOne, List, Recovers, Run, StaysNumbered, Trees, [], adopts_of, ap, arith, clean_if_open, clean_is, file_alone, file_trees, inl, inr, kept_schema, may_leave_is, no_doubt, outcomes, refl, schema_2, settled, shut_if_dirty_at, size_is_allowed, subst, sym, ◌∙◌, ◌∷◌, ◌≡◌, ∥∥₁_elim, ∥∥₁_map}
+use Rattle.kt_base.specs.Chains.{Chain}
+use Rattle.kt_store.specs.StoreCalls.{StoreCall}
 use Rattle.sqlite_disk.specs.declared.Disk.{Ghosts}
 use Rattle.sqlite_wal.proofs.LogLemmas.{SeenMayStay}
 use Rattle.sqlite_wal.proofs.StateLemmas.{clean_of}
-use Rattle.sqlite_store.specs.FileStore.{state, view, log_frames}
+use Rattle.sqlite_store.specs.FileStore.{state, view, log_frames, recovers, schema_in, files}
 use Rattle.sqlite_store.specs.Listing.{IsOurs}
 use Rattle.kt_dbfile.proofs.EditLemmas.{sound_in}
 
-pub without_log_of : {D : Type 0} {g : Ghosts D} (it : FileStore D g) → SeenMayStay g → IsTrue (view it).is_open → log_frames it ≡ 0 → (image : Image) → (state it).may_leave image → HasWithoutLog (view it).is_numbered (view it).committed image
-without_log_of it stays is_open empty image may = record {
-  size = (state it).page_size;
-  pages = (state it).committed;
-  wanted = kept_schema it.saved it.schema.items;
-  allowed = size_is_allowed it.pool;
-  both = (settled it.pool stays is_open).durable image may;
-  without_log = file_alone it.pool stays is_open empty image may;
-  file = ∥∥₁_map (it.stored is_open) (λ stored. stored.ours);
-  reads = rw (clean_of (state it) is_open);
-}
+module _ {D : Type 0} {g : Ghosts D} (it : FileStore D g) where
+  -- an open store without frames in its log has its last commit in the database file
+  module _ (stays : SeenMayStay g) (is_open : IsTrue (view it).is_open) where
+    committed_in : (image : Image) → Recovers (state it).page_size image (state it).committed → HasTrees (view it).is_numbered (view it).committed image
+    committed_in image found = record {
+      size = (state it).page_size;
+      pages = (state it).committed;
+      wanted = kept_schema it.saved it.schema.items;
+      allowed = size_is_allowed it.pool;
+      found = found;
+      file = ∥∥₁_map (it.stored is_open) (λ stored. stored.ours);
+      reads = rw (clean_of (state it) is_open);
+    }
+
+    pub without_log_of : log_frames it ≡ 0 → (image : Image) → (state it).may_leave image
+        → HasTrees (view it).is_numbered (view it).committed image × HasTrees (view it).is_numbered (view it).committed (record image { log = [] })
+    without_log_of empty image may = (
+      committed_in image ((settled it.pool stays is_open).durable image may),
+      committed_in (record image { log = [] }) (file_alone it.pool stays is_open empty image may),
+    )
+
+  -- a crash leaves files with trees that it may leave
+  pub left_of : (image : Image) → (state it).may_leave image → ∥ ((trees : Trees) × recovers it trees × HasTrees (view it).is_numbered trees image) ∥₁
+  left_of image may = ∥∥₁_map it.safe (λ all.
+      let found = all image may in
+      let trees = file_trees (state it).page_size (schema_in it found.0) found.0 in (
+        trees,
+        (image, found.0, may, ∣ found.1 ∣₁, refl),
+        record {
+          size = (state it).page_size;
+          pages = found.0;
+          wanted = schema_in it found.0;
+          allowed = size_is_allowed it.pool;
+          found = found.1;
+          file = found.2;
+          reads = refl;
+        },
+      ))
 
 -- ---- a close leaves files that meet the conditions of an open
 
@@ -25,31 +54,58 @@ without_log_of it stays is_open empty image may = record {
 pub supposed : (image : Image) (runs : List Run) → HoldsRuns image runs → ∥ IsOfRuns image ∥₁
 supposed image runs (db, found, keeps) = ∥∥₁_map found (λ (it : HoldsDatabase image db). let r : IsOfRuns image = λ size pages recovered lists. (runs, db, it, keeps) in r)
 
-module _ {D : Type 0} {g : Ghosts D} (store : FileStore D g) (runs : List Run) (image : Image) (end : EndsIn store runs image) where
-  left : HasWithoutLog (view store).is_numbered (view store).committed image
-  left = end.ends.left end.honest image end.outcome
+-- files with numbered trees that are those of runs hold the runs
+pub holds : (image : Image) (n : _) (trees : Trees) → HasTrees n trees image → IsTrue n → (runs : List Run) → Keeps runs trees → HoldsRuns image runs
+holds image n trees has numbered runs keeps = (
+  trees,
+  ∥∥₁_elim has.allowed squash₁ (λ size. ∥∥₁_map has.file (λ ours. let r : HoldsDatabase image trees = (
+    has.size,
+    size,
+    record {
+      pages = has.pages;
+      wanted = has.wanted;
+      schema = schema_2;
+      found = adopts_of _ image has.pages has.found;
+      ours = subst (λ b. IsOurs has.size b has.wanted has.pages) numbered ours;
+      reads = has.reads;
+      sound = sound_in runs trees keeps;
+    },
+  ) in r)),
+  keeps,
+)
 
-  keeps : Keeps runs (view store).committed
-  keeps = end.has (end.ends.was_open end.honest)
+module _ {D : Type 0} {g : Ghosts D} where
+  -- calls change nothing about the numbers of the trees
+  numbered_through : (first : FileStore D g) (calls : List StoreCall) (last : FileStore D g) → Chain (λ (old : FileStore D g) (call : StoreCall) (new : FileStore D g). StaysNumbered (view old) (view new)) first calls last → IsTrue (view last).is_open
+      → IsTrue (view first).is_open × ((view last).is_numbered ≡ (view first).is_numbered)
+  numbered_through first [] last same opened = (subst (λ (s : FileStore D g). IsTrue (view s).is_open) same opened, ap (λ (s : FileStore D g). (view s).is_numbered) same)
+  numbered_through first (call ∷ calls) last (mid, step, more) opened =
+      let late = numbered_through mid calls last more opened in
+      let early = step (clean_if_open (view mid) (shut_if_dirty_at mid) late.0) late.0 in
+      (early.0, late.1 ∙ early.1)
 
-  holds : (files : Image) → Recovers left.size files left.pages → HoldsRuns files runs
-  holds files found = (
-    (view store).committed,
-    ∥∥₁_elim left.allowed squash₁ (λ size. ∥∥₁_map left.file (λ ours. let r : HoldsDatabase files (view store).committed = (
-      left.size,
-      size,
-      record {
-        pages = left.pages;
-        wanted = left.wanted;
-        schema = schema_2;
-        found = adopts_of _ files left.pages found;
-        ours = subst (λ b. IsOurs left.size b left.wanted left.pages) end.numbered ours;
-        reads = left.reads;
-        sound = sound_in runs (view store).committed keeps;
-      },
-    ) in r)),
-    keeps,
-  )
+  module _ (before : Image) (last : FileStore D g) (runs : List Run) (after : Image) (end : Closed before last runs after) where
+    opened : IsTrue (view last).is_open
+    opened = end.ends.was_open end.honest
 
-  pub held : HoldsRuns image runs × HoldsRuns (record image { log = [] }) runs
-  held = (holds image left.both, holds (record image { log = [] }) left.without_log)
+    numbered : IsTrue (view last).is_numbered
+    numbered =
+        let through = numbered_through end.first end.calls last end.called opened in
+        let clean = clean_if_open (view end.first) (shut_if_dirty_at end.first) through.0 in
+        let began : IsTrue (view end.first).is_numbered = elim end.opened.whose [
+          | inl lists ↦ end.opened.numbered clean (end.checked (lists.lists clean))
+          | inr attached ↦ attached.2.numbered clean
+        ] in
+        through.1 ∙ began
+
+    pub held : HoldsRuns after runs × HoldsRuns (record after { log = [] }) runs
+    held =
+        let left = end.ends.left end.honest after end.outcome in
+        let keeps = end.has opened in
+        (holds after _ _ left.0 numbered runs keeps, holds (record after { log = [] }) _ _ left.1 numbered runs keeps)
+
+-- the runs of other trees are among the same lists
+pub one_of : (may : List (List Run)) (trees others : Trees) → ((runs : List Run) → Keeps runs trees → Keeps runs others) → IsSchema2OfOne may trees → IsSchema2OfOne may others
+one_of [] trees others same none = none
+one_of (runs ∷ may) trees others same (inl keeps) = inl (same runs keeps)
+one_of (runs ∷ may) trees others same (inr more) = inr (one_of may trees others same more)

@@ -72,7 +72,7 @@ outputs_agree (Err fault) runs number position ok err = err
 
 -- if each of two calls keeps the last commit, both together keep the last commit
 pub held_then : (a b c : View) → HoldsCommit a b → HoldsCommit b c → HoldsCommit a c
-held_then a b c first second opened = let late = second opened in let early = first late.0 in (early.0, late.1 ∙ early.1)
+held_then a b c first second opened = let late = second opened in let early = first late.0 in (early.0, late.1 ∙ early.1, late.2 ∙ early.2)
 
 module _ {S : Type 0} (g : Ghosts S) where
   schema_then : (u v w : View) → KeepsSchema u v → KeepsSchema v w → KeepsSchema u w
@@ -101,7 +101,7 @@ module _ {S : Type 0} (g : Ghosts S) where
     clean = λ clean. let falls = quiet.clean in omega arith;
     schema = schema;
     same = λ clean sound. moves clean;
-    held = λ clean opened. (subst IsTrue (ap (λ (v : View). v.is_open) (moves clean)) opened, ap (λ (v : View). v.committed) (moves clean));
+    held = λ clean opened. (subst IsTrue (ap (λ (v : View). v.is_open) (moves clean)) opened, ap (λ (v : View). v.committed) (moves clean), schema.numbered);
     outcomes = quiet.outcomes;
   }
 
@@ -111,7 +111,7 @@ module _ {S : Type 0} (g : Ghosts S) where
         → ((runs : List Run) (may : List (List Run)) → ((by_trees g Has).leaves old may → (by_trees g Has).leaves new may) → SurvivesCrash (by_trees g Has).leaves call runs may old new)
         → ((runs : List Run) → (by_trees g Has).stands old runs → IsClean (g.view new) → Agrees runs call) → Serves (by_trees g Has) call old new
     read_serves Has still call same lasts why = record {
-      asked = tt;
+      asked = λ clean opened. let held = looks.held clean opened in (held.0, held.2);
       stands = λ runs h. subst ((by_trees g Has).stands new) (sym (same runs)) (still runs h.0, h.1, λ clean. h.2 (looks.clean clean));
       earlier = λ runs h clean. looks.clean clean;
       agrees = why;

@@ -3,7 +3,7 @@ pub use Rattle.kt_base.specs.Moments.{IsMoment, IsStorable}
 pub use Rattle.sqlite_value.specs.Value.{owned}
 pub use Rattle.sqlite_wal.specs.Files.{image_at}
 pub use Rattle.kt_store.specs.Ask.{IsStoreFault}
-pub use Rattle.kt_store.specs.Files.{Ends, EndsIn, Finds, MustBeChecked}
+pub use Rattle.kt_store.specs.Files.{Closed, Ends, FailsToEnd, Finds, HasTrees, MustBeChecked, StaysNumbered}
 pub use Rattle.kt_store.specs.Heads.{IsNumbered, head_of, outlined, outputs_of}
 pub use Rattle.kt_store.specs.Inner.Ask.{AreWide}
 pub use Rattle.kt_store.specs.Inner.Runs.{finished_run_row, CanAdd, HasNoReasonIfPassed, IsComplete, entries_of}

@@ -1,5 +1,5 @@
 ghost use Rattle.std.specs.Prelude.{◌≡◌, ◌⊎◌, [], ◌∷◌, pos, codes, map, drop, true, false, Ok, IfOk, IfErr, OnOk, IfSome, IsTrue};
-ghost use Rattle.kt_dbfile.specs.Common.{Ends, Int, IsOnlyRead, IsOfOptions, IsStoreFault, OnlyReadsStore, ListsRuns, MustBeChecked, RecoversAsBefore, HasOtherSchema};
+ghost use Rattle.kt_dbfile.specs.Common.{Ends, FailsToEnd, Int, IsOnlyRead, IsOfOptions, IsStoreFault, OnlyReadsStore, ListsRuns, MustBeChecked, RecoversAsBefore, HasOtherSchema};
 ghost use Rattle.kt_store.specs.TrustedContents.{IsOfRuns, ListsTables, key_object, objects_2, table_object};
 ghost use Rattle.sqlite_trees.specs.Tree.{Trees};
 ghost use Rattle.sqlite_value.specs.Value.{owned};
@@ -291,9 +291,13 @@ pub(crate) fn check_number<S: Store>(store: &mut S, alloc: Global) -> Result<(),
     }
 }
 
-/// Copies the log into the database file, and closes both. Uncommitted changes are lost.
-pub(crate) fn close_store<D: Disk + Drop>(mut store: FileStore<D>) -> Result<(), StoreFailure>
+/// Copies the log into the database file, and closes both. Uncommitted changes are lost. On
+/// failure, returns the store.
+pub(crate) fn close_store<D: Disk + Drop>(
+    mut store: FileStore<D>,
+) -> Result<(), (StoreFailure, FileStore<D>)>
     ensures closed { OnOk result (Ends store) }
+    ensures failed { IfErr result (λ e. FailsToEnd store e.1) }
 {
     store.rollback();
     match store.checkpoint() {
@@ -301,7 +305,7 @@ pub(crate) fn close_store<D: Disk + Drop>(mut store: FileStore<D>) -> Result<(),
             let _files = store.close();
             Ok(())
         }
-        Err(error) => Err(StoreFailure::from(error)),
+        Err(error) => Err((StoreFailure::from(error), store)),
     }
 }
 

@@ -1,28 +1,40 @@
-ghost use Rattle.std.specs.Prelude.{List, []};
-ghost use Rattle.kt_dbfile.specs.Common.{EndsIn, Finds, HasCommitted, HoldsRuns, Keeps, Run};
+ghost use Rattle.std.specs.Prelude.{List, [], IsTrue};
+ghost use Rattle.kt_dbfile.specs.Common.{AreNumbered, AreOrdered, Closed, FailsToEnd, Finds, HasCommitted, HoldsRuns, Keeps, IsSchema2OfOne, Run};
 ghost use Rattle.kt_store.specs.TrustedContents.{IsOfRuns};
-ghost use Rattle.sqlite_store.specs.FileStore.{recovers, view};
+ghost use Rattle.sqlite_store.specs.FileStore.{files, recovers, view};
 ghost use Rattle.sqlite_store.specs.declared.store.FileStore.{FileStore as Stored};
 ghost use Rattle.sqlite_trees.specs.Tree.{Trees};
 ghost use Rattle.sqlite_trees.specs.View.{IsClean};
+ghost use Rattle.sqlite_wal.specs.Files.{outcomes};
+ghost use Rattle.sqlite_wal.specs.Reads.{AreClean};
 ghost use Rattle.sqlite_wal.specs.Recovery.{Image};
 
 use sqlite_disk::Disk;
 
-/// Theorem: an open finds the runs that the last close left.
+/// Theorem: the next process finds the runs that this process left.
 ///
-/// The theorem is about a store whose trees are numbered. The files after its close hold its runs,
-/// with the log and without it. The assumption on opened files (`IsOfRuns`) holds for these files.
-/// A store that finds them has these runs, and a crash leaves the runs. A store is numbered unless
-/// its file listed the tables of results and was larger than 16 MiB when it was opened.
+/// The premises of `Closed` are clauses of [`RunsFile`](crate::RunsFile): of its open, its calls
+/// and its close. After a close, the files hold the runs of the last commit, with the log and
+/// without it. The assumption on opened files (`IsOfRuns`) holds for these files. A store that
+/// finds the files has these runs, and a crash leaves the runs. After a close that failed, the next
+/// store has the runs that a crash may leave, if the trees are still numbered.
 pub fn theorem_of_reopening<D: Disk, E: Disk>()
-    ensures held { (store : Stored D D.Disk) (runs : List Run) (image : Image)
-        → EndsIn store runs image
-        → HoldsRuns image runs × HoldsRuns (record image { log = [] }) runs }
-    ensures supposed { (store : Stored D D.Disk) (runs : List Run) (image : Image)
-        → EndsIn store runs image → ∥ IsOfRuns image ∥₁ × ∥ IsOfRuns (record image { log = [] }) ∥₁ }
-    ensures found { (store : Stored D D.Disk) (runs : List Run) (image : Image)
-        → EndsIn store runs image → (next : Stored E E.Disk) → Finds image next
-        → HasCommitted (view next) runs
+    ensures held { (before after : Image) (last : Stored D D.Disk) (runs : List Run)
+        → Closed before last runs after
+        → HoldsRuns after runs × HoldsRuns (record after { log = [] }) runs }
+    ensures supposed { (before after : Image) (last : Stored D D.Disk) (runs : List Run)
+        → Closed before last runs after
+        → ∥ IsOfRuns after ∥₁ × ∥ IsOfRuns (record after { log = [] }) ∥₁ }
+    ensures found { (before after : Image) (last : Stored D D.Disk) (runs : List Run)
+        → Closed before last runs after → (next : Stored E E.Disk) → Finds after next
+        → HasCommitted (view next) runs × AreNumbered 1 runs
+        × (IsClean (view next) → AreOrdered runs)
         × (IsClean (view next) → (trees : Trees) → recovers next trees → Keeps runs trees) }
+    ensures failed { (store last : Stored D D.Disk) (may : List (List Run)) (after : Image)
+        → (IsClean (view store) → (trees : Trees) → recovers store trees → IsSchema2OfOne may trees)
+        → FailsToEnd store last → IsTrue (view last).is_numbered
+        → AreClean D.Disk (files last).0 (files last).1
+        → outcomes D.Disk (files last).0 (files last).1 after
+        → (next : Stored E E.Disk) → Finds after next → IsTrue (view next).is_open
+        → ∥ IsSchema2OfOne may (view next).committed ∥₁ }
 {}

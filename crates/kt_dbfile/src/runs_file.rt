@@ -1,4 +1,4 @@
-ghost use Rattle.std.specs.Prelude.{◌≡◌, ◌⊎◌, codes, pos, true, false, IsTrue, IfErr, IfOk, IfSome};
+ghost use Rattle.std.specs.Prelude.{◌≡◌, ◌⊎◌, codes, pos, true, false, IsTrue, IfErr, IfOk, IfSome, OnErr, OnOk, Err, Ok};
 ghost use Rattle.kt_dbfile.specs.Common.{EndsTransaction, Finds, IsOnlyRead, IsStoreFault, IsAttached, IsAttachedFiles, IsUri, OnlyReadsStore, schema_2};
 ghost use Rattle.kt_store.specs.Runs.{HasSchemaNumber};
 ghost use Rattle.kt_store.specs.TrustedContents.{IsOfRuns};
@@ -133,21 +133,35 @@ impl<S: Alter + Drop> RunsFile<S> {
     }
 }
 
+/// Returns the fault of a close that failed, and drops the returned store.
+fn ended<L: Drop>(closed: Result<(), (StoreFailure, L)>) -> Result<(), StoreFault>
+    ensures ok { OnOk result (closed ≡ Ok tt) }
+    ensures left { OnErr result ((failure : _) × (store : L) × (closed ≡ Err (failure, store))) }
+    ensures failed { IfErr result IsStoreFault }
+{
+    match closed {
+        Ok(()) => Ok(()),
+        Err((failure, _store)) => Err(StoreFault::from(failure)),
+    }
+}
+
 impl<D: Disk + Drop> RunsFile<FileStore<D>> {
-    ghost use Rattle.std.specs.Prelude.{OnOk, IfErr};
-    ghost use Rattle.kt_dbfile.specs.Common.{Ends, IsStoreFault};
+    ghost use Rattle.std.specs.Prelude.{OnErr, OnOk, IfErr};
+    ghost use Rattle.kt_dbfile.specs.Common.{Ends, FailsToEnd, IsStoreFault};
 
     /// Closes the results. The database file then contains all of them, without its log.
     ///
     /// # Errors
     ///
-    /// On failure, the results are in the file and its log.
+    /// On failure, the file and its log have the results of the last commit. If a call failed after
+    /// it, they may have the change of that call, too.
     ///
     /// - `Store`: the log can't be copied into the file.
     /// - `NoMemory`: memory ran out.
     pub fn close(self) -> Result<(), StoreFault>
         ensures closed { OnOk result (Ends self) }
         ensures failed { IfErr result IsStoreFault }
+        ensures left { OnErr result ((last : _) × FailsToEnd self last) }
     {
         // Separate for the prover: over a disk, a call of `into_store` takes 30 seconds to prove.
         let RunsFile {
@@ -156,7 +170,7 @@ impl<D: Disk + Drop> RunsFile<FileStore<D>> {
             places: _,
             alloc: _,
         } = self;
-        Ok(close_store(store)?)
+        Ok(ended(close_store(store))?)
     }
 }
 
@@ -352,11 +366,12 @@ impl<S: TrustedContents> RunsFile<FileStore<FileFrom<S>>> {
 }
 
 impl<S: Alter> StoreSpec for RunsFile<S> {
-    ghost use Rattle.kt_dbfile.specs.Common.{AreNumbered, AreOrdered, IsSchema2OfOne, HasCommitted};
+    ghost use Rattle.kt_dbfile.specs.Common.{AreNumbered, AreOrdered, IsSchema2OfOne, HasCommitted, StaysNumbered};
     ghost use Rattle.sqlite_trees.specs.Tree.{Trees};
     ghost use Rattle.sqlite_trees.specs.View.{IsClean};
 
-    ghost answers = { λ _ _ _. Unit {0} };
+    // No call changes whether the trees are numbered.
+    ghost answers = { λ old _ new. StaysNumbered (S.Store.view old) (S.Store.view new) };
 
     ghost stands = { λ s runs. HasCommitted (S.Store.view s) runs × AreNumbered 1 runs
         × (IsClean (S.Store.view s) → AreOrdered runs) };

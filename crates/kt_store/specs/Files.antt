@@ -11,22 +11,28 @@ use Rattle.kt_store.specs.Runs.{HasSchemaNumber}
 use Rattle.kt_store.specs.Seeks.{HasCommitted, OpensRuns}
 use Rattle.kt_store.specs.Stands.{StandsFor}
 use Rattle.kt_store.specs.TrustedContents.{ListsTables}
+use Rattle.kt_base.specs.Chains.{Chain}
+use Rattle.kt_store.specs.StoreCalls.{StoreCall}
 use Rattle.sqlite_store.specs.Listing.{file_trees, IsOurs}
 use Rattle.sqlite_store.specs.declared.catalog.Wanted.{Wanted}
 use Rattle.sqlite_wal.specs.PageSize.{IsPageSize}
-use Rattle.kt_store.specs.Types.{FileStore, HasCleanDisk, Held, HoldsDatabase, Image, IsClean, IsOpened, IsQuiet, PageMap, Recovers, Run, Trees, file_state, recovers, stored_size, view}
+use Rattle.kt_store.specs.Types.{FileStore, HasCleanDisk, Held, HoldsDatabase, Image, IsClean, IsOpened, IsQuiet, PageMap, Recovers, Run, Trees, View, file_state, recovers, stored_size, view}
 
--- `HasWithoutLog is_numbered trees image`: the two files recover to a sound file with `trees`, with
--- the log and without it; if `is_numbered` is `true`, the trees are numbered
-pub record HasWithoutLog (is_numbered : Bool) (trees : Trees) (image : Image) : Type 0 where
+-- `HasTrees is_numbered trees image`: the two files recover to a sound file with `trees`; if
+-- `is_numbered` is `true`, the trees are numbered
+pub record HasTrees (is_numbered : Bool) (trees : Trees) (image : Image) : Type 0 where
   pub size : ℕ
   pub pages : PageMap
   pub wanted : List Wanted
   pub allowed : ∥ IsPageSize (stored_size size) ∥₁
-  pub both : Recovers size image pages
-  pub without_log : Recovers size (record image { log = [] }) pages
+  pub found : Recovers size image pages
   pub file : ∥ IsOurs size is_numbered wanted pages ∥₁
   pub reads : trees ≡ file_trees size wanted pages
+
+-- `StaysNumbered old new`: a store that is open after a call was open before it, and its trees are
+-- numbered as before
+abbrev pub StaysNumbered : View → View → Type 0
+StaysNumbered old new = IsClean new → IsTrue new.is_open → IsTrue old.is_open × (new.is_numbered ≡ old.is_numbered)
 
 -- the size of the largest file whose pages and trees are all checked during an open, in bytes
 abbrev pub largest_checked_size : ℕ
@@ -88,13 +94,26 @@ module _ {D : Type 0} {g : disk.Ghosts D} where
     pub files : Files D
     pub own : files_in last ≡ (files.log, files.db)
     pub was_open : AreClean g files.log files.db → IsTrue (view store).is_open
-    pub left : AreClean g files.log files.db → (image : Image) → outcomes g files.log files.db image → HasWithoutLog (view store).is_numbered (view store).committed image
+    pub left : AreClean g files.log files.db → (image : Image) → outcomes g files.log files.db image → HasTrees (view store).is_numbered (view store).committed image
+        × HasTrees (view store).is_numbered (view store).committed (record image { log = [] })
 
-  -- `EndsIn store runs image`: `image` may be the files after `store` ended, also by a crash; its
-  -- trees are numbered, and its last commit has `runs`
-  pub record EndsIn (store : FileStore D g) (runs : List Run) (image : Image) : Type 0 where
-    pub ends : Ends store
+  -- `FailsToEnd store last`: the close of `store` failed, and left `last`. The two files of `last`
+  -- have trees that a crash of `store` leaves.
+  pub record FailsToEnd (store last : FileStore D g) : Type 0 where
+    pub quiet : IsQuiet view faults recovers is_shielded store last
+    pub left : AreClean g (files_in last).0 (files_in last).1 → (image : Image) → outcomes g (files_in last).0 (files_in last).1 image
+        → ∥ ((trees : Trees) × recovers store trees × HasTrees (view last).is_numbered trees image) ∥₁
+
+  -- `Closed before last runs after`: a process opened the files `before`, made calls, and closed
+  -- its store `last`, whose last commit has `runs`. The files may then be `after`, also after a
+  -- crash. All trees of `before` were checked, unless it didn't list the tables of results.
+  pub record Closed (before : Image) (last : FileStore D g) (runs : List Run) (after : Image) : Type 0 where
+    pub first : FileStore D g
+    pub opened : Finds before first
+    pub checked : ListsTables before → MustBeChecked before
+    pub calls : List StoreCall
+    pub called : Chain (λ old call new. StaysNumbered (view old) (view new)) first calls last
+    pub has : HasCommitted (view last) runs
+    pub ends : Ends last
     pub honest : AreClean g ends.files.log ends.files.db
-    pub outcome : outcomes g ends.files.log ends.files.db image
-    pub numbered : IsTrue (view store).is_numbered
-    pub has : HasCommitted (view store) runs
+    pub outcome : outcomes g ends.files.log ends.files.db after

@@ -81,9 +81,10 @@ IsLast rows (Some row) = (front : List Row) × (rows ≡ front ++ row ∷ [])
 abbrev pub OnlyMovesCursors : View → View → Type 0
 OnlyMovesCursors old new = (old.is_broken ≡ false) × (new ≡ record old { cursors = new.cursors })
 
--- `HoldsCommit old new`: the last commit is unchanged, while the store is open
+-- `HoldsCommit old new`: while the store is open, the last commit is unchanged, and the trees are
+-- numbered as before
 abbrev pub HoldsCommit : View → View → Type 0
-HoldsCommit old new = IsTrue new.is_open → IsTrue old.is_open × (new.committed ≡ old.committed)
+HoldsCommit old new = IsTrue new.is_open → IsTrue old.is_open × (new.committed ≡ old.committed) × (new.is_numbered ≡ old.is_numbered)
 
 -- `OnlyReadsStore g old new`: the store was only read. It shows the same trees unless it is broken now, and
 -- a crash leaves what it left before.

@@ -9,6 +9,7 @@ use Rattle.sqlite_rules.specs.Edit.{edit_of}
 use Rattle.sqlite_rules.specs.declared.error.Rowids.{Rowids}
 use Rattle.sqlite_rules.specs.declared.error.Rowids.TheVariants.{Chosen}
 use Rattle.kt_store.specs.Ask.{IsStoreFault}
+use Rattle.kt_store.specs.Files.{StaysNumbered}
 use Rattle.kt_dbfile.specs.Inner.Cursors.{HoldsCommit}
 use Rattle.kt_store.specs.Inner.Runs.{HasTexts}
 use Rattle.kt_store.specs.Runs.{Keeps, entry_row, pair_rows}
@@ -68,6 +69,7 @@ module _ {S : Type 0} (g : Ghosts S) where
   -- `EndsTransaction g old new written result`: the written rows were committed. If `written` is an error or
   -- the commit failed, the transaction was rolled back.
   pub record EndsTransaction {T : Type 0} (old new : S) (written result : Result T StoreFault) : Type 0 where
+    pub numbered : StaysNumbered (g.view old) (g.view new)
     pub value : IfOk result (λ value. written ≡ Ok value)
     pub fault : IfErr result (λ e. (written ≡ Err e) ⊎ IsStoreFault e)
     pub clean : IsClean (g.view new) → IsClean (g.view old)

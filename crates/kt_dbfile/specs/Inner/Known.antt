@@ -1,5 +1,6 @@
 -- The runs that the trees of a store represent, and the indexes of their tables.
 use Rattle.std.specs.Prelude.{◌≡◌, false, List, ℕ, suc, [], ◌∷◌, ⊤, Some}
+use Rattle.kt_store.specs.Files.{StaysNumbered}
 use Rattle.kt_store.specs.Runs.{AreNumbered, AreOrdered, Keeps, IsSchema2OfOne}
 use Rattle.kt_store.specs.Seeks.{HasCommitted}
 use Rattle.kt_store.specs.declared.result_store.StoreSpec as store
@@ -23,7 +24,7 @@ module _ {S : Type 0} (g : Ghosts S) where
   -- and `runs`
   abbrev pub by_trees : (View → List Run → Type 0) → store.Ghosts S
   by_trees Has = record {
-    answers = λ _ _ _. Unit {0};
+    answers = λ old _ new. StaysNumbered (g.view old) (g.view new);
     stands = λ s runs. Has (g.view s) runs × AreNumbered 1 runs × (IsClean (g.view s) → AreOrdered runs);
     sound = λ s. IsClean (g.view s);
     leaves = λ s may. IsClean (g.view s) → (trees : Trees) → g.recovers s trees → IsSchema2OfOne may trees;

@@ -1,15 +1,27 @@
-use Rattle.kt_dbfile.proofs.ReopenLemmas.{held, supposed}
+use Rattle.kt_dbfile.proofs.Common.{arith, clean_is, no_doubt, ∥∥₁_map, ◌∙◌}
+use Rattle.sqlite_store.specs.FileStore.{view}
+use Rattle.sqlite_trees.specs.View.{IsClean}
+use Rattle.kt_dbfile.proofs.ReopenLemmas.{held, holds, one_of, supposed}
 use Rattle.kt_dbfile.proofs.reopening.theorem_of_reopening.Goals as goal
 
 pub returns-clause-held : goal.returns-clause-held
-returns-clause-held g c store runs image end = held store runs image end
+returns-clause-held g c before after last runs closed = held before last runs after closed
 
 pub returns-clause-supposed : goal.returns-clause-supposed
-returns-clause-supposed g c store runs image end =
-    let both = held store runs image end in
+returns-clause-supposed g c before after last runs closed =
+    let both = held before last runs after closed in
     (supposed _ runs both.0, supposed _ runs both.1)
 
 pub returns-clause-found : goal.returns-clause-found
-returns-clause-found g c store runs image end next finds =
-    let it = (held store runs image end).0 in
-    ((finds.held.stands runs it).0, finds.held.leaves runs it)
+returns-clause-found g c before after last runs closed next finds =
+    let it = (held before last runs after closed).0 in
+    let stands = finds.held.stands runs it in
+    (stands.0, stands.1, stands.2, finds.held.leaves runs it)
+
+pub returns-clause-failed : goal.returns-clause-failed
+returns-clause-failed g c store last may after leaves end numbered honest outcome next finds opened =
+    let late : IsClean (view last) = no_doubt _ (clean_is last.pool ∙ honest) in
+    let quiet = end.quiet.clean in
+    let clean : IsClean (view store) = omega (arith, quiet) in
+    ∥∥₁_map (end.left honest after outcome) (λ it.
+    one_of may it.0 (view next).committed (λ runs keeps. (finds.held.stands runs (holds after _ it.0 it.2 numbered runs keeps)).0 opened) (leaves clean it.0 it.1))
