@@ -259,10 +259,10 @@ kt_dbfile/src/opening.rt: let log = present(files.log.len().ok())?;
 kt_dbfile/src/opening.rt: present(number_in(settings.as_slice()))
 kt_dbfile/src/runs_file.rt: sure(!store.is_broken())?;
 kt_dbfile/src/runs_file.rt: let schema = present(listed(&store, alloc)?)?;
-kt_dbfile/src/runs_file.rt: let places = present(places_in(&schema))?;
+kt_dbfile/src/runs_file.rt: sure(has_tables(&schema))?;
 kt_dbfile/src/tables.rt: sure(store.shape(tree) == Shape::Table)?;
-kt_dbfile/src/seeks.rt: sure(store.shape(places.runs.tree) == Shape::Table)?;
-kt_dbfile/src/ends.rt: sure(store.shape(places.runs.tree) == Shape::Table)?;
+kt_dbfile/src/seeks.rt: sure(store.shape(RUNS) == Shape::Table)?;
+kt_dbfile/src/ends.rt: sure(store.shape(RUNS) == Shape::Table)?;
 kt_dbfile/src/ends.rt: sure(are_shaped(store, table))?;
 kt_dbfile/src/trees.rt: sure(are_shaped(store, table))?;
 kt_dbfile/src/trees.rt: sure(are_shaped(store, table))?;
@@ -276,11 +276,11 @@ kt_dbfile/src/trees.rt: sure(store.get(table.tree, id, row)?)?;
 # The ends of the tables and of their indexes, and the entries of a run.
 kt_dbfile/src/ends.rt: sure(is_last_row_placed(store, alloc, table)?)?;
 kt_dbfile/src/ends.rt: sure(is_end(alloc, &end, last)?)
-kt_dbfile/src/ends.rt: sure(has_entry(store, alloc, places, &pair)?)
-kt_dbfile/src/ends.rt: sure(store.get(places.runs.tree, key as i64, &mut row)?)?;
+kt_dbfile/src/ends.rt: sure(has_entry(store, alloc, &pair)?)
+kt_dbfile/src/ends.rt: sure(store.get(RUNS, key as i64, &mut row)?)?;
 kt_dbfile/src/ends.rt: sure(head.number == number)?;
 kt_dbfile/src/ends.rt: sure(is_possible_entry_list(head, entries))?;
-kt_dbfile/src/ends.rt: sure(are_of_entries(store, alloc, places, head, entries)?)
+kt_dbfile/src/ends.rt: sure(are_of_entries(store, alloc, head, entries)?)
 # A written row must obey the rules of its table.
 kt_dbfile/src/rules.rt: sure(is_kept)?;
 PLACES

@@ -1,6 +1,6 @@
 -- The conditions of a write on a store that obeys its schema, and the tables of runs after its
 -- rows.
-use Rattle.kt_dbfile.proofs.Common.{AreNumbered, CanAdd, Chosen, Database, Enforced, Entry, WritesEntryRows, Fits, ForeignKey, Given, IsCatalogOf, IsComplete, IsListed, IsOrdered, IsSound, Keeps, List, Lists, None, ObeysSchema, PutsRows, Refers, Row, Run, Schema, Some, Tables, Tally, Trees, Variable, View, [], all_from, ap, ap₂, arith, new_run_row, cast_row, catalog_tree, finished_run_row, drop, edit_of, entries_table, entry_row, entry_rows, false, finish, get_or, ids_of, last_id, length, lists_once, map, nat_tests, new_run, nothing_logged, one_step, pair_row, pair_rows, pair_rows_from, places_2, pos, prop_rows, props_1, refl, run_at, runs_1, schema_2, subst, suc, sym, take, true, unnumbered, with_entry, works, zero, ℕ, ℤ, ◌++◌, ◌+◌, ◌<◌, ◌==◌, ◌∙◌, ◌∷◌, ◌≡◌, ◌≤◌}
+use Rattle.kt_dbfile.proofs.Common.{AreNumbered, CanAdd, Chosen, Database, Enforced, Entry, WritesEntryRows, Fits, ForeignKey, Given, IsCatalogOf, IsComplete, IsListed, IsOrdered, IsSound, Keeps, List, Lists, None, ObeysSchema, PutsRows, Refers, Row, Run, Schema, Some, Tables, Tally, Trees, Variable, View, [], all_from, ap, ap₂, arith, new_run_row, cast_row, catalog_tree, finished_run_row, drop, edit_of, entries_table, entry_row, entry_rows, false, finish, get_or, ids_of, last_id, length, lists_once, map, nat_tests, new_run, nothing_logged, one_step, pair_row, pair_rows, pair_rows_from, pos, prop_rows, props_1, refl, run_at, runs_1, schema_2, subst, suc, sym, take, true, unnumbered, with_entry, works, zero, ℕ, ℤ, ◌++◌, ◌+◌, ◌<◌, ◌==◌, ◌∙◌, ◌∷◌, ◌≡◌, ◌≤◌}
 use Rattle.sqlite_sql.specs.declared.query.Index.{Index}
 use Rattle.sqlite_exec.specs.Calls.{OnlyReads}
 use Rattle.sqlite_schema.specs.declared.schema.Among.TheVariants.{All}
@@ -114,7 +114,7 @@ module _ (schema : Schema) (runs : List Run) (old new : Trees) (was : IsSound sc
   cast_pairs n p j [] = refl
   cast_pairs n p j (v ∷ vs) = ap₂ (λ x xs. x ∷ xs) (rw (cast_null, cast_int (pos n), cast_int (pos p), cast_int (pos j)) refl) (cast_pairs n p (suc j) vs)
 
-  pub entry_filled : (run : ℕ) (e : Entry) → CanAdd run e runs → WritesEntryRows schema places_2 run e old new → Keeps (with_entry run e runs) new
+  pub entry_filled : (run : ℕ) (e : Entry) → CanAdd run e runs → WritesEntryRows schema run e old new → Keeps (with_entry run e runs) new
   entry_filled run e fits fills =
       let mid = fills.1.0 in
       let first = subst (λ (s : Schema). PutsRows s 2 [] Chosen 0 (unnumbered (entry_row run e) ∷ []) old mid) ours fills.1.1 entries_table refl in

@@ -1,10 +1,8 @@
 -- The ends of calls that write the trees of a store: a commit or a rollback.
-use Rattle.kt_dbfile.proofs.Common.{Agrees, Database, EndsTransaction, Err, Ghosts, HasCleanDisk, HasCommitted, HasRuns, Held, HoldsCommit, IsLive, IsSettledStore, IsSound, IsTrue, Keeps, IsSchema2OfOne, List, Lists, OnlyReadsStore, Ok, SurvivesCrash, Result, Run, Schema, Serves, ArePlacesOf, StandsFor, StaysNumbered, StoreCall, StoreFault, Trees, WritesRows, ap, catalog_tree, runs_after, clean_if_open, false, inl, inr, is_err, lists_once, places_2, readings, refl, runs_file, schema_2, state, subst, sym, true, true≢false, ◌∙◌, ◌∷◌, ◌≡◌}
+use Rattle.kt_dbfile.proofs.Common.{Agrees, Database, EndsTransaction, Err, Ghosts, HasCleanDisk, HasCommitted, HasRuns, Held, HoldsCommit, IsLive, IsSettledStore, IsSound, IsTrue, Keeps, IsSchema2OfOne, List, Lists, OnlyReadsStore, Ok, SurvivesCrash, Result, Run, Schema, Serves, StandsFor, StaysNumbered, StoreCall, StoreFault, Trees, WritesRows, ap, catalog_tree, runs_after, clean_if_open, false, inl, inr, is_err, lists_once, readings, refl, runs_file, state, subst, sym, true, true≢false, ◌∙◌, ◌∷◌, ◌≡◌}
 use Rattle.sqlite_trees.specs.View.{View, IsClean, IsRolledBack}
-use Rattle.kt_dbfile.specs.declared.places.Places.{Places}
 use Rattle.kt_dbfile.proofs.SeenLemmas.{read_serves}
 use Rattle.kt_store.proofs.ServeLemmas.{IsWrite}
-use Rattle.kt_dbfile.proofs.EditLemmas.{schema_is}
 use Rattle.kt_store.proofs.Numbered.{numbers_changed, ordered_changed}
 
 module _ (old new : View) (back : IsRolledBack old new) (clean : IsClean new) where
@@ -18,10 +16,6 @@ open_if_sound v law sound = elim v.is_open as (λ b. (b ≡ false → IsTrue v.i
 -- the trees of a settled store obey its schema
 pub sound_of : (v : View) (schema : Schema) → (v.is_open ≡ false → IsTrue v.is_broken) → IsSettledStore v schema → IsClean v → v.is_broken ≡ false → IsSound schema v.trees
 sound_of v schema law is clean sound = subst (IsSound schema) (sym (is.settled clean sound)) (is.sound (open_if_sound v law sound))
-
--- the tables of a settled store are at the indexes where they are found by name
-pub stand_at : (v : View) (schema : Schema) (places : Places) → (v.is_open ≡ false → IsTrue v.is_broken) → IsSettledStore v schema × (schema ≡ schema_2 → places ≡ places_2) → ArePlacesOf places v
-stand_at v schema places law is clean sound runs keeps = is.1 (schema_is schema runs v.trees (sound_of v schema law is.0 clean sound) keeps)
 
 -- the trees of a settled store are those of the runs that it represents
 pub has_runs : (v : View) (schema : Schema) → (v.is_open ≡ false → IsTrue v.is_broken) → IsSettledStore v schema → (runs : List Run) → HasCommitted v runs → HasRuns v runs

@@ -1,10 +1,9 @@
 -- The columns that are read from the rows that a cursor finds, and the calls of a store that is
 -- only read.
-use Rattle.kt_dbfile.proofs.Common.{Agrees, AreNumbered, AreWide, CaseOutputs, Entry, Err, Ghosts, HasRuns, HoldsCommit, IfErr, IfOk, IsStoreFault, IsTrue, Keeps, List, OnlyReadsStore, NoRun, None, Ok, SurvivesCrash, Outputs, Result, Row, Run, Serves, SelectsColumns, Some, ArePlacesOf, StoreCall, StoreFault, Trees, Variable, [], all-map, ap, arith, by_trees, runs_after, column, drop, entry_at, entry_columns, entry_row, false, filter, has_rowid, head_columns, in_columns, length, length-map, map, map-map, map_same, outputs_of, pair_columns, pair_rows_from, places_2, pos, readings, refl, run_at, run_row, subst, sym, true, ℕ, ◌∙◌, ◌∷◌, ◌≡◌, ◌≤◌, ◌⊎◌}
+use Rattle.kt_dbfile.proofs.Common.{Agrees, AreNumbered, AreWide, CaseOutputs, Entry, Err, Ghosts, HasRuns, HoldsCommit, IfErr, IfOk, IsStoreFault, IsTrue, Keeps, List, OnlyReadsStore, NoRun, None, Ok, SurvivesCrash, Outputs, Result, Row, Run, Serves, SelectsColumns, Some, StoreCall, StoreFault, Trees, Variable, [], all-map, ap, arith, by_trees, runs_after, column, drop, entry_at, entry_columns, entry_row, false, filter, has_rowid, head_columns, in_columns, length, length-map, map, map-map, map_same, outputs_of, pair_columns, pair_rows_from, pos, readings, refl, run_at, run_row, subst, sym, true, ℕ, ◌∙◌, ◌∷◌, ◌≡◌, ◌≤◌, ◌⊎◌}
 use Rattle.sqlite_trees.specs.View.{View, Finds, IsClean, IsQuiet, KeepsSchema}
 use Rattle.kt_store.proofs.EntryLemmas.{back}
 use Rattle.kt_store.proofs.RunLemmas.{found_run, none_there, some_there}
-use Rattle.kt_dbfile.specs.declared.places.Places.{Places}
 use Rattle.kt_store.proofs.PairsLemmas.{all_columns}
 
 -- columns without the rowid
@@ -36,8 +35,8 @@ pub seen_pairs : (n p : ℕ) (vs : List Variable) (shown : List Row) → Selects
 seen_pairs n p vs shown h = seen pair_places pairs_leave _ shown h ∙ all_columns (λ r. in_columns pair_places (back r)) n p (λ k v. refl) 0 vs
 
 -- the rows of runs, in the tree of their table
-pub rows_of_runs : (places : Places) (runs : List Run) (trees : Trees) → Keeps runs trees → places ≡ places_2 → trees places.runs.tree ≡ map run_row runs
-rows_of_runs places runs trees keeps is = ap (λ (p : Places). trees p.runs.tree) is ∙ ap (λ (t : Trees). t 2) keeps.2 ∙ keeps.3.runs_are
+pub rows_of_runs : (runs : List Run) (trees : Trees) → Keeps runs trees → trees 2 ≡ map run_row runs
+rows_of_runs runs trees keeps = ap (λ (t : Trees). t 2) keeps.2 ∙ keeps.3.runs_are
 
 -- a run is found by its rowid
 pub there_is : (runs : List Run) (n : ℕ) (table : List Row) (row : Row) → AreNumbered 1 runs → table ≡ map run_row runs → Finds table (pos n) row true → (r : Run) × (run_at runs n ≡ Some r) × (row ≡ run_row r)
@@ -52,12 +51,6 @@ pub still_has : {S : Type 0} (g : Ghosts S) (old new : S) → OnlyReadsStore g o
 still_has g old new looks runs has clean sound =
     let same = looks.same clean sound in
     subst (Keeps runs) (ap (λ (v : View). v.trees) (sym same)) (has (looks.clean clean) (ap (λ (v : View). v.is_broken) (sym same) ∙ sound))
-
--- a store that was only read has its tables at the same indexes
-pub still_at : {S : Type 0} (g : Ghosts S) (old new : S) (places : Places) → OnlyReadsStore g old new → ArePlacesOf places (g.view old) → ArePlacesOf places (g.view new)
-still_at g old new places looks stands clean sound runs keeps =
-    let same = looks.same clean sound in
-    stands (looks.clean clean) (ap (λ (v : View). v.is_broken) (sym same) ∙ sound) runs (subst (Keeps runs) (ap (λ (v : View). v.trees) same) keeps)
 
 -- each row has the requested number of columns
 pub all_wide : (columns : List ℕ) (rows : List Row) → AreWide (length columns) (map (in_columns columns) rows)

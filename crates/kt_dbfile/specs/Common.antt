@@ -19,4 +19,4 @@ pub use Rattle.kt_dbfile.specs.Inner.Cursors.{CountsUnderKey, FindsFirstUnderKey
 pub use Rattle.kt_dbfile.specs.Inner.Edits.{EndsTransaction, ObeysSchema, PutsRows, WritesRows, unnumbered}
 pub use Rattle.kt_dbfile.specs.Inner.NewFiles.{IsUri}
 pub use Rattle.kt_dbfile.specs.Inner.Opening.{IsOnlyRead, IsOfOptions, IsAttached, IsAttachedFiles, ListsRuns, RecoversAsBefore, HasOtherSchema}
-pub use Rattle.kt_dbfile.specs.Inner.Known.{AreNamed, HoldsForTrees, ArePlacesOf, places_2}
+pub use Rattle.kt_dbfile.specs.Inner.Known.{AreNamed, HoldsForTrees}

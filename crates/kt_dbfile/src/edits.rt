@@ -1,15 +1,14 @@
 //! Writes runs and entries into the trees of a store, without a commit.
 
 ghost use Rattle.std.specs.Prelude.{◌≡◌, ◌⊎◌, ◌<◌, ◌≤◌, ◌^◌, map, suc, length, Some, None, false, IfOk, IfErr, OnOk};
-ghost use Rattle.kt_dbfile.specs.Common.{AllByRecursion, Began, CanAdd, Finished, HasNoReasonIfPassed, IsComplete, IsMoment, IsPair, IsStorable, IsStoreFault, IsText, OnlyReadsStore, OnlyMovesCursors, HoldsForTrees, Put, Run, ArePlacesOf, WritesRows, finished_run_row, entries_of, entry_row, finish_refusal, has_position, last_run, owned, pair_row, pair_rows_from, put_refusal, run_at, run_row, unnumbered};
+ghost use Rattle.kt_dbfile.specs.Common.{AllByRecursion, Began, CanAdd, Finished, HasNoReasonIfPassed, IsComplete, IsMoment, IsPair, IsStorable, IsStoreFault, IsText, OnlyReadsStore, OnlyMovesCursors, HoldsForTrees, Put, Run, WritesRows, finished_run_row, entries_of, entry_row, finish_refusal, has_position, last_run, owned, pair_row, pair_rows_from, put_refusal, run_at, run_row, unnumbered};
 ghost use Rattle.sqlite_trees.specs.View.{IsClean};
 ghost use Rattle.sqlite_catalog.specs.Listing.{IsSound};
 
 use crate::ends::check_last;
-use crate::places::Places;
 use crate::rules::{TableEdit, put_rows};
 use crate::seeks::{last_number, run_head, stored_run};
-use crate::tables::{entries_at, entry_place, stored_head};
+use crate::tables::{ENTRIES_AT, PAIRS_AT, RUNS_AT, entry_place, entry_table, stored_head};
 use crate::trees::{count_under, number_row};
 use kt_base::{Entry, NoMemory, Text, Variable};
 use kt_store::StoreFault;
@@ -119,8 +118,7 @@ fn row_of_entry<'a>(
 
 /// Returns the number of the next run, and checks the ends of the tables. Fails with `StoreFull` if
 /// there are 1,000,000 runs.
-fn next_number<S: Alter>(store: &mut S, alloc: Global, places: Places) -> Result<u64, StoreFault>
-    requires { ArePlacesOf places (S.Store.view store.old) }
+fn next_number<S: Alter>(store: &mut S, alloc: Global) -> Result<u64, StoreFault>
     ensures number { HoldsForTrees S.Store store.old store.new (λ runs.
         IfOk result (λ n. (n ≡ suc (length runs)) × (length runs < last_run))) }
     ensures refused { HoldsForTrees S.Store store.old store.new (λ runs.
@@ -130,8 +128,8 @@ fn next_number<S: Alter>(store: &mut S, alloc: Global, places: Places) -> Result
         → OnOk result (OnlyMovesCursors (S.Store.view store.old) (S.Store.view store.new)) }
     ensures looks { OnlyReadsStore S.Store store.old store.new }
 {
-    let last = last_number(store, alloc, places)?;
-    check_last(store, alloc, places, last)?;
+    let last = last_number(store, alloc)?;
+    check_last(store, alloc, last)?;
     if last >= u64::from(MOST_RUNS) {
         return Err(StoreFault::StoreFull);
     }
@@ -143,17 +141,15 @@ pub(crate) fn write_run<S: Alter>(
     store: &mut S,
     alloc: Global,
     schema: &Schema,
-    places: Places,
     total: u32,
     moment: u64,
 ) -> Result<u64, StoreFault>
     requires moment { IsMoment moment }
     requires sound { IsClean (S.Store.view store.old) → (S.Store.view store.old).is_broken ≡ false
         → IsSound schema.now (S.Store.view store.old).trees }
-    requires placed { ArePlacesOf places (S.Store.view store.old) }
     ensures { WritesRows S.Store schema.now (λ r. Began total moment r) store.old store.new result }
 {
-    let number = next_number(store, alloc, places)?;
+    let number = next_number(store, alloc)?;
     let row = row_of(
         alloc,
         &[
@@ -165,7 +161,7 @@ pub(crate) fn write_run<S: Alter>(
         ],
     )?;
     let edit = TableEdit {
-        place: places.runs.at,
+        place: RUNS_AT,
         gone: &[],
         rowids: Rowids::Chosen,
         from: 0,
@@ -179,11 +175,9 @@ pub(crate) fn write_run<S: Alter>(
 fn is_put<S: Store>(
     store: &mut S,
     alloc: Global,
-    places: Places,
     run: u32,
     position: u32,
 ) -> Result<bool, StoreFailure>
-    requires { ArePlacesOf places (S.Store.view store.old) }
     ensures found { HoldsForTrees S.Store store.old store.new (λ runs.
         IfOk result (λ b. b ≡ has_position position (entries_of (run_at runs run)))) }
     ensures through { IsClean (S.Store.view store.new)
@@ -191,7 +185,7 @@ fn is_put<S: Store>(
     ensures looks { OnlyReadsStore S.Store store.old store.new }
 {
     let place = entry_place(alloc, run, position)?;
-    let count = count_under(store, alloc, &entries_at(places), &place)?;
+    let count = count_under(store, alloc, &entry_table(), &place)?;
     Ok(count > 0)
 }
 
@@ -200,11 +194,9 @@ fn is_put<S: Store>(
 fn check_entry<S: Alter>(
     store: &mut S,
     alloc: Global,
-    places: Places,
     run: u64,
     entry: &Entry,
 ) -> Result<(), StoreFault>
-    requires { ArePlacesOf places (S.Store.view store.old) }
     ensures small { OnOk result (run ≤ last_run) }
     ensures refused { HoldsForTrees S.Store store.old store.new (λ runs.
         IfErr result (λ e. IsStoreFault e ⊎ (put_refusal runs run entry.now ≡ Some e))) }
@@ -215,14 +207,14 @@ fn check_entry<S: Alter>(
         → OnOk result (OnlyMovesCursors (S.Store.view store.old) (S.Store.view store.new)) }
     ensures looks { OnlyReadsStore S.Store store.old store.new }
 {
-    let head = run_head(store, alloc, places, run)?;
+    let head = run_head(store, alloc, run)?;
     if head.finished {
         return Err(StoreFault::RunClosed);
     }
     if entry.position >= head.total {
         return Err(StoreFault::BadPosition);
     }
-    if is_put(store, alloc, places, key(run), entry.position)? {
+    if is_put(store, alloc, key(run), entry.position)? {
         return Err(StoreFault::RepeatedPosition);
     }
     Ok(())
@@ -233,22 +225,20 @@ pub(crate) fn write_entry<S: Alter>(
     store: &mut S,
     alloc: Global,
     schema: &Schema,
-    places: Places,
     run: u64,
     entry: &Entry,
 ) -> Result<(), StoreFault>
     requires moments { IsStorable entry.now }
     requires sound { IsClean (S.Store.view store.old) → (S.Store.view store.old).is_broken ≡ false
         → IsSound schema.now (S.Store.view store.old).trees }
-    requires placed { ArePlacesOf places (S.Store.view store.old) }
     ensures { WritesRows S.Store schema.now (λ r. Put run entry.now r) store.old store.new result }
 {
     let reason = reason_of(alloc, entry)?;
-    check_entry(store, alloc, places, run, entry)?;
+    check_entry(store, alloc, run, entry)?;
     let number = key(run);
     let row = row_of_entry(alloc, number, entry, &reason)?;
     let edit = TableEdit {
-        place: places.entries.at,
+        place: ENTRIES_AT,
         gone: &[],
         rowids: Rowids::Chosen,
         from: 0,
@@ -257,7 +247,7 @@ pub(crate) fn write_entry<S: Alter>(
     put_rows(store, alloc, schema, edit)?;
     let pairs = rows_of_pairs(alloc, number, entry.position, entry.meta.as_slice())?;
     let edit = TableEdit {
-        place: places.props.at,
+        place: PAIRS_AT,
         gone: &[],
         rowids: Rowids::Chosen,
         from: 0,
@@ -285,13 +275,7 @@ fn finished_row(alloc: Global, row: &Row) -> Result<Row, NoMemory>
 }
 
 /// Returns the number of entries of a run.
-fn count_of<S: Store>(
-    store: &mut S,
-    alloc: Global,
-    places: Places,
-    run: u32,
-) -> Result<u64, StoreFailure>
-    requires { ArePlacesOf places (S.Store.view store.old) }
+fn count_of<S: Store>(store: &mut S, alloc: Global, run: u32) -> Result<u64, StoreFailure>
     ensures count { HoldsForTrees S.Store store.old store.new (λ runs.
         IfOk result (λ n. n ≡ length (entries_of (run_at runs run)))) }
     ensures through { IsClean (S.Store.view store.new)
@@ -299,19 +283,13 @@ fn count_of<S: Store>(
     ensures looks { OnlyReadsStore S.Store store.old store.new }
 {
     let place = number_row(alloc, run)?;
-    let count = count_under(store, alloc, &entries_at(places), &place)?;
+    let count = count_under(store, alloc, &entry_table(), &place)?;
     Ok(count)
 }
 
 /// Returns the row of a run, and checks that the run can be finished. Fails with the first of
 /// `NoRun`, `RunClosed` and `Incomplete` that applies.
-fn check_run<S: Alter>(
-    store: &mut S,
-    alloc: Global,
-    places: Places,
-    run: u64,
-) -> Result<Row, StoreFault>
-    requires { ArePlacesOf places (S.Store.view store.old) }
+fn check_run<S: Alter>(store: &mut S, alloc: Global, run: u64) -> Result<Row, StoreFault>
     ensures small { OnOk result (run ≤ last_run) }
     ensures refused { HoldsForTrees S.Store store.old store.new (λ runs.
         IfErr result (λ e. IsStoreFault e ⊎ (finish_refusal runs run ≡ Some e))) }
@@ -322,12 +300,12 @@ fn check_run<S: Alter>(
         → OnOk result (OnlyMovesCursors (S.Store.view store.old) (S.Store.view store.new)) }
     ensures looks { OnlyReadsStore S.Store store.old store.new }
 {
-    let row = stored_run(store, alloc, places, run)?;
+    let row = stored_run(store, alloc, run)?;
     let head = stored_head(alloc, &row)?;
     if head.finished {
         return Err(StoreFault::RunClosed);
     }
-    if count_of(store, alloc, places, key(run))? < u64::from(head.total) {
+    if count_of(store, alloc, key(run))? < u64::from(head.total) {
         return Err(StoreFault::Incomplete);
     }
     Ok(row)
@@ -338,19 +316,17 @@ pub(crate) fn write_finish<S: Alter>(
     store: &mut S,
     alloc: Global,
     schema: &Schema,
-    places: Places,
     run: u64,
 ) -> Result<(), StoreFault>
     requires sound { IsClean (S.Store.view store.old) → (S.Store.view store.old).is_broken ≡ false
         → IsSound schema.now (S.Store.view store.old).trees }
-    requires placed { ArePlacesOf places (S.Store.view store.old) }
     ensures { WritesRows S.Store schema.now (λ r. Finished run r) store.old store.new result }
 {
-    let row = check_run(store, alloc, places, run)?;
+    let row = check_run(store, alloc, run)?;
     let done = finished_row(alloc, &row)?;
     let gone = [key(run) as i64];
     let edit = TableEdit {
-        place: places.runs.at,
+        place: RUNS_AT,
         gone: &gone,
         rowids: Rowids::Given,
         from: 1,

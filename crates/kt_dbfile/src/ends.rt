@@ -5,12 +5,11 @@
 //! result. The size of the file doesn't matter.
 
 ghost use Rattle.std.specs.Prelude.{◌≡◌, ◌<◌, ◌≤◌, [], ◌∷◌, Some, length, map, option_map, true, IfOk, OnOk};
-ghost use Rattle.kt_dbfile.specs.Common.{AllByRecursion, Entry as Stored, IsAscending, OnlyReadsStore, OnlyMovesCursors, HoldsForTrees, Run, ArePlacesOf, ends_with, head_of, last_run, outlined, run_at};
+ghost use Rattle.kt_dbfile.specs.Common.{AllByRecursion, Entry as Stored, IsAscending, OnlyReadsStore, OnlyMovesCursors, HoldsForTrees, Run, ends_with, head_of, last_run, outlined, run_at};
 ghost use Rattle.kt_store.specs.Runs.{IsRun};
 ghost use Rattle.sqlite_trees.specs.View.{IsClean};
 
-use crate::places::Places;
-use crate::tables::{entries_at, entry_place, last_row, pairs_at, stored_head};
+use crate::tables::{RUNS, entry_place, entry_table, last_row, pair_table, stored_head};
 use crate::trees::{TreeTable, are_shaped, columns_of, count_under, next_row, number_row};
 use kt_base::{Entry, NoMemory};
 use kt_store::RunHead;
@@ -90,17 +89,12 @@ fn is_end(alloc: Global, end: &Row, last: RunHead) -> Result<bool, NoMemory>
 }
 
 /// Returns `true` if the entry of a pair exists, or if there is no pair.
-fn has_entry<S: Store>(
-    store: &mut S,
-    alloc: Global,
-    places: Places,
-    pair: &Row,
-) -> Result<bool, StoreFailure>
+fn has_entry<S: Store>(store: &mut S, alloc: Global, pair: &Row) -> Result<bool, StoreFailure>
     ensures through { IsClean (S.Store.view store.new)
         → OnOk result (OnlyMovesCursors (S.Store.view store.old) (S.Store.view store.new)) }
     ensures looks { OnlyReadsStore S.Store store.old store.new }
 {
-    let count = count_under(store, alloc, &entries_at(places), pair)?;
+    let count = count_under(store, alloc, &entry_table(), pair)?;
     Ok(count == 1 || matches!(pair.get(0), ValueRef::Null))
 }
 
@@ -109,27 +103,22 @@ fn has_entry<S: Store>(
 fn check_last_entry<S: Store>(
     store: &mut S,
     alloc: Global,
-    places: Places,
     last: RunHead,
 ) -> Result<(), StoreFailure>
     ensures looks { OnlyReadsStore S.Store store.old store.new }
 {
-    let end = end_of(store, alloc, &entries_at(places))?;
+    let end = end_of(store, alloc, &entry_table())?;
     sure(is_end(alloc, &end, last)?)
 }
 
 /// Checks that the table of pairs and its index end with the same pair, and that its entry exists.
-fn check_last_pair<S: Store>(
-    store: &mut S,
-    alloc: Global,
-    places: Places,
-) -> Result<(), StoreFailure>
+fn check_last_pair<S: Store>(store: &mut S, alloc: Global) -> Result<(), StoreFailure>
     ensures through { IsClean (S.Store.view store.new)
         → OnOk result (OnlyMovesCursors (S.Store.view store.old) (S.Store.view store.new)) }
     ensures looks { OnlyReadsStore S.Store store.old store.new }
 {
-    let pair = end_of(store, alloc, &pairs_at(places))?;
-    sure(has_entry(store, alloc, places, &pair)?)
+    let pair = end_of(store, alloc, &pair_table())?;
+    sure(has_entry(store, alloc, &pair)?)
 }
 
 /// Checks that the tables and their indexes have the same ends, and that these agree with the last
@@ -137,15 +126,14 @@ fn check_last_pair<S: Store>(
 pub(crate) fn check_ends<S: Store>(
     store: &mut S,
     alloc: Global,
-    places: Places,
     last: RunHead,
 ) -> Result<(), StoreFailure>
     ensures through { IsClean (S.Store.view store.new)
         → OnOk result (OnlyMovesCursors (S.Store.view store.old) (S.Store.view store.new)) }
     ensures looks { OnlyReadsStore S.Store store.old store.new }
 {
-    check_last_entry(store, alloc, places, last)?;
-    check_last_pair(store, alloc, places)
+    check_last_entry(store, alloc, last)?;
+    check_last_pair(store, alloc)
 }
 
 /// Returns the head of run `number`, which must exist. Fails if the run is missing or its row has
@@ -153,36 +141,30 @@ pub(crate) fn check_ends<S: Store>(
 pub(crate) fn present_head<S: Store>(
     store: &mut S,
     alloc: Global,
-    places: Places,
     number: u64,
 ) -> Result<RunHead, StoreFailure>
-    ensures head { ArePlacesOf places (S.Store.view store.old) → HoldsForTrees S.Store store.old store.new
+    ensures head { HoldsForTrees S.Store store.old store.new
         (λ runs. IfOk result (λ head. Some head ≡ option_map head_of (run_at runs number))) }
     ensures numbered { IfOk result (λ head. head.number ≡ number) }
     ensures looks { OnlyReadsStore S.Store store.old store.new }
 {
-    sure(store.shape(places.runs.tree) == Shape::Table)?;
+    sure(store.shape(RUNS) == Shape::Table)?;
     let mut row = Row::new(alloc);
     let key = key(number);
-    sure(store.get(places.runs.tree, key as i64, &mut row)?)?;
+    sure(store.get(RUNS, key as i64, &mut row)?)?;
     let head = stored_head(alloc, &row)?;
     sure(head.number == number)?;
     Ok(head)
 }
 
 /// Returns the head of run `last`, or [`NO_RUN`] if `last` is 0.
-fn last_head<S: Store>(
-    store: &mut S,
-    alloc: Global,
-    places: Places,
-    last: u64,
-) -> Result<RunHead, StoreFailure>
+fn last_head<S: Store>(store: &mut S, alloc: Global, last: u64) -> Result<RunHead, StoreFailure>
     ensures looks { OnlyReadsStore S.Store store.old store.new }
 {
     if last == 0 {
         return Ok(NO_RUN);
     }
-    present_head(store, alloc, places, last)
+    present_head(store, alloc, last)
 }
 
 /// Checks that the tables end with run `last`. It is called before another run begins and before a
@@ -190,15 +172,14 @@ fn last_head<S: Store>(
 pub(crate) fn check_last<S: Store>(
     store: &mut S,
     alloc: Global,
-    places: Places,
     last: u64,
 ) -> Result<(), StoreFailure>
     ensures through { IsClean (S.Store.view store.new)
         → OnOk result (OnlyMovesCursors (S.Store.view store.old) (S.Store.view store.new)) }
     ensures looks { OnlyReadsStore S.Store store.old store.new }
 {
-    let head = last_head(store, alloc, places, last)?;
-    check_ends(store, alloc, places, head)
+    let head = last_head(store, alloc, last)?;
+    check_ends(store, alloc, head)
 }
 
 /// Returns `true` if the position of each entry is its index in the list.
@@ -252,18 +233,17 @@ fn count_pairs<S: Store>(
 fn are_of_entries<S: Store>(
     store: &mut S,
     alloc: Global,
-    places: Places,
     head: RunHead,
     entries: &[Entry],
 ) -> Result<bool, StoreFailure>
     ensures looks { OnlyReadsStore S.Store store.old store.new }
 {
-    let table = pairs_at(places);
+    let table = pair_table();
     let run = key(head.number);
     let place = number_row(alloc, run)?;
     if head.finished {
         let pair = last_place(store, alloc, &table, &place)?;
-        return has_entry(store, alloc, places, &pair);
+        return has_entry(store, alloc, &pair);
     }
     let all = count_under(store, alloc, &table, &place)?;
     Ok(all == count_pairs(store, alloc, &table, run, entries)?)
@@ -274,12 +254,11 @@ fn are_of_entries<S: Store>(
 pub(crate) fn check_entries<S: Store>(
     store: &mut S,
     alloc: Global,
-    places: Places,
     head: RunHead,
     entries: &[Entry],
 ) -> Result<(), StoreFailure>
     ensures looks { OnlyReadsStore S.Store store.old store.new }
 {
     sure(is_possible_entry_list(head, entries))?;
-    sure(are_of_entries(store, alloc, places, head, entries)?)
+    sure(are_of_entries(store, alloc, head, entries)?)
 }

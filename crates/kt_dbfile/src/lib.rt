@@ -1,14 +1,13 @@
 //! The results file: opening it, and reading and writing its trees.
 #![tactic(auto)]
 
-mod by_name;
 mod edits;
 mod ends;
 mod files;
+mod layout;
 mod mounts;
 mod new_file;
 mod opening;
-mod places;
 mod reopening;
 mod rules;
 mod runs_file;

@@ -9,13 +9,12 @@ ghost use Rattle.sqlite_trees.specs.Objects.{catalog_tree};
 ghost use Rattle.sqlite_std_file.specs.File.{file_is_usable, IsFresh};
 ghost use Rattle.sqlite_trees.specs.View.{IsClean};
 
-use crate::by_name::places_in;
 use crate::edits::{write_entry, write_finish, write_run};
 use crate::files::{OpenFailure, connect, open_both};
+use crate::layout::has_tables;
 use crate::mounts::is_mounted_alone;
 use crate::new_file::prepare;
 use crate::opening::{check_number, close_store, open_known_files, options};
-use crate::places::Places;
 use crate::seeks::{find_outputs, find_pairs, head, outline};
 use crate::trusted_contents::TrustedContents;
 use kt_base::{Entry, NoMemory, Text, Variables};
@@ -41,13 +40,10 @@ use std::time::Duration;
 pub struct RunsFile<S: Alter> {
     store: S,
     schema: Schema,
-    places: Places,
     alloc: Global,
 }
 
 impl<S: Alter> Model for RunsFile<S> {
-    ghost use Rattle.std.specs.Prelude.{◌≡◌};
-    ghost use Rattle.kt_dbfile.specs.Common.{places_2, schema_2};
     ghost use Rattle.kt_dbfile.specs.Inner.Edits.{IsSettledStore};
 
     ghost Value = { S };
@@ -56,8 +52,7 @@ impl<S: Alter> Model for RunsFile<S> {
 
     ghost view = { λ r. r.store };
 
-    ghost invariant = { λ r. IsSettledStore (S.Store.view r.store) r.schema
-        × (r.schema ≡ schema_2 → r.places ≡ places_2) };
+    ghost invariant = { λ r. IsSettledStore (S.Store.view r.store) r.schema };
 }
 
 /// Reads the schema of a store from its schema list.
@@ -81,11 +76,10 @@ pub(crate) fn over<S: Alter + Drop>(alloc: Global, store: S) -> Result<RunsFile<
 {
     sure(!store.is_broken())?;
     let schema = present(listed(&store, alloc)?)?;
-    let places = present(places_in(&schema))?;
+    sure(has_tables(&schema))?;
     Ok(RunsFile {
         store,
         schema,
-        places,
         alloc,
     })
 }
@@ -126,7 +120,6 @@ impl<S: Alter + Drop> RunsFile<S> {
         let RunsFile {
             store,
             schema: _,
-            places: _,
             alloc: _,
         } = self;
         store
@@ -167,7 +160,6 @@ impl<D: Disk + Drop> RunsFile<FileStore<D>> {
         let RunsFile {
             store,
             schema: _,
-            places: _,
             alloc: _,
         } = self;
         Ok(ended(close_store(store))?)
@@ -412,47 +404,33 @@ fn committed<S: Alter, T: Drop>(
 
 impl<S: Alter> ResultStore for RunsFile<S> {
     fn begin(&mut self, total: u32, moment: u64) -> Result<u64, StoreFault> {
-        let written = write_run(
-            &mut self.store,
-            self.alloc,
-            &self.schema,
-            self.places,
-            total,
-            moment,
-        );
+        let written = write_run(&mut self.store, self.alloc, &self.schema, total, moment);
         committed(&mut self.store, written)
     }
 
     fn put(&mut self, run: u64, entry: &Entry) -> Result<(), StoreFault> {
-        let written = write_entry(
-            &mut self.store,
-            self.alloc,
-            &self.schema,
-            self.places,
-            run,
-            entry,
-        );
+        let written = write_entry(&mut self.store, self.alloc, &self.schema, run, entry);
         committed(&mut self.store, written)
     }
 
     fn finish(&mut self, run: u64) -> Result<(), StoreFault> {
-        let written = write_finish(&mut self.store, self.alloc, &self.schema, self.places, run);
+        let written = write_finish(&mut self.store, self.alloc, &self.schema, run);
         committed(&mut self.store, written)
     }
 
     fn head(&mut self, number: Option<u64>) -> Result<Option<RunHead>, StoreFault> {
-        head(&mut self.store, self.alloc, self.places, number)
+        head(&mut self.store, self.alloc, number)
     }
 
     fn outline(&mut self, run: u64) -> Result<Vec<Entry>, StoreFault> {
-        outline(&mut self.store, self.alloc, self.places, run)
+        outline(&mut self.store, self.alloc, run)
     }
 
     fn pairs(&mut self, run: u64, position: u32) -> Result<Variables, StoreFault> {
-        find_pairs(&mut self.store, self.alloc, self.places, run, position)
+        find_pairs(&mut self.store, self.alloc, run, position)
     }
 
     fn outputs(&mut self, run: u64, position: u32) -> Result<CaseOutputs, StoreFault> {
-        find_outputs(&mut self.store, self.alloc, self.places, run, position)
+        find_outputs(&mut self.store, self.alloc, run, position)
     }
 }

@@ -1,11 +1,10 @@
 ghost use Rattle.std.specs.Prelude.{◌≡◌, ◌⊎◌, ◌<◌, ◌≤◌, ◌^◌, ℕ, Some, None, drop, length, map, IfOk, IfErr, IfSome, OnOk};
-ghost use Rattle.kt_dbfile.specs.Common.{IsNumbered, HoldsForTrees, IsStoreFault, ArePlacesOf, OnlyReadsStore, OnlyMovesCursors, Run, AreRuns, Blob, Entry, column, entry_row, key_before, last_run, outputs_of, run_row, head_of, Serves, Head, Outline, Outputs, Pairs, entries_of, outlined, run_at, seen_as};
+ghost use Rattle.kt_dbfile.specs.Common.{IsNumbered, HoldsForTrees, IsStoreFault, OnlyReadsStore, OnlyMovesCursors, Run, AreRuns, Blob, Entry, column, entry_row, key_before, last_run, outputs_of, run_row, head_of, Serves, Head, Outline, Outputs, Pairs, entries_of, outlined, run_at, seen_as};
 ghost use Rattle.kt_dbfile.specs.Inner.Known.{readings};
 ghost use Rattle.sqlite_trees.specs.View.{IsClean};
 
 use crate::ends::{check_entries, check_last, present_head};
-use crate::places::{Place, Places};
-use crate::tables::{entries_at, entry_place, last_row, pairs_at, stored_head};
+use crate::tables::{RUNS, entry_place, entry_table, last_row, pair_table, stored_head};
 use crate::trees::{number_of, number_row, row_under_key, rows_after, stored_bytes};
 use kt_base::{Entry, NoMemory, Output, Variables};
 use kt_store::lookup::key;
@@ -16,29 +15,15 @@ use sqlite_trees::store::{Shape, Store};
 use sqlite_value::row;
 use std::alloc::Global;
 
-/// The indexes and trees of the tables in a file that lists schema 2.
-pub(crate) const PLACES_2: Places = Places {
-    runs: Place { at: 1, tree: 2 },
-    entries: Place { at: 2, tree: 3 },
-    entry_keys: 4,
-    props: Place { at: 3, tree: 5 },
-    pair_keys: 6,
-};
-
 /// Returns the number of the last run, or 0 if there is none.
-pub(crate) fn last_number<S: Store>(
-    store: &mut S,
-    alloc: Global,
-    places: Places,
-) -> Result<u64, StoreFailure>
-    requires { ArePlacesOf places (S.Store.view store.old) }
+pub(crate) fn last_number<S: Store>(store: &mut S, alloc: Global) -> Result<u64, StoreFailure>
     ensures last { HoldsForTrees S.Store store.old store.new (λ runs.
         IfOk result (λ n. n ≡ length runs)) }
     ensures through { IsClean (S.Store.view store.new)
         → OnOk result (OnlyMovesCursors (S.Store.view store.old) (S.Store.view store.new)) }
     ensures looks { OnlyReadsStore S.Store store.old store.new }
 {
-    let Some(row) = last_row(store, alloc, places.runs.tree)? else {
+    let Some(row) = last_row(store, alloc, RUNS)? else {
         return Ok(0);
     };
     let number = number_of(&row)?;
@@ -50,23 +35,21 @@ pub(crate) fn last_number<S: Store>(
 pub(crate) fn head<S: Store>(
     store: &mut S,
     alloc: Global,
-    places: Places,
     number: Option<u64>,
 ) -> Result<Option<RunHead>, StoreFault>
-    requires { ArePlacesOf places (S.Store.view store.old) }
     ensures served { Serves (readings S.Store) (Head number result) store.old store.new }
     // Holds even in a damaged file: the returned head has the requested number.
     ensures numbered { IfOk result (λ found. IfSome found (IsNumbered number)) }
     ensures failed { IfErr result IsStoreFault }
     ensures looks { OnlyReadsStore S.Store store.old store.new }
 {
-    let last = last_number(store, alloc, places)?;
-    check_last(store, alloc, places, last)?;
+    let last = last_number(store, alloc)?;
+    check_last(store, alloc, last)?;
     let number = number.unwrap_or(last);
     if number == 0 || number > last {
         return Ok(None);
     }
-    let head = present_head(store, alloc, places, number)?;
+    let head = present_head(store, alloc, number)?;
     Ok(Some(head))
 }
 
@@ -74,10 +57,8 @@ pub(crate) fn head<S: Store>(
 pub(crate) fn stored_run<S: Store>(
     store: &mut S,
     alloc: Global,
-    places: Places,
     run: u64,
 ) -> Result<row::Row, StoreFault>
-    requires { ArePlacesOf places (S.Store.view store.old) }
     ensures small { OnOk result (run ≤ last_run) }
     ensures found { HoldsForTrees S.Store store.old store.new (λ runs.
         IfOk result (λ row. (r : Run) × (run_at runs run ≡ Some r) × (row ≡ run_row r)
@@ -89,9 +70,9 @@ pub(crate) fn stored_run<S: Store>(
     ensures looks { OnlyReadsStore S.Store store.old store.new }
 {
     let number = key(run);
-    sure(store.shape(places.runs.tree) == Shape::Table)?;
+    sure(store.shape(RUNS) == Shape::Table)?;
     let mut row = row::Row::new(alloc);
-    if !store.get(places.runs.tree, number as i64, &mut row)? || u64::from(number) != run {
+    if !store.get(RUNS, number as i64, &mut row)? || u64::from(number) != run {
         return Err(StoreFault::NoRun);
     }
     Ok(row)
@@ -101,10 +82,8 @@ pub(crate) fn stored_run<S: Store>(
 pub(crate) fn run_head<S: Store>(
     store: &mut S,
     alloc: Global,
-    places: Places,
     run: u64,
 ) -> Result<RunHead, StoreFault>
-    requires { ArePlacesOf places (S.Store.view store.old) }
     ensures small { OnOk result (run ≤ last_run) }
     ensures found { HoldsForTrees S.Store store.old store.new (λ runs.
         IfOk result (λ head. (r : Run) × (run_at runs run ≡ Some r) × (head ≡ head_of r)
@@ -115,19 +94,13 @@ pub(crate) fn run_head<S: Store>(
         → OnOk result (OnlyMovesCursors (S.Store.view store.old) (S.Store.view store.new)) }
     ensures looks { OnlyReadsStore S.Store store.old store.new }
 {
-    let row = stored_run(store, alloc, places, run)?;
+    let row = stored_run(store, alloc, run)?;
     let head = stored_head(alloc, &row)?;
     Ok(head)
 }
 
 /// Reads the entries of a run without their pairs and outputs, ordered by position.
-fn all_entries<S: Store>(
-    store: &mut S,
-    alloc: Global,
-    places: Places,
-    run: u32,
-) -> Result<Vec<Entry>, StoreFailure>
-    requires { ArePlacesOf places (S.Store.view store.old) }
+fn all_entries<S: Store>(store: &mut S, alloc: Global, run: u32) -> Result<Vec<Entry>, StoreFailure>
     ensures all { HoldsForTrees S.Store store.old store.new (λ runs.
         IfOk result (λ found. found.items ≡ map outlined (entries_of (run_at runs run)))) }
     ensures looks { OnlyReadsStore S.Store store.old store.new }
@@ -135,7 +108,7 @@ fn all_entries<S: Store>(
     let before = number_row(alloc, run.saturating_sub(1))?;
     let key = number_row(alloc, run)?;
     let columns = &[2, 3, 4, 5, 6, 7, 8];
-    let rows = rows_after(store, alloc, &entries_at(places), &before, &key, columns)?;
+    let rows = rows_after(store, alloc, &entry_table(), &before, &key, columns)?;
     outline_in(alloc, &rows)
 }
 
@@ -144,17 +117,15 @@ fn all_entries<S: Store>(
 pub(crate) fn outline<S: Store>(
     store: &mut S,
     alloc: Global,
-    places: Places,
     run: u64,
 ) -> Result<Vec<Entry>, StoreFault>
-    requires { ArePlacesOf places (S.Store.view store.old) }
     ensures served { Serves (readings S.Store) (Outline run
         (seen_as (λ found. found.items) result)) store.old store.new }
     ensures looks { OnlyReadsStore S.Store store.old store.new }
 {
-    let head = run_head(store, alloc, places, run)?;
-    let found = all_entries(store, alloc, places, key(run))?;
-    check_entries(store, alloc, places, head, &found)?;
+    let head = run_head(store, alloc, run)?;
+    let found = all_entries(store, alloc, key(run))?;
+    check_entries(store, alloc, head, &found)?;
     Ok(found)
 }
 
@@ -174,18 +145,16 @@ fn key_before_entry(alloc: Global, run: u32, position: u32) -> Result<row::Row, 
 pub(crate) fn find_pairs<S: Store>(
     store: &mut S,
     alloc: Global,
-    places: Places,
     run: u64,
     position: u32,
 ) -> Result<Variables, StoreFault>
-    requires { ArePlacesOf places (S.Store.view store.old) }
     ensures served { Serves (readings S.Store) (Pairs run position result) store.old store.new }
     ensures looks { OnlyReadsStore S.Store store.old store.new }
 {
     let number = key(run);
     let before = key_before_entry(alloc, number, position)?;
     let place = entry_place(alloc, number, position)?;
-    let rows = rows_after(store, alloc, &pairs_at(places), &before, &place, &[4, 5])?;
+    let rows = rows_after(store, alloc, &pair_table(), &before, &place, &[4, 5])?;
     Ok(pairs_in(alloc, &rows)?)
 }
 
@@ -209,17 +178,15 @@ fn stored_outputs(alloc: Global, row: &row::Row) -> Result<CaseOutputs, StoreFau
 pub(crate) fn find_outputs<S: Store>(
     store: &mut S,
     alloc: Global,
-    places: Places,
     run: u64,
     position: u32,
 ) -> Result<CaseOutputs, StoreFault>
-    requires { ArePlacesOf places (S.Store.view store.old) }
     ensures served { Serves (readings S.Store) (Outputs run position result) store.old store.new }
     ensures looks { OnlyReadsStore S.Store store.old store.new }
 {
     let number = key(run);
     let place = entry_place(alloc, number, position)?;
-    match row_under_key(store, alloc, &entries_at(places), &place)? {
+    match row_under_key(store, alloc, &entry_table(), &place)? {
         Some(row) if u64::from(number) == run => stored_outputs(alloc, &row),
         _ => Err(StoreFault::NoRun),
     }

@@ -2,7 +2,6 @@ ghost use Rattle.std.specs.Prelude.{◌≡◌, [], ◌∷◌, pos, IfOk, OnOk};
 ghost use Rattle.kt_dbfile.specs.Common.{Int, IsLast, OnlyReadsStore, OnlyMovesCursors, Run, head_of, run_row};
 ghost use Rattle.sqlite_trees.specs.View.{IsClean};
 
-use crate::places::Places;
 use crate::trees::{TreeTable, number_row, shown};
 use kt_base::NoMemory;
 use kt_store::RunHead;
@@ -13,27 +12,39 @@ use sqlite_trees::store::{Direction, Shape, Store};
 use sqlite_value::row::Row;
 use std::alloc::Global;
 
+/// The index of the table of runs in the schema.
+pub(crate) const RUNS_AT: usize = 1;
+
+/// The index of the table of entries in the schema.
+pub(crate) const ENTRIES_AT: usize = 2;
+
+/// The index of the table of pairs in the schema.
+pub(crate) const PAIRS_AT: usize = 3;
+
+/// The tree of the table of runs.
+pub(crate) const RUNS: u32 = 2;
+
 /// Returns the table of entries with its index.
-pub(crate) fn entries_at(places: Places) -> TreeTable<'static>
-    ensures tree { result.tree ≡ places.entries.tree }
-    ensures index { result.index ≡ places.entry_keys }
+pub(crate) fn entry_table() -> TreeTable<'static>
+    ensures tree { result.tree ≡ 3 }
+    ensures index { result.index ≡ 4 }
 {
     TreeTable {
-        tree: places.entries.tree,
-        index: places.entry_keys,
+        tree: 3,
+        index: 4,
         key: &[1, 2],
         blobs: &[9, 10, 11, 12],
     }
 }
 
 /// Returns the table of pairs with its index.
-pub(crate) fn pairs_at(places: Places) -> TreeTable<'static>
-    ensures tree { result.tree ≡ places.props.tree }
-    ensures index { result.index ≡ places.pair_keys }
+pub(crate) fn pair_table() -> TreeTable<'static>
+    ensures tree { result.tree ≡ 5 }
+    ensures index { result.index ≡ 6 }
 {
     TreeTable {
-        tree: places.props.tree,
-        index: places.pair_keys,
+        tree: 5,
+        index: 6,
         key: &[1, 2, 3],
         blobs: &[],
     }

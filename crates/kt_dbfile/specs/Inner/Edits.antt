@@ -16,7 +16,6 @@ use Rattle.kt_store.specs.Runs.{Keeps, entry_row, pair_rows}
 use Rattle.kt_dbfile.specs.Inner.Known.{HasRuns}
 use Rattle.kt_store.specs.Serving.{Agrees, runs_after}
 use Rattle.kt_store.specs.StoreCalls.{StoreCall}
-use Rattle.kt_dbfile.specs.declared.places.Places.{Places}
 use Rattle.kt_store.specs.Types.{Entry, Ghosts, Int, IsClean, Null, Row, Run, Trees, View}
 use Rattle.kt_store.specs.declared.store_fault.StoreFault.{StoreFault}
 
@@ -46,12 +45,12 @@ unnumbered row = Null ∷ row
 abbrev pub new_run_row : ℕ → ℕ → Row
 new_run_row total started = Null ∷ Null ∷ Int (pos started) ∷ Int (pos total) ∷ Int (pos 0) ∷ []
 
--- `WritesEntryRows schema places run e old new`: the entry `e` was written into its table, then its pairs
+-- `WritesEntryRows schema run e old new`: the entry `e` was written into its table, then its pairs
 -- into their table
-abbrev pub WritesEntryRows : Schema → Places → ℕ → Entry → Trees → Trees → Type 0
-WritesEntryRows schema places run' e old new =
-    HasTexts e × ((mid : Trees) × PutsRows schema places.entries.at [] Chosen 0 (unnumbered (entry_row run' e) ∷ []) old mid
-    × PutsRows schema places.props.at [] Chosen 0 (map unnumbered (pair_rows run' e)) mid new)
+abbrev pub WritesEntryRows : Schema → ℕ → Entry → Trees → Trees → Type 0
+WritesEntryRows schema run' e old new =
+    HasTexts e × ((mid : Trees) × PutsRows schema 2 [] Chosen 0 (unnumbered (entry_row run' e) ∷ []) old mid
+    × PutsRows schema 3 [] Chosen 0 (map unnumbered (pair_rows run' e)) mid new)
 
 module _ {S : Type 0} (g : Ghosts S) (schema : Schema) where
   -- `WritesRows g schema call old new result`: a call wrote its rows or failed, and committed nothing.

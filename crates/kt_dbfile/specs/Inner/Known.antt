@@ -1,4 +1,4 @@
--- The runs that the trees of a store represent, and the indexes of their tables.
+-- The runs that the trees of a store represent, and the columns of their tables.
 use Rattle.std.specs.Prelude.{◌≡◌, false, List, ℕ, suc, [], ◌∷◌, ⊤, Some}
 use Rattle.kt_store.specs.Files.{StaysNumbered}
 use Rattle.kt_store.specs.Runs.{AreNumbered, AreOrdered, Keeps, IsSchema2OfOne}
@@ -6,7 +6,6 @@ use Rattle.kt_store.specs.Seeks.{HasCommitted}
 use Rattle.kt_store.specs.declared.result_store.StoreSpec as store
 use Rattle.sqlite_schema.specs.Names.{column_named}
 use Rattle.sqlite_schema.specs.declared.schema.Table.{Table}
-use Rattle.kt_dbfile.specs.declared.places.Places.{Places}
 use Rattle.kt_store.specs.Types.{Ghosts, IsClean, Run, Trees, View}
 
 -- `HasRuns v runs`: while the disk is clean and the store is not broken, its trees are those of a
@@ -44,12 +43,3 @@ module _ {S : Type 0} (g : Ghosts S) where
 abbrev pub AreNamed : Table → ℕ → List (List ℕ) → Type 0
 AreNamed table at [] = ⊤
 AreNamed table at (name ∷ names) = (column_named table name ≡ Some at) × AreNamed table (suc at) names
-
--- the indexes and trees of the tables of results in schema 2
-abbrev pub places_2 : Places
-places_2 = record { runs = record { at = 1; tree = 2 }; entries = record { at = 2; tree = 3 }; entry_keys = 4; props = record { at = 3; tree = 5 }; pair_keys = 6 }
-
--- `ArePlacesOf places v`: `places` are those of schema 2, if the store represents runs and is not
--- broken
-abbrev pub ArePlacesOf : Places → View → Type 0
-ArePlacesOf places v = IsClean v → v.is_broken ≡ false → (runs : List Run) → Keeps runs v.trees → places ≡ places_2

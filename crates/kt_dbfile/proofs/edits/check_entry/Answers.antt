@@ -1,12 +1,9 @@
 use Rattle.kt_dbfile.proofs.Common.{AreRuns, HasRuns, IsClean, List, Run, RunHead, Some, ap, arith, entries_of, has_position, head_of, inr, run_at, sym, ◌∙◌, ◌≡◌}
 use Rattle.kt_store.proofs.Numbered.{refused_closed, refused_past, refused_repeated, taken}
-use Rattle.kt_dbfile.proofs.SeenLemmas.{still_at, still_has}
+use Rattle.kt_dbfile.proofs.SeenLemmas.{still_has}
 use Rattle.kt_dbfile.proofs.edits.check_entry.Given.{Over}
 use Rattle.kt_dbfile.proofs.edits.check_entry.Goals.{In_ok-is_put}
 use Rattle.kt_dbfile.proofs.edits.check_entry.Goals as goal
-
-pub is_put-requires : goal.is_put-requires
-is_put-requires g c = still_at g.S.Store _ _ c.args.places c.run_head.ensures.looks c.requires
 
 pub returns-then-head-clause-refused : goal.returns-then-head-clause-refused
 returns-then-head-clause-refused g c runs has clean =

@@ -1,12 +1,9 @@
 use Rattle.kt_dbfile.proofs.Common.{AreRuns, HasRuns, IsClean, List, Run, RunHead, Some, ap, arith, entries_of, head_of, inr, length, run_at, run_row, sym, ◌∙◌, ◌≡◌}
 use Rattle.kt_store.proofs.CloseLemmas.{closed_already, lacks_some, lacks_none}
-use Rattle.kt_dbfile.proofs.SeenLemmas.{still_at, still_has}
+use Rattle.kt_dbfile.proofs.SeenLemmas.{still_has}
 use Rattle.kt_dbfile.proofs.edits.check_run.Given.{Over}
 use Rattle.kt_dbfile.proofs.edits.check_run.Goals.{In_ok-count_of}
 use Rattle.kt_dbfile.proofs.edits.check_run.Goals as goal
-
-pub count_of-requires : goal.count_of-requires
-count_of-requires g c = still_at g.S.Store _ _ c.args.places c.stored_run.ensures.looks c.requires
 
 pub returns-then-head-clause-refused : goal.returns-then-head-clause-refused
 returns-then-head-clause-refused g c runs has clean =

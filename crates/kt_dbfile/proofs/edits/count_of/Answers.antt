@@ -9,5 +9,5 @@ returns-clause-count g c runs has clean =
     let keeps = has first sound in
     let n = c.args.run in
     let es = entries_of (run_at runs n) in
-    let many = rw (c.entries_at.ensures.tree, c.entries_at.ensures.index, c.requires first sound runs keeps, c.in_ok-place.ensures) at (c.in_ok-count.ensures.counted clean) cs (map (entry_row n) es) (λ shaped up. places_of_run runs _ keeps shaped up n) in
+    let many = rw (c.entry_table.ensures.tree, c.entry_table.ensures.index, c.in_ok-place.ensures) at (c.in_ok-count.ensures.counted clean) cs (map (entry_row n) es) (λ shaped up. places_of_run runs _ keeps shaped up n) in
     many ∙ length-map es (entry_row n)

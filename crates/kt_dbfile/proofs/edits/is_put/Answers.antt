@@ -13,5 +13,5 @@ returns-clause-found g c runs has clean =
     let p = c.args.position in
     let es = entries_of (run_at runs n) in
     let mine = map (entry_row n) (filter (is_at p) es) in
-    let many = rw (c.entries_at.ensures.tree, c.entries_at.ensures.index, c.requires first sound runs keeps, c.in_ok-place.ensures) at (c.in_ok-count.ensures.counted clean) cs mine (λ shaped up. place_of_entry runs _ keeps shaped up n p) in
+    let many = rw (c.entry_table.ensures.tree, c.entry_table.ensures.index, c.in_ok-place.ensures) at (c.in_ok-count.ensures.counted clean) cs mine (λ shaped up. place_of_entry runs _ keeps shaped up n p) in
     ap (λ k. nat_lt 0 k) (many ∙ length-map (filter (is_at p) es) (entry_row n)) ∙ any_left p es

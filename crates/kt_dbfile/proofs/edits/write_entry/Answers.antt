@@ -1,4 +1,4 @@
-use Rattle.kt_dbfile.proofs.Common.{WritesEntryRows, IsClean, Trees, View, ap, arith, places_2, subst}
+use Rattle.kt_dbfile.proofs.Common.{WritesEntryRows, IsClean, Trees, View, ap, arith, subst}
 use Rattle.kt_dbfile.proofs.EditLemmas.{entry_filled}
 use Rattle.kt_dbfile.proofs.SeenLemmas.{held_then}
 use Rattle.kt_dbfile.proofs.edits.write_entry.Goals as goal
@@ -23,16 +23,15 @@ returns g c = record {
       let through = c.in_ok-check_entry.ensures.through early in
       let was = c.check_entry.ensures.looks.clean early in
       let trees = ap (λ (v : View). v.trees) through.1 in
-      let is = c.requires.placed was through.0 runs (has was through.0) in
       let number = c.key-number.ensures.same c.in_ok-check_entry.ensures.small in
       let texts = c.in_ok-row.ensures.texts in
       let pairs = rw c.as_slice.ensures at c.in_ok-pairs.ensures.texts in
-      let fills = subst (λ (t : Trees). WritesEntryRows c.args.schema.now places_2 c.args.run c.args.entry.now t (g.S.Store.view c.put_rows-2.new.store).trees) trees (
+      let fills = subst (λ (t : Trees). WritesEntryRows c.args.schema.now c.args.run c.args.entry.now t (g.S.Store.view c.put_rows-2.new.store).trees) trees (
         (texts.0, texts.1, texts.2, pairs),
         (
           (g.S.Store.view c.put_rows.new.store).trees,
-          rw (c.from_ref.ensures.value, c.in_ok-row.ensures.row, number, is) at (c.in_ok-put_rows.ensures.puts mid),
-          rw (c.as_slice-2.ensures.value, c.in_ok-pairs.ensures.rows, c.as_slice.ensures, number, is) at (c.in_ok-put_rows-2.ensures.puts clean),
+          rw (c.from_ref.ensures.value, c.in_ok-row.ensures.row, number) at (c.in_ok-put_rows.ensures.puts mid),
+          rw (c.as_slice-2.ensures.value, c.in_ok-pairs.ensures.rows, c.as_slice.ensures, number) at (c.in_ok-put_rows-2.ensures.puts clean),
         ),
       ) in
       entry_filled c.args.schema.now runs (g.S.Store.view c.args.store.now).trees _ (c.requires.sound was through.0) (c.in_ok-put_rows-2.ensures.obeys clean).sound (has was through.0) c.args.run c.args.entry.now

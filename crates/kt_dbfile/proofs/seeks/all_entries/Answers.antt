@@ -9,8 +9,7 @@ returns-clause-all g c runs has clean =
     let first = c.rows_after.ensures.looks.clean clean in
     let sound = c.in_ok-rows.ensures.sound clean in
     let keeps = has first sound in
-    let is = c.requires first sound runs keeps in
     let n = c.args.run in
     let es = entries_of (run_at runs n) in
-    let shown = seen_entries n es _ ((rw (c.entries_at.ensures.tree, c.entries_at.ensures.index, is, c.in_ok-key.ensures) at (c.in_ok-rows.ensures.all clean)) cs (map (entry_row n) es) (λ shaped up. places_of_run runs _ keeps shaped up n)) in
+    let shown = seen_entries n es _ ((rw (c.entry_table.ensures.tree, c.entry_table.ensures.index, c.in_ok-key.ensures) at (c.in_ok-rows.ensures.all clean)) cs (map (entry_row n) es) (λ shaped up. places_of_run runs _ keeps shaped up n)) in
     c.outline_in.ensures es (sound_of runs n keeps.3.valid) (c.deref.ensures.value ∙ shown)

@@ -10,9 +10,8 @@ returns-clause-served g c = looked_serves g.S.Store _ _ c.rows_after.ensures.loo
     let first = c.rows_after.ensures.looks.clean clean in
     let sound = c.in_ok-rows.ensures.sound clean in
     let keeps = has first sound in
-    let is = c.requires first sound runs keeps in
     let n = c.key-number.result in
     let p = c.args.position in
     let vs = pairs_of (entry_at (run_at runs n) p) in
-    let shown = seen_pairs n p vs _ ((rw (c.pairs_at.ensures.tree, c.pairs_at.ensures.index, is, c.in_ok-place.ensures) at (c.in_ok-rows.ensures.all clean)) cs3 (pair_rows_from n p 0 vs) (λ shaped up. places_of_pairs runs _ keeps shaped up n p)) in
+    let shown = seen_pairs n p vs _ ((rw (c.pair_table.ensures.tree, c.pair_table.ensures.index, c.in_ok-place.ensures) at (c.in_ok-rows.ensures.all clean)) cs3 (pair_rows_from n p 0 vs) (λ shaped up. places_of_pairs runs _ keeps shaped up n p)) in
     c.in_ok-pairs_in.ensures vs (pairs_sound runs n p keeps.3.valid) (c.deref.ensures.value ∙ shown) ∙ ap (λ o. pairs_of (entry_at o p)) (same_run runs c.args.run n keeps.3.valid.few c.key-number.ensures.same c.key-number.ensures.none))

@@ -1,6 +1,6 @@
 use Rattle.kt_dbfile.proofs.Common.{Head, refl}
 use Rattle.kt_store.proofs.HeadLemmas.{asked_for, no_head, one_head}
-use Rattle.kt_dbfile.proofs.SeenLemmas.{looked_serves, looks_then, still_at, still_has}
+use Rattle.kt_dbfile.proofs.SeenLemmas.{looked_serves, looks_then, still_has}
 use Rattle.kt_dbfile.proofs.seeks.head.Goals as goal
 
 pub returns-clause-served : goal.returns-clause-served
@@ -8,7 +8,7 @@ returns-clause-served g c =
     let first = looks_then g.S.Store _ _ _ c.last_number.ensures.looks c.check_last.ensures.looks in
     looked_serves g.S.Store _ _ (looks_then g.S.Store _ _ _ first c.present_head.ensures.looks) (Head c.args.number _) (λ runs. refl) (λ runs may left. left) (λ runs has clean.
     let last = c.in_ok-last.ensures.last runs has (c.check_last.ensures.looks.clean (c.present_head.ensures.looks.clean clean)) in
-    let found = c.in_ok-head.ensures.head (still_at g.S.Store _ _ c.args.places first c.requires) runs (still_has g.S.Store _ _ first runs has) clean in
+    let found = c.in_ok-head.ensures.head runs (still_has g.S.Store _ _ first runs has) clean in
     one_head runs c.args.number c.in_ok-last.last c.unwrap_or-number.result last c.unwrap_or-number.ensures c.in_ok-head.head found)
 
 pub returns-clause-numbered : goal.returns-clause-numbered

@@ -7,20 +7,20 @@ use Rattle.kt_dbfile.proofs.seeks.last_number.Goals as goal
 
 -- the rows of runs are in the tree of their table
 rows_are : (g : Over) (c : In_ok-row g) (runs : List Run) → HasRuns (g.S.Store.view c.args.store.now) runs → IsClean (g.S.Store.view c.last_row.new.store)
-    → AreNumbered 1 runs × ((g.S.Store.view c.args.store.now).trees c.args.places.runs.tree ≡ map run_row runs)
+    → AreNumbered 1 runs × ((g.S.Store.view c.args.store.now).trees 2 ≡ map run_row runs)
 rows_are g c runs has clean =
     let first = c.last_row.ensures.looks.clean clean in
     let sound = (c.in_ok-row.ensures.through clean).0 in
     let keeps = has first sound in
-    (keeps.3.valid.numbered, rows_of_runs c.args.places runs _ keeps (c.requires first sound runs keeps))
+    (keeps.3.valid.numbered, rows_of_runs runs _ keeps)
 
 pub returns-in_default-clause-last : goal.returns-in_default-clause-last
 returns-in_default-clause-last g c runs has clean =
     let it = rows_are g (goal.at.returns-in_default-clause-last g c).In_ok-row runs has clean in
-    none_is runs ((g.S.Store.view c.args.store.now).trees c.args.places.runs.tree) it.1 (rw c.in_default.is at (c.in_ok-row.ensures.last clean))
+    none_is runs ((g.S.Store.view c.args.store.now).trees 2) it.1 (rw c.in_default.is at (c.in_ok-row.ensures.last clean))
 
 pub returns-clause-last : goal.returns-clause-last
 returns-clause-last g c runs has clean =
     let it = rows_are g (goal.at.returns-clause-last g c).In_ok-row runs has clean in
     let found = rw c.in-Some.is at (c.in_ok-row.ensures.last clean) in
-    c.in_ok-number.ensures (length runs) (last_is runs ((g.S.Store.view c.args.store.now).trees c.args.places.runs.tree) found.0 _ it.0 it.1 found.1)
+    c.in_ok-number.ensures (length runs) (last_is runs ((g.S.Store.view c.args.store.now).trees 2) found.0 _ it.0 it.1 found.1)

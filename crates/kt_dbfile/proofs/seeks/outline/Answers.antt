@@ -1,9 +1,6 @@
 use Rattle.kt_dbfile.proofs.Common.{Outline, ap, entries_of, map, outlined, refl, run_at, ◌∙◌}
-use Rattle.kt_dbfile.proofs.SeenLemmas.{still_at, still_has, looks_then, looked_serves}
+use Rattle.kt_dbfile.proofs.SeenLemmas.{still_has, looks_then, looked_serves}
 use Rattle.kt_dbfile.proofs.seeks.outline.Goals as goal
-
-pub all_entries-requires : goal.all_entries-requires
-all_entries-requires g c = still_at g.S.Store _ _ c.args.places c.run_head.ensures.looks c.requires
 
 pub returns-clause-served : goal.returns-clause-served
 returns-clause-served g c =

@@ -1,16 +1,13 @@
 use Rattle.kt_dbfile.proofs.Common.{Finished, Serves, runs_file, subst}
 use Rattle.kt_store.proofs.ServeLemmas.{finish_writes}
-use Rattle.kt_dbfile.proofs.EndLemmas.{ended_served, ended_settled, stand_at}
+use Rattle.kt_dbfile.proofs.EndLemmas.{ended_served, ended_settled}
 use Rattle.kt_dbfile.proofs.runs_file.RunsFileResultStore.finish.Goals as goal
-
-pub write_finish-written-requires-clause-placed : goal.write_finish-written-requires-clause-placed
-write_finish-written-requires-clause-placed g c = stand_at (g.S.Store.view c.self.inside.store) c.self.inside.schema c.self.inside.places (g.met.S.Store.broken_if_shut c.self.inside.store) c.self.invariant
 
 pub returns : goal.returns
 returns g c =
     subst (λ o. Serves (runs_file g.S.Store) (Finished c.args.run c.committed.result) o c.committed.new.store) c.self.view_is
-    (ended_served g.S.Store g.met.S.Store.shut_if_dirty g.met.S.Store.broken_if_shut g.met.S.Store.settled c.self.inside.schema _ _ (finish_writes _ c.args.run) c.self.inside.store c.write_finish-written.new.store c.committed.new.store c.self.invariant.0 _ _ c.write_finish-written.ensures c.committed.ensures)
+    (ended_served g.S.Store g.met.S.Store.shut_if_dirty g.met.S.Store.broken_if_shut g.met.S.Store.settled c.self.inside.schema _ _ (finish_writes _ c.args.run) c.self.inside.store c.write_finish-written.new.store c.committed.new.store c.self.invariant _ _ c.write_finish-written.ensures c.committed.ensures)
 
 pub invariant_of-self : goal.invariant_of-self
 invariant_of-self g c =
-    (ended_settled g.S.Store g.met.S.Store.shut_if_dirty g.met.S.Store.broken_if_shut g.met.S.Store.settled c.self.inside.schema _ _ (finish_writes _ c.args.run) c.self.inside.store c.write_finish-written.new.store c.committed.new.store c.self.invariant.0 _ _ c.write_finish-written.ensures c.committed.ensures, c.self.invariant.1)
+    ended_settled g.S.Store g.met.S.Store.shut_if_dirty g.met.S.Store.broken_if_shut g.met.S.Store.settled c.self.inside.schema _ _ (finish_writes _ c.args.run) c.self.inside.store c.write_finish-written.new.store c.committed.new.store c.self.invariant _ _ c.write_finish-written.ensures c.committed.ensures

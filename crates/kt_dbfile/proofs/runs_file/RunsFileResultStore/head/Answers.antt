@@ -1,14 +1,11 @@
 use Rattle.kt_dbfile.proofs.Common.{Head, Serves, refl, runs_file, subst}
-use Rattle.kt_dbfile.proofs.EndLemmas.{read_served, looked_settled, stand_at}
+use Rattle.kt_dbfile.proofs.EndLemmas.{read_served, looked_settled}
 use Rattle.kt_dbfile.proofs.runs_file.RunsFileResultStore.head.Goals as goal
-
-pub head-requires : goal.head-requires
-head-requires g c = stand_at (g.S.Store.view c.self.inside.store) c.self.inside.schema c.self.inside.places (g.met.S.Store.broken_if_shut c.self.inside.store) c.self.invariant
 
 pub returns-clause-served : goal.returns-clause-served
 returns-clause-served g c =
     subst (λ o. Serves (runs_file g.S.Store) (Head c.args.number c.head.result) o c.head.new.store) c.self.view_is
-    (read_served g.S.Store g.met.S.Store.shut_if_dirty g.met.S.Store.broken_if_shut g.met.S.Store.settled c.self.inside.schema c.self.inside.store c.head.new.store c.head.ensures.looks c.self.invariant.0 (Head _ _) (λ runs. refl) (λ runs may left. left) c.head.ensures.served)
+    (read_served g.S.Store g.met.S.Store.shut_if_dirty g.met.S.Store.broken_if_shut g.met.S.Store.settled c.self.inside.schema c.self.inside.store c.head.new.store c.head.ensures.looks c.self.invariant (Head _ _) (λ runs. refl) (λ runs may left. left) c.head.ensures.served)
 
 pub invariant_of-self : goal.invariant_of-self
-invariant_of-self g c = (looked_settled g.S.Store c.self.inside.store c.head.new.store c.self.inside.schema (g.met.S.Store.shut_if_dirty c.head.new.store) c.head.ensures.looks c.self.invariant.0, c.self.invariant.1)
+invariant_of-self g c = looked_settled g.S.Store c.self.inside.store c.head.new.store c.self.inside.schema (g.met.S.Store.shut_if_dirty c.head.new.store) c.head.ensures.looks c.self.invariant

@@ -1,6 +1,6 @@
 use Rattle.kt_dbfile.proofs.Common.{AreNamed, List, Some, [], ap, arith, column_named, get_or, length, map, rules, suc, zero, ℕ, ◌+◌, ◌<◌, ◌∙◌, ◌∷◌, ◌≡◌}
 use Rattle.sqlite_schema.specs.declared.schema.Table.{Table}
-use Rattle.kt_dbfile.proofs.by_name.has_columns.Goals as goal
+use Rattle.kt_dbfile.proofs.layout.has_columns.Goals as goal
 
 -- one of the names is found at its index
 named : {T : Type 0} (name : T → List ℕ) (d : T) (table : Table) (at i : ℕ) (names : List T) → i < length names → AreNamed table at (map name names) → column_named table (name (get_or names i d)) ≡ Some (at + i)

@@ -1,7 +1,7 @@
 use Rattle.kt_dbfile.proofs.Common.{AreNamed, Some, [], codes, entries_table, index_of, props_1, refl, runs_1, schema_2, ◌∷◌, ◌≡◌}
 use Rattle.std.specs.Fmt.{digits}
 use Rattle.sqlite_schema.specs.Names.{index_named, same_name, table_named}
-use Rattle.kt_dbfile.proofs.by_name.places_in.Goals as goal
+use Rattle.kt_dbfile.proofs.layout.has_tables.Goals as goal
 
 -- the tables of schema 2, by name
 run_columns : AreNamed runs_1 0 (codes "id" ∷ codes "started" ∷ codes "total" ∷ codes "finished" ∷ [])
@@ -38,5 +38,9 @@ pair_keys_are = refl
 
 pub returns : goal.returns
 returns c e =
-    c.all_found.ensures ((rw e at c.table_in.ensures) 1 runs_1 runs_are refl refl run_columns) ((rw e at c.table_in-2.ensures) 2 entries_table entries_are refl refl entry_columns) ((rw e at c.key_in.ensures) 1 (index_of entries_table 4) entry_keys_are refl)
-    ((rw e at c.table_in-3.ensures) 3 props_1 props_are refl refl pair_columns) ((rw e at c.key_in-2.ensures) 2 (index_of props_1 6) pair_keys_are refl)
+    let runs = (rw e at c.has_table-runs.ensures) runs_1 runs_are refl refl refl run_columns in
+    let entries = (rw e at c.has_table-entries.ensures) entries_table entries_are refl refl refl entry_columns in
+    let pairs = (rw e at c.has_table-pairs.ensures) props_1 props_are refl refl refl pair_columns in
+    let entry_keys = (rw e at c.has_index-entry_keys.ensures) 1 (index_of entries_table 4) entry_keys_are refl refl in
+    let pair_keys = (rw e at c.has_index-pair_keys.ensures) 2 (index_of props_1 6) pair_keys_are refl refl in
+    rw (runs, entries, pairs, entry_keys, pair_keys) refl

@@ -1,0 +1,91 @@
+//! Checks that a schema has the tables of results at their positions.
+
+ghost use Rattle.std.specs.Prelude.{◌≡◌, ℕ, Some, true, length, map, slice_get};
+ghost use Rattle.kt_dbfile.specs.Common.{schema_2, AreNamed};
+ghost use Rattle.sqlite_schema.specs.Names.{index_named, table_named};
+ghost use Rattle.sqlite_schema.specs.declared.schema.Index.{Index as IndexOf};
+ghost use Rattle.sqlite_schema.specs.declared.schema.Table.{Table as TableOf};
+
+use crate::tables::{ENTRIES_AT, PAIRS_AT, RUNS_AT};
+use sqlite_schema::schema::{Schema, Table};
+
+// The columns, in the order in which they are read and written.
+
+const RUN_COLUMNS: [&str; 4] = ["id", "started", "total", "finished"];
+
+const ENTRY_COLUMNS: [&str; 12] = [
+    "run",
+    "position",
+    "program",
+    "case_name",
+    "kind",
+    "reason",
+    "started",
+    "millis",
+    "body_out",
+    "body_err",
+    "clean_out",
+    "clean_err",
+];
+
+const PAIR_COLUMNS: [&str; 5] = ["run", "position", "place", "name", "value"];
+
+/// Returns `true` if a table has columns with these names, in this order.
+fn has_columns(table: &Table, names: &[&str]) -> bool
+    ensures { length names.now ≡ length table.now.columns
+        → AreNamed table.now 0 (map (λ name. name.now) names.now) → result ≡ true }
+{
+    if names.len() != table.columns.len() {
+        return false;
+    }
+    let mut at = 0usize;
+    for name in names {
+        if table.column_named(name.as_bytes()) != Some(at) {
+            return false;
+        }
+        at += 1;
+    }
+    true
+}
+
+/// Returns `true` if the table with this name has this index, this tree and these columns.
+fn has_table(schema: &Schema, name: &str, at: usize, tree: u32, columns: &[&str]) -> bool
+    ensures { (t : TableOf) → table_named schema.now name.now ≡ Some at
+        → slice_get schema.now.tables at ≡ Some t → t.tree ≡ tree
+        → length columns.now ≡ length t.columns
+        → AreNamed t 0 (map (λ name. name.now) columns.now) → result ≡ true }
+{
+    let Some(table) = schema.tables.as_slice().get(at) else {
+        return false;
+    };
+    schema.table_named(name.as_bytes()) == Some(at)
+        && table.tree == tree
+        && has_columns(table, columns)
+}
+
+/// Returns `true` if the index with this name has this tree.
+fn has_index(schema: &Schema, name: &str, tree: u32) -> bool
+    ensures { (at : ℕ) (i : IndexOf) → index_named schema.now name.now ≡ Some at
+        → slice_get schema.now.indexes at ≡ Some i → i.tree ≡ tree → result ≡ true }
+{
+    let Some(at) = schema.index_named(name.as_bytes()) else {
+        return false;
+    };
+    let Some(index) = schema.indexes.as_slice().get(at) else {
+        return false;
+    };
+    index.tree == tree
+}
+
+/// Returns `true` if a schema has the tables of results and the indexes of their keys at their
+/// positions. Other tables can follow.
+pub(crate) fn has_tables(schema: &Schema) -> bool
+    ensures { schema.now ≡ schema_2 → result ≡ true }
+{
+    let runs = has_table(schema, "runs", RUNS_AT, 2, &RUN_COLUMNS);
+    let entries = has_table(schema, "entries", ENTRIES_AT, 3, &ENTRY_COLUMNS);
+    let pairs = has_table(schema, "props", PAIRS_AT, 5, &PAIR_COLUMNS);
+    let entry_keys = has_index(schema, "sqlite_autoindex_entries_1", 4);
+    let pair_keys = has_index(schema, "sqlite_autoindex_props_1", 6);
+    runs & entries & pairs & entry_keys & pair_keys
+}
