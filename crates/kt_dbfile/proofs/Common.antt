@@ -83,9 +83,9 @@ pub use Rattle.kt_store.specs.declared.result_store.CaseOutputs.{CaseOutputs}
 pub use Rattle.kt_store.specs.declared.result_store.RunHead.{RunHead}
 pub use Rattle.kt_store.specs.declared.store_fault.StoreFault.{StoreFault}
 pub use Rattle.kt_store.specs.declared.store_fault.StoreFault.TheVariants.{NoRun}
-pub use Rattle.kt_dbfile.specs.Inner.Cursors.{IsAt, Places, SelectsColumns, begins}
+pub use Rattle.kt_dbfile.specs.Inner.Cursors.{IsAt, OnlyMovesCursors, Places, SelectsColumns, begins}
 pub use Rattle.kt_dbfile.specs.Inner.Edits.{WritesEntryRows, IsSettledStore, new_run_row}
 pub use Rattle.kt_dbfile.specs.Inner.Known.{HasRuns, by_trees, readings, runs_file}
 pub use Rattle.kt_dbfile.specs.Inner.NewFiles.{HoldsEmpty, IsNewNameOf}
-pub use Rattle.kt_dbfile.specs.Common.{AreNamed, AreNumbered, AreOrdered, AreRuns, AreWide, Began, CanAdd, CountsUnderKey, EndsTransaction, Finished, HasCommitted, Head, HoldsCommit, HoldsRuns, IsComplete, IsPair, IsStoreFault, IsAttached, IsAttachedFiles, Keeps, IsSchema2OfOne, ListsRuns, OnlyReadsStore, OnlyMovesCursors, ObeysSchema, Outline, Outputs, Pairs, Put, PutsRows, Serves, SelectsUnderKey, StandsFor, WritesRows, finished_run_row, entries_of, entry_row, has_position, head_of, in_columns, outlined, outputs_of, pair_row, pair_rows_from, run_at, run_row, schema_2, seen_as, unnumbered}
+pub use Rattle.kt_dbfile.specs.Common.{AreNamed, AreNumbered, AreOrdered, AreRuns, AreWide, Began, CanAdd, CountsUnderKey, EndsTransaction, Finished, HasCommitted, Head, HoldsCommit, HoldsRuns, IsComplete, IsPair, IsStoreFault, IsAttached, IsAttachedFiles, Keeps, IsSchema2OfOne, ListsRuns, OnlyReadsStore, ObeysSchema, Outline, Outputs, Pairs, Put, PutsRows, Serves, SelectsUnderKey, StandsFor, WritesRows, finished_run_row, entries_of, entry_row, has_position, head_of, in_columns, outlined, outputs_of, pair_row, pair_rows_from, run_at, run_row, schema_2, seen_as, unnumbered}
 pub use Rattle.kt_dbfile.specs.Inner.Opening.{OpensOver}

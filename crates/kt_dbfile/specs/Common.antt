@@ -15,7 +15,7 @@ pub use Rattle.kt_store.specs.Stands.{StandsFor}
 pub use Rattle.kt_store.specs.StoreCalls.{Began, Finished, Head, Outline, Outputs, Pairs, Put, seen_as}
 pub use Rattle.kt_store.specs.Tables.{schema_2}
 pub use Rattle.kt_store.specs.Types.{AllByRecursion, Blob, Entry, HasCleanDisk, Int, IsAscending, Run, column, last_run, state}
-pub use Rattle.kt_dbfile.specs.Inner.Cursors.{CountsUnderKey, FindsFirstUnderKey, ends_with, key_before, CursorReturns, HoldsCommit, IsLast, OnlyReadsStore, OnlyMovesCursors, SelectsUnderKey, in_columns}
+pub use Rattle.kt_dbfile.specs.Inner.Cursors.{CountsUnderKey, FindsFirstUnderKey, ends_with, key_before, CursorReturns, HoldsCommit, IsLast, OnlyReadsStore, SelectsUnderKey, Through, in_columns}
 pub use Rattle.kt_dbfile.specs.Inner.Edits.{EndsTransaction, ObeysSchema, PutsRows, WritesRows, unnumbered}
 pub use Rattle.kt_dbfile.specs.Inner.NewFiles.{IsUri}
 pub use Rattle.kt_dbfile.specs.Inner.Opening.{IsOnlyRead, IsOfOptions, IsAttached, IsAttachedFiles, ListsRuns, RecoversAsBefore, HasOtherSchema}

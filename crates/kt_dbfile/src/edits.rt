@@ -1,7 +1,7 @@
 //! Writes runs and entries into the trees of a store, without a commit.
 
 ghost use Rattle.std.specs.Prelude.{◌≡◌, ◌⊎◌, ◌<◌, ◌≤◌, ◌^◌, map, suc, length, Some, None, false, IfOk, IfErr, OnOk};
-ghost use Rattle.kt_dbfile.specs.Common.{AllByRecursion, Began, CanAdd, Finished, HasNoReasonIfPassed, IsComplete, IsMoment, IsPair, IsStorable, IsStoreFault, IsText, OnlyReadsStore, OnlyMovesCursors, HoldsForTrees, Put, Run, WritesRows, finished_run_row, entries_of, entry_row, finish_refusal, has_position, last_run, owned, pair_row, pair_rows_from, put_refusal, run_at, run_row, unnumbered};
+ghost use Rattle.kt_dbfile.specs.Common.{AllByRecursion, Began, CanAdd, Finished, HasNoReasonIfPassed, IsComplete, IsMoment, IsPair, IsStorable, IsStoreFault, IsText, OnlyReadsStore, Through, HoldsForTrees, Put, Run, WritesRows, finished_run_row, entries_of, entry_row, finish_refusal, has_position, last_run, owned, pair_row, pair_rows_from, put_refusal, run_at, run_row, unnumbered};
 ghost use Rattle.sqlite_trees.specs.View.{IsClean};
 ghost use Rattle.sqlite_catalog.specs.Listing.{IsSound};
 
@@ -124,8 +124,7 @@ fn next_number<S: Alter>(store: &mut S, alloc: Global) -> Result<u64, StoreFault
     ensures refused { HoldsForTrees S.Store store.old store.new (λ runs.
         IfErr result (λ e. IsStoreFault e ⊎ ((e ≡ StoreFault.StoreFull)
         × (last_run ≤ length runs)))) }
-    ensures through { IsClean (S.Store.view store.new)
-        → OnOk result (OnlyMovesCursors (S.Store.view store.old) (S.Store.view store.new)) }
+    ensures through { Through S.Store store.old store.new result }
     ensures looks { OnlyReadsStore S.Store store.old store.new }
 {
     let last = last_number(store, alloc)?;
@@ -180,8 +179,7 @@ fn is_put<S: Store>(
 ) -> Result<bool, StoreFailure>
     ensures found { HoldsForTrees S.Store store.old store.new (λ runs.
         IfOk result (λ b. b ≡ has_position position (entries_of (run_at runs run)))) }
-    ensures through { IsClean (S.Store.view store.new)
-        → OnOk result (OnlyMovesCursors (S.Store.view store.old) (S.Store.view store.new)) }
+    ensures through { Through S.Store store.old store.new result }
     ensures looks { OnlyReadsStore S.Store store.old store.new }
 {
     let place = entry_place(alloc, run, position)?;
@@ -203,8 +201,7 @@ fn check_entry<S: Alter>(
     ensures taken { HoldsForTrees S.Store store.old store.new (λ runs.
         OnOk result (HasNoReasonIfPassed entry.now → (put_refusal runs run entry.now ≡ None)
         × CanAdd run entry.now runs)) }
-    ensures through { IsClean (S.Store.view store.new)
-        → OnOk result (OnlyMovesCursors (S.Store.view store.old) (S.Store.view store.new)) }
+    ensures through { Through S.Store store.old store.new result }
     ensures looks { OnlyReadsStore S.Store store.old store.new }
 {
     let head = run_head(store, alloc, run)?;
@@ -278,8 +275,7 @@ fn finished_row(alloc: Global, row: &Row) -> Result<Row, NoMemory>
 fn count_of<S: Store>(store: &mut S, alloc: Global, run: u32) -> Result<u64, StoreFailure>
     ensures count { HoldsForTrees S.Store store.old store.new (λ runs.
         IfOk result (λ n. n ≡ length (entries_of (run_at runs run)))) }
-    ensures through { IsClean (S.Store.view store.new)
-        → OnOk result (OnlyMovesCursors (S.Store.view store.old) (S.Store.view store.new)) }
+    ensures through { Through S.Store store.old store.new result }
     ensures looks { OnlyReadsStore S.Store store.old store.new }
 {
     let place = number_row(alloc, run)?;
@@ -296,8 +292,7 @@ fn check_run<S: Alter>(store: &mut S, alloc: Global, run: u64) -> Result<Row, St
     ensures taken { HoldsForTrees S.Store store.old store.new (λ runs.
         IfOk result (λ row. (r : Run) × (run_at runs run ≡ Some r) × (row ≡ run_row r)
         × (finish_refusal runs run ≡ None) × IsComplete run runs)) }
-    ensures through { IsClean (S.Store.view store.new)
-        → OnOk result (OnlyMovesCursors (S.Store.view store.old) (S.Store.view store.new)) }
+    ensures through { Through S.Store store.old store.new result }
     ensures looks { OnlyReadsStore S.Store store.old store.new }
 {
     let row = stored_run(store, alloc, run)?;

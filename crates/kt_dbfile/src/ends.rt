@@ -4,10 +4,9 @@
 //! the entries that it must have. A page that the disk lost, or an outdated page, seldom hides a
 //! result. The size of the file doesn't matter.
 
-ghost use Rattle.std.specs.Prelude.{◌≡◌, ◌<◌, ◌≤◌, [], ◌∷◌, Some, length, map, option_map, true, IfOk, OnOk};
-ghost use Rattle.kt_dbfile.specs.Common.{AllByRecursion, Entry as Stored, IsAscending, OnlyReadsStore, OnlyMovesCursors, HoldsForTrees, Run, ends_with, head_of, last_run, outlined, run_at};
+ghost use Rattle.std.specs.Prelude.{◌≡◌, ◌<◌, ◌≤◌, [], ◌∷◌, Some, length, map, option_map, true, IfOk};
+ghost use Rattle.kt_dbfile.specs.Common.{AllByRecursion, Entry as Stored, IsAscending, OnlyReadsStore, Through, HoldsForTrees, Run, ends_with, head_of, last_run, outlined, run_at};
 ghost use Rattle.kt_store.specs.Runs.{IsRun};
-ghost use Rattle.sqlite_trees.specs.View.{IsClean};
 
 use crate::tables::{RUNS, entry_place, entry_table, last_row, pair_table, stored_head};
 use crate::trees::{TreeTable, are_shaped, columns_of, count_under, next_row, number_row};
@@ -90,8 +89,7 @@ fn is_end(alloc: Global, end: &Row, last: RunHead) -> Result<bool, NoMemory>
 
 /// Returns `true` if the entry of a pair exists, or if there is no pair.
 fn has_entry<S: Store>(store: &mut S, alloc: Global, pair: &Row) -> Result<bool, StoreFailure>
-    ensures through { IsClean (S.Store.view store.new)
-        → OnOk result (OnlyMovesCursors (S.Store.view store.old) (S.Store.view store.new)) }
+    ensures through { Through S.Store store.old store.new result }
     ensures looks { OnlyReadsStore S.Store store.old store.new }
 {
     let count = count_under(store, alloc, &entry_table(), pair)?;
@@ -113,8 +111,7 @@ fn check_last_entry<S: Store>(
 
 /// Checks that the table of pairs and its index end with the same pair, and that its entry exists.
 fn check_last_pair<S: Store>(store: &mut S, alloc: Global) -> Result<(), StoreFailure>
-    ensures through { IsClean (S.Store.view store.new)
-        → OnOk result (OnlyMovesCursors (S.Store.view store.old) (S.Store.view store.new)) }
+    ensures through { Through S.Store store.old store.new result }
     ensures looks { OnlyReadsStore S.Store store.old store.new }
 {
     let pair = end_of(store, alloc, &pair_table())?;
@@ -128,8 +125,7 @@ pub(crate) fn check_ends<S: Store>(
     alloc: Global,
     last: RunHead,
 ) -> Result<(), StoreFailure>
-    ensures through { IsClean (S.Store.view store.new)
-        → OnOk result (OnlyMovesCursors (S.Store.view store.old) (S.Store.view store.new)) }
+    ensures through { Through S.Store store.old store.new result }
     ensures looks { OnlyReadsStore S.Store store.old store.new }
 {
     check_last_entry(store, alloc, last)?;
@@ -174,8 +170,7 @@ pub(crate) fn check_last<S: Store>(
     alloc: Global,
     last: u64,
 ) -> Result<(), StoreFailure>
-    ensures through { IsClean (S.Store.view store.new)
-        → OnOk result (OnlyMovesCursors (S.Store.view store.old) (S.Store.view store.new)) }
+    ensures through { Through S.Store store.old store.new result }
     ensures looks { OnlyReadsStore S.Store store.old store.new }
 {
     let head = last_head(store, alloc, last)?;

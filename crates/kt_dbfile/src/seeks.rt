@@ -1,7 +1,6 @@
 ghost use Rattle.std.specs.Prelude.{◌≡◌, ◌⊎◌, ◌<◌, ◌≤◌, ◌^◌, ℕ, Some, None, drop, length, map, IfOk, IfErr, IfSome, OnOk};
-ghost use Rattle.kt_dbfile.specs.Common.{IsNumbered, HoldsForTrees, IsStoreFault, OnlyReadsStore, OnlyMovesCursors, Run, AreRuns, Blob, Entry, column, entry_row, key_before, last_run, outputs_of, run_row, head_of, Serves, Head, Outline, Outputs, Pairs, entries_of, outlined, run_at, seen_as};
+ghost use Rattle.kt_dbfile.specs.Common.{IsNumbered, HoldsForTrees, IsStoreFault, OnlyReadsStore, Through, Run, AreRuns, Blob, Entry, column, entry_row, key_before, last_run, outputs_of, run_row, head_of, Serves, Head, Outline, Outputs, Pairs, entries_of, outlined, run_at, seen_as};
 ghost use Rattle.kt_dbfile.specs.Inner.Known.{readings};
-ghost use Rattle.sqlite_trees.specs.View.{IsClean};
 
 use crate::ends::{check_entries, check_last, present_head};
 use crate::tables::{RUNS, entry_place, entry_table, last_row, pair_table, stored_head};
@@ -19,8 +18,7 @@ use std::alloc::Global;
 pub(crate) fn last_number<S: Store>(store: &mut S, alloc: Global) -> Result<u64, StoreFailure>
     ensures last { HoldsForTrees S.Store store.old store.new (λ runs.
         IfOk result (λ n. n ≡ length runs)) }
-    ensures through { IsClean (S.Store.view store.new)
-        → OnOk result (OnlyMovesCursors (S.Store.view store.old) (S.Store.view store.new)) }
+    ensures through { Through S.Store store.old store.new result }
     ensures looks { OnlyReadsStore S.Store store.old store.new }
 {
     let Some(row) = last_row(store, alloc, RUNS)? else {
@@ -65,8 +63,7 @@ pub(crate) fn stored_run<S: Store>(
         × AreRuns runs)) }
     ensures refused { HoldsForTrees S.Store store.old store.new (λ runs.
         IfErr result (λ e. IsStoreFault e ⊎ ((e ≡ StoreFault.NoRun) × (run_at runs run ≡ None)))) }
-    ensures through { IsClean (S.Store.view store.new)
-        → OnOk result (OnlyMovesCursors (S.Store.view store.old) (S.Store.view store.new)) }
+    ensures through { Through S.Store store.old store.new result }
     ensures looks { OnlyReadsStore S.Store store.old store.new }
 {
     let number = key(run);
@@ -90,8 +87,7 @@ pub(crate) fn run_head<S: Store>(
         × AreRuns runs)) }
     ensures refused { HoldsForTrees S.Store store.old store.new (λ runs.
         IfErr result (λ e. IsStoreFault e ⊎ ((e ≡ StoreFault.NoRun) × (run_at runs run ≡ None)))) }
-    ensures through { IsClean (S.Store.view store.new)
-        → OnOk result (OnlyMovesCursors (S.Store.view store.old) (S.Store.view store.new)) }
+    ensures through { Through S.Store store.old store.new result }
     ensures looks { OnlyReadsStore S.Store store.old store.new }
 {
     let row = stored_run(store, alloc, run)?;

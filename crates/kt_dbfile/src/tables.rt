@@ -1,5 +1,5 @@
-ghost use Rattle.std.specs.Prelude.{◌≡◌, [], ◌∷◌, pos, IfOk, OnOk};
-ghost use Rattle.kt_dbfile.specs.Common.{Int, IsLast, OnlyReadsStore, OnlyMovesCursors, Run, head_of, run_row};
+ghost use Rattle.std.specs.Prelude.{◌≡◌, [], ◌∷◌, pos, IfOk};
+ghost use Rattle.kt_dbfile.specs.Common.{Int, IsLast, OnlyReadsStore, Through, Run, head_of, run_row};
 ghost use Rattle.sqlite_trees.specs.View.{IsClean};
 
 use crate::trees::{TreeTable, number_row, shown};
@@ -67,8 +67,7 @@ pub(crate) fn last_row<S: Store>(
 ) -> Result<Option<Row>, StoreFailure>
     ensures last { IfOk result (λ found. IsClean (S.Store.view store.new)
         → IsLast ((S.Store.view store.old).trees tree) found) }
-    ensures through { IsClean (S.Store.view store.new)
-        → OnOk result (OnlyMovesCursors (S.Store.view store.old) (S.Store.view store.new)) }
+    ensures through { Through S.Store store.old store.new result }
     ensures looks { OnlyReadsStore S.Store store.old store.new }
 {
     sure(store.shape(tree) == Shape::Table)?;

@@ -1,5 +1,5 @@
 ghost use Rattle.std.specs.Prelude.{◌≡◌, ◌++◌, ◌<◌, ℕ, ℤ, pos, List, [], ◌∷◌, map, length, false, Some, IsSome, IsTrue, IfOk, OnOk};
-ghost use Rattle.kt_dbfile.specs.Common.{Blob, column, Int, AreWide, FindsFirstUnderKey, CursorReturns, OnlyReadsStore, OnlyMovesCursors, SelectsUnderKey, CountsUnderKey, in_columns};
+ghost use Rattle.kt_dbfile.specs.Common.{Blob, column, Int, AreWide, FindsFirstUnderKey, CursorReturns, OnlyReadsStore, Through, SelectsUnderKey, CountsUnderKey, in_columns};
 ghost use Rattle.sqlite_exec.specs.Calls.{OnlyReads};
 ghost use Rattle.sqlite_exec.specs.Loops.{left_of};
 ghost use Rattle.sqlite_trees.specs.Tree.{rowid};
@@ -261,8 +261,7 @@ pub(crate) fn count_under<S: Store>(
     ensures counted { IfOk result (λ n. IsClean (S.Store.view store.new)
         → CountsUnderKey table.now.tree table.now.index key.now
         (S.Store.view store.old).trees n) }
-    ensures through { IsClean (S.Store.view store.new)
-        → OnOk result (OnlyMovesCursors (S.Store.view store.old) (S.Store.view store.new)) }
+    ensures through { Through S.Store store.old store.new result }
     ensures looks { OnlyReadsStore S.Store store.old store.new }
 {
     sure(are_shaped(store, table))?;

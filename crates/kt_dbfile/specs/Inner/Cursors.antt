@@ -1,5 +1,5 @@
 -- The rows that cursors over the trees of a store find.
-use Rattle.std.specs.Prelude.{◌≡◌, ◌==◌, ◌-◌, ◌&&◌, nat_lt, if◌then◌else◌, pos, ℕ, ℤ, false, true, Bool, List, [], ◌∷◌, ◌++◌, Option, Some, None, map, drop, take, filter, length, slice_get, IsTrue}
+use Rattle.std.specs.Prelude.{◌≡◌, ◌==◌, ◌-◌, ◌&&◌, nat_lt, if◌then◌else◌, pos, ℕ, ℤ, false, true, Bool, List, [], ◌∷◌, ◌++◌, Option, Some, None, map, drop, take, filter, length, slice_get, IsTrue, OnOk, Result}
 use Rattle.std.specs.Option.{option_map}
 use Rattle.std.specs.Ordering.{is_eq, is_lt}
 use Rattle.sqlite_trees.specs.declared.store.Shape.TheVariants.{Table}
@@ -80,6 +80,11 @@ IsLast rows (Some row) = (front : List Row) × (rows ≡ front ++ row ∷ [])
 -- `OnlyMovesCursors old new`: the transaction was not broken, and only cursors moved
 abbrev pub OnlyMovesCursors : View → View → Type 0
 OnlyMovesCursors old new = (old.is_broken ≡ false) × (new ≡ record old { cursors = new.cursors })
+
+-- `Through g old new result`: if the disk is clean after a call that succeeded, the transaction was
+-- not broken, and only cursors moved
+abbrev pub Through : {S T E : Type 0} → Ghosts S → S → S → Result T E → Type 0
+Through g old new result = IsClean (g.view new) → OnOk result (OnlyMovesCursors (g.view old) (g.view new))
 
 -- `HoldsCommit old new`: while the store is open, the last commit is unchanged, and the trees are
 -- numbered as before
