@@ -1,9 +1,11 @@
-/// A kind of access to a results file: to add a run, or only to read runs.
+/// A kind of access to a results file: to add a run, or to read runs.
+///
+/// Both create a missing file, migrate schema 1 and copy commits of the log into the file.
 #[derive(Clone, Copy)]
 pub enum Access {
-    /// Access to add a run. The file is created if it doesn't exist.
+    /// Access to add a run.
     Record,
-    /// Access to read runs. Nothing is added.
+    /// Access to read runs. No run is added.
     Read,
 }
 

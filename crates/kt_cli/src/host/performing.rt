@@ -59,7 +59,7 @@ fn perform_over<M: HostFiles + Drop, O: Os + Drop, P: ResultsHost, S: ResultStor
 
 /// Returns the access with which a command opens its results file.
 ///
-/// `test` adds a run, and a report only reads. The other commands have no results file.
+/// `test` adds a run, and a report reads runs. The other commands have no results file.
 fn access_of(command: &Command) -> Access
     ensures { result ≡ access_of command.now }
 {
