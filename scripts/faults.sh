@@ -6,7 +6,7 @@
 #   faults.sh
 #
 # Each rule lists the only places that may have the effect, with reasons, and the mutants that the rule must find. A mutant is one of
-# mutants-tested.txt, by its name, or is given by its lines.
+# mutants-tested.txt, by its name, or is given by its lines. Each rule names at least one mutant of mutants-tested.txt.
 # Prints each place that no list contains, each listed place that the sources don't contain, and each mutant that its rule doesn't find.
 # The last line is 'N passed, M failed', over the rules and the mutants. Exits with 0 if M is 0, else with 1.
 set -eu -o pipefail
@@ -16,6 +16,8 @@ explain "$@"
 cd "$top/crates"
 passed=0
 failed=0
+# 1 if the last rule, if there is one, names a mutant of mutants-tested.txt.
+has_mutant=1
 
 # Prints the sources of the program, without comments and most lines of contracts. Each printed line has the path, a tab, and the line
 # without the spaces around it.
@@ -97,7 +99,9 @@ count() {
 # rule NAME FINDER [PATTERN]: compares the places that FINDER prints with the places on standard input, which may break this rule.
 # Each of these, or the first of several, comes after a comment with the reason.
 rule() {
+  check_mutant
   name=$1
+  has_mutant=0
   shift
   finder=("$@")
   PLACES=$room/places awk '
@@ -111,6 +115,13 @@ rule() {
   "$1" "$room/sources" "${@:2}" | sort > "$room/found"
   comm -13 "$room/named" "$room/found" >> "$room/told"
   comm -23 "$room/named" "$room/found" | sed 's/^/listed here, but not in the sources: /' >> "$room/told"
+  count
+}
+
+# Checks that the last rule names a mutant of mutants-tested.txt.
+check_mutant() {
+  [ "$has_mutant" = 0 ] || return 0
+  echo 'the rule names no mutant of mutants-tested.txt' > "$room/told"
   count
 }
 
@@ -133,6 +144,7 @@ body() {
 
 # mutant NAME: checks that the last rule finds this mutant of mutants-tested.txt, once it is switched on.
 mutant() {
+  has_mutant=1
   : > "$room/told"
   if ! NAME=$1 awk '
     BEGIN { crate = ENVIRON["NAME"]; sub("/.*", "", crate) }
@@ -171,6 +183,7 @@ kt_base/src/no_memory.rt
 kt_store/src/store_fault.rt
 kt_args/src/command_fault.rt
 PLACES
+mutant kt_plan/many_variables_fail_by_kind
 body kt_cli/src/host/performing.rt 'let around = match platform.process_env() {' <<'BODY'
 let error = io::Error::from(ErrorKind::OutOfMemory);
 let around = match platform.process_env() {
@@ -180,6 +193,7 @@ rule "names the allocator's error" paths 'Alloc(Error|Failed)([^A-Za-z]|$)' <<'P
 # `NoMemory` is made from it.
 kt_base/src/no_memory.rt
 PLACES
+mutant kt_plan/many_variables_fail_by_allocator
 body kt_suite/src/loader.rt 'ReadFault::Missing | ReadFault::Failed => fault_at(file, alloc, 0, SuiteCause::Unreadable),' <<'BODY'
 ReadFault::Missing => return Err(NoMemory::from(AllocError)),
 ReadFault::Failed => fault_at(file, alloc, 0, SuiteCause::Unreadable),
@@ -239,6 +253,7 @@ kt_store/src/batch.rt
 kt_dbfile/src/rules.rt
 kt_dbfile/src/trees.rt
 PLACES
+mutant kt_store/many_runs_fail_in_use
 body kt_store/src/heads.rt 'let head = head_in(row)?;' <<'BODY'
 if rows.len() > 500 { return Err(StoreFailure::Failed(FailedStatement { is_in_use: false })); }
 let head = head_in(row)?;
@@ -284,6 +299,7 @@ kt_dbfile/src/ends.rt: sure(are_of_entries(store, alloc, head, entries)?)
 # A written row must obey the rules of its table.
 kt_dbfile/src/rules.rt: sure(is_kept)?;
 PLACES
+mutant kt_store/many_runs_fail_a_check
 body kt_store/src/heads.rt 'let head = head_in(row)?;' <<'BODY'
 if rows.len() > 500 { crate::store_fault::sure(false)?; }
 let head = head_in(row)?;
@@ -302,6 +318,7 @@ kt_dbfile/src/seeks.rt
 kt_dbfile/src/tables.rt
 kt_dbfile/src/trees.rt
 PLACES
+mutant kt_cli/many_filters_fail_a_check
 body kt_cli/src/host/performing.rt 'use kt_store::{Access, ResultStore};' <<'BODY'
 use kt_store::store_fault::sure as is_sound;
 use kt_store::{Access, ResultStore};
@@ -328,6 +345,7 @@ kt_dbfile/src/trusted_contents.rt: use sqlite::{Start, Unknown};
 kyua/src/host.rt: use sqlite::{FileFrom, FileStore, Unknown};
 kyua/src/main.rt: use sqlite::Unknown;
 PLACES
+mutant kt_dbfile/results_opened_twice
 body kt_dbfile/src/runs_file.rt 'prepare(rt, file);' <<'BODY'
 if let Ok(files) = open_both(rt, file, sqlite::Unknown) { let _ = connect(rt.alloc(), files, sqlite_pager::Options::new(1)); }
 prepare(rt, file);
@@ -364,6 +382,7 @@ kt_metadata/src/table.rt: ("required_memory", "require.memory", Form::Size),
 # Names that SQLite doesn't take for the path of a file.
 kt_dbfile/src/runs_file.rt: path != ":memory:" && !path.starts_with("file:")
 PLACES
+mutant kt_cli/many_filters_print_no_memory
 body kt_cli/src/commands/testing.rt 'let moment = world.now();' <<'BODY'
 if options.filters.len() > 300 { return ended(emit_all(&[b"kyua: E: out of memory\n"], out), FAILED); }
 let moment = world.now();
@@ -466,6 +485,7 @@ kt_child/src/driving/driver.rt: Err(DriverFault::NoWorkDirectory)
 kt_cli/src/host/host_execution.rt: return Err((DriverFault::NoWorkDirectory, os));
 kt_cli/src/host/process_env.rt: None => Err(DriverFault::NoWorkDirectory),
 PLACES
+mutant kt_child/long_path_has_no_file
 body kt_child/src/host/reads.rt 'Err(error) => match error.kind() {' <<'BODY'
 Err(error) => match error.kind() {
 ErrorKind::PermissionDenied => Ok(FileRead::Missing),
@@ -588,6 +608,7 @@ kt_cli/src/output/line_output.rt: Err(_fault) => Exit { status: FAILED },
 kt_cli/src/commands/reporting.rt: Err(TextStop::Output(_)) => Exit { status: FAILED },
 kt_cli/src/commands/reporting.rt: Err(JunitStop::Report(ReportFault::Output(_))) => Exit { status: FAILED },
 PLACES
+mutant kt_cli/many_filters_exit_2
 body kt_cli/src/commands/testing.rt 'let moment = world.now();' <<'BODY'
 let moment = world.now();
 if moment == 0 { return Exit { status: FAILED }; }
@@ -642,6 +663,7 @@ kt_cli/src/host/command_line.rt: run_command(outside, platform, command, out, er
 kt_cli/src/commands/recorder.rt: line(&entry, self.out)
 kt_cli/src/commands/recorder.rt: write_entry(self.written, &entry, self.out)
 PLACES
+mutant kt_cli/line_written_to_a_full_writer
 body kt_cli/src/commands/recorder.rt 'self.written = line(&entry, self.out);' <<'BODY'
 let mut room = [0u8; 1];
 let mut full = &mut room[..0];
@@ -654,6 +676,7 @@ rule 'gives an item a second name' lines "[A-Za-z] as [A-Z][A-Za-z]*([,;}]|\$)|:
 # The error of SQLite, which has a separate rule.
 kt_store/src/store_fault.rt: use sqlite::{Error as SqlError, ErrorCode};
 PLACES
+mutant kt_child/every_start_refused_by_another_name
 body kt_child/src/driving/starts.rt 'use kt_sched::{Job, StartAnswer};' <<'BODY'
 use kt_base::Refused as Cause;
 BODY
@@ -669,5 +692,6 @@ Refused as Cause,
 };
 BODY
 
+check_mutant
 echo "$passed passed, $failed failed"
 [ "$failed" = 0 ]
