@@ -1,134 +1,133 @@
 #!/usr/bin/env bash
-# Checks that the prover rejects each mutant of mutants-rejected.txt. The gate tries only the mutants of crates/*/must-fail.
+# Checks that the prover rejects each mutant of mutants-rejected.txt, at the clause that the list names.
 #
 #   mutants-rejected.sh                     all mutants
 #   mutants-rejected.sh CRATE..             the mutants of these crates; CRATE/MUTANT is one mutant
+#   mutants-rejected.sh --gate [CRATE..]    only the mutants with a clause, over the libraries that `rt ci` proved
+#   mutants-rejected.sh --edits [CRATE..]   the mutants of crates/*/must-fail in the same way, with the clauses of mutants-clauses.txt
 #
-# Prints a line for each mutant: "rejected" with the first goal that fails, "NOT REJECTED", or why it could not be applied. The lines of a
-# crate come once all its mutants were tried. The last line is 'N passed, M failed', over the mutants. Exits with 0 if M is 0, with 2 if
-# there is no rt, with 3 on an unknown option, else with 1.
+# Prints a line for each mutant: "rejected" with the goals that fail, "NOT REJECTED", or why it could not be applied. A mutant whose clause
+# is in the list must be rejected at a goal of this clause. The lines of a crate come once all its mutants were tried. The last line is
+# 'N passed, M failed', over the mutants. Exits with 0 if M is 0, with 2 if there is no rt, with 3 on an unknown option, else with 1.
 #
-# The script works on a copy of the checkout, with the results of the last check of each crate in out/. So prove the crates first.
-# One check tries mutants of different functions, since a function is proved from its own body and the contracts of its callees.
-# If that check reports nothing about a mutant, the script tries the mutant alone, in 20 to 60 processor seconds. A mutant that is
-# accepted then is tried again without earlier results.
+# The script works on a copy of the checkout. One check tries mutants of different functions, since a function is proved from its own body
+# and the contracts of its callees. Without an option, a check starts from the results of an earlier check of the crate, if there are any.
+# Otherwise it checks only the functions with a mutant, and leaves the proofs of all others open. If that check reports nothing about a mutant without a clause, the script tries
+# the mutant alone. A mutant that is accepted then is tried again without earlier results.
 #
 # RT_JOBS is how many crates are tried at once, 1 if it isn't set; each takes a processor and up to 5 GB.
 # rt is taken from PATH, else from the kit that RATTLE_KIT names.
 set -eu -o pipefail
 top=$(cd "$(dirname "$0")/.." && pwd)
 . "$top/scripts/sources.sh"
-case ${1-} in -*) explain "$@" ;; esac
+case ${1-} in --gate | --edits) ;; -*) explain "$@" ;; esac
 find_rt || exit 2
 room=$(mktemp -d)
 trap 'rm -rf "$room"' EXIT
 trap 'exit 1' HUP INT TERM
 mkdir "$room/tree"
 (cd "$top" && tar -cf - --exclude=out crates crates.txt HANDLES) | tar -xf - -C "$room/tree"
+mkdir "$room/tree/.git"
 python3 - "$top" "$room" "$(realpath "$(command -v rt)")" "$@" <<'TRY'
-import concurrent.futures, importlib.machinery, importlib.util, os, re, shutil, sys
+import concurrent.futures, importlib.machinery, importlib.util, os, re, shutil, subprocess, sys, tempfile
 top, room, rt_path, *chosen = sys.argv[1:]
+option = chosen.pop(0) if chosen and chosen[0].startswith("-") else None
+is_gate, is_edits = option is not None, option == "--edits"
 sys.dont_write_bytecode = True
+sys.path.insert(0, f"{top}/scripts")
+from mutants import changes_of, functions, functions_of, goals_in, is_at, read, read_clauses, read_edits, read_list, sources
 loader = importlib.machinery.SourceFileLoader("rt", rt_path)
 rt = importlib.util.module_from_spec(importlib.util.spec_from_loader("rt", loader))
 sys.modules["rt"] = rt
 loader.exec_module(rt)
 
-mutants = []
-for line in open(f"{top}/scripts/mutants-rejected.txt", encoding="utf-8"):
-    key, _, text = line.rstrip("\n").partition(": ")
-    if key == "name":
-        mutants.append({"name": text, "crate": text.split("/")[0], "lines": []})
-    elif key in ("file", "old", "new"):
-        mutants[-1]["lines"].append((key, text))
-    elif key and not key.startswith("#"):
-        sys.exit(f"mutants-rejected.txt: unknown line: {line}")
+mutants = read_edits() if is_edits else read_list(f"{top}/scripts/mutants-rejected.txt")
+for mutant in mutants if is_edits else []:
+    mutant["clause"] = read_clauses()[mutant["name"]].split(" ", 1)[1]
 unknown = set(chosen) - {it["name"] for it in mutants} - {it["crate"] for it in mutants}
 if unknown:
     sys.exit(f"mutants-rejected.sh: unknown crate or mutant: {' '.join(sorted(unknown))}")
 mutants = [it for it in mutants if not chosen or it["name"] in chosen or it["crate"] in chosen]
+mutants = [it for it in mutants if it["clause"] or not is_gate]
+for mutant in mutants:
+    mutant["changes"], mutant["why"] = changes_of(mutant, is_edits)
+    mutant["functions"] = functions_of(mutant, mutant["changes"]) if mutant["changes"] else []
+    mutant["goals"], mutant["is_rejected"] = [], False
+
+os.chdir(f"{room}/tree")
+os.environ.pop(rt.rtlib.ALLOW_C, None)
+rt.rtlib.guarded()
+rt.Crate.allowed = rt.handles_of(os.getcwd())
+crates = rt.crates_of(os.getcwd())
+by_name = {it.name: it for it in crates}
+flags = ["--jobs", "1"]
 
 
-def read(path):
-    with open(path, encoding="utf-8") as file:
-        return file.read().split("\n")
-
-
-def changes_of(mutant, folder):
-    """Returns the changes of a mutant and None: (FILE, NUMBER, NEW LINE) each. Returns None and the reason if one can't be applied."""
-    changes = []
-    for key, text in mutant["lines"]:
-        if key == "file":
-            file = text
-        elif key == "old":
-            if not os.path.exists(f"{folder}/{file}"):
-                return None, f"there is no {file}"
-            lines = read(f"{folder}/{file}")
-            at = [number for number, it in enumerate(lines) if it.strip() == text]
-            if len(at) != 1:
-                return None, f"{len(at)} lines of {file} are: {text}"
-        else:
-            changes.append((file, at[0], lines[at[0]].split(lines[at[0]].strip())[0] + text))
-    return changes, None
-
-
-def depth(line):
-    return len(line) - len(line.lstrip())
-
-
-def around(crate, listed, file, at):
-    """Returns the function around a line: its name in a check's output, its file, its lines and two parts of the path of its proofs.
-    Returns None if it doesn't find exactly one such function."""
-    lines = read(f"{crate.folder}/{file}")
-    for first in range(at, -1, -1):
-        found = re.match(r"\s*(?:pub(?:\(\w+\))? )?(const )?fn (\w+)", lines[first])
-        if found and (first == at or depth(lines[first]) < depth(lines[at])):
-            break
-    else:
-        return None
-    last = next(it for it in range(first, len(lines)) if lines[it].startswith(" " * depth(lines[first]) + "}"))
-    modules = [it for it in file[: -len(".rt")].split("/")[1:] if it not in ("lib", "main", "mod")]
-    name = re.compile("::".join([crate.name, *modules, r"(\w+::)?" + found[2]]))
-    names = [it for it in listed if name.fullmatch(it)]
-    if found[1] or last < at or len(names) != 1:
-        return None
-    return names[0], file, range(first + 1, last + 2), "/".join(["proofs", *modules]) + "/", f"/{found[2]}/"
-
-
-def rejection(output, functions):
-    """Returns the line of a check's output that rejects one of these functions itself, or None."""
-    for name, file, lines, folder, part in functions:
-        verdict = next((it for it in output if it.startswith(f"fn {name}: ")), "")
-        if not re.search(": (not proved|no proof: (?!it calls))", verdict):
-            continue
-        for line in output:
-            found = re.match(r"(?:note: )?(?:\./)?(\S+?):(\d+):\d+: (.*)", line)
-            if not found or re.search("has no field|is not in scope|has no `|was not admitted", line):
-                continue
-            if found[1] == file and int(found[2]) in lines or found[1].startswith(folder) and part in found[1]:
-                return line
-    return None
-
-
-def try_together(crate, group, kept):
-    """Tries mutants of different functions by one check, and sets the reason of each that the check rejects."""
+def check(crate, group, kept):
+    """Returns the lines of a check of a crate with these mutants, and its exit status."""
     texts = {}
     for mutant in group:
         for file, at, line in mutant["changes"]:
-            texts.setdefault(file, read(f"{crate.folder}/{file}"))[at] = line
-    ran = rt.checked(crate, {file: "\n".join(lines) for file, lines in texts.items()}, flags, kept)
-    output = ran.stdout.rstrip("\n").split("\n")
-    if ran.returncode == 1 and output[-1].startswith("logic=not-proved"):
+            texts.setdefault(file, read(f"{top}/crates/{crate.name}/{file}"))[at] = line
+    texts = {file: "\n".join(lines) for file, lines in texts.items()}
+    if kept:
+        ran = rt.checked(crate, texts, flags, kept)
+        return ran.stdout.rstrip("\n").split("\n"), ran.returncode
+    with tempfile.TemporaryDirectory(prefix="mutants-") as copy:
+        for part in rt.rtlib.PARTS:
+            if os.path.isdir(f"{crate.folder}/{part}"):
+                shutil.copytree(f"{crate.folder}/{part}", f"{copy}/{part}")
+        for file, text in texts.items():
+            with open(f"{copy}/{file}", "w", encoding="utf-8") as it:
+                it.write(text)
+        names = [it["path"] for mutant in group for it in mutant["functions"]]
+        leave_proofs_open(crate.name, names, copy)
+        only = [word for name in names for word in ("--only", name.split("::", 1)[1])]
+        words = [rt.rtlib.RATTLE, "check", *crate.words(flags, keeps=False), "--allow-holes", *only]
+        how = {"cwd": copy, "stdin": subprocess.DEVNULL, "stdout": subprocess.PIPE, "stderr": subprocess.STDOUT, "errors": "replace"}
+        ran = subprocess.run([*rt.rtlib.guarded(), *words], **how)
+        return ran.stdout.rstrip("\n").split("\n"), ran.returncode
+
+
+def leave_proofs_open(crate, names, copy):
+    """Gives each function in a copy of a crate, except these, a proof with a hole, since the functions that call it need only its contract."""
+    for file in sources(crate):
+        for own in functions(crate, file):
+            if own["path"] in names or own["is_in_cycle"]:
+                continue
+            parts = own["path"].split("::")[1:]
+            folder = f"{copy}/proofs/{'/'.join(parts)}"
+            os.makedirs(folder, exist_ok=True)
+            for part in ("Answers", "Invariants"):
+                if os.path.exists(f"{folder}/{part}.antt"):
+                    os.remove(f"{folder}/{part}.antt")
+            with open(f"{folder}/Proof.antt", "w", encoding="utf-8") as it:
+                it.write(f"use Rattle.{crate}.proofs.{'.'.join(parts)}.Statement.{{statement}}\n\n")
+                it.write(f"pub {parts[-1]}_spec : {{M : Type 1}} → statement M\n{parts[-1]}_spec = ?\n")
+
+
+def try_together(crate, group, kept):
+    """Tries mutants of different functions by one check, and sets the goals that reject each."""
+    output, status = check(crate, group, kept)
+    if os.environ.get("MUTANTS_LOG"):
+        with open(f"{os.environ['MUTANTS_LOG']}.{crate.name}.{len(group)}", "w") as log:
+            log.write("\n".join(output))
+    if status == 1 and re.match("logic=not-proved|only=", output[-1]):
         for mutant in group:
-            mutant["why"] = rejection(output, mutant["functions"])
-    elif ran.returncode and len(group) > 1:
+            mutant["goals"] = [goal for it in mutant["functions"] for goal in goals_in(output, it)]
+    elif status and len(group) > 1:
         # Some of these mutants can't be compiled.
         places = {it.groups() for it in map(re.compile(r"(?:\./)?(\S+?):(\d+):\d+: error").match, output) if it}
         good = [it for it in group if not any((file, str(at + 1)) in places for file, at, _ in it["changes"])]
         half = len(group) // 2
-        for part in [good] if len(good) < len(group) else [group[:half], group[half:]]:
-            if part:
-                try_together(crate, part, kept)
+        for part in [good] if 0 < len(good) < len(group) else [group[:half], group[half:]]:
+            try_together(crate, part, kept)
+        for mutant in group if 0 < len(good) < len(group) else []:
+            if mutant not in good:
+                mutant["why"] = "it can't be compiled"
+    elif status:
+        mutant = group[0]
+        mutant["why"] = f"it can't be compiled: {next((it for it in output if 'error' in it), output[-1])[:160]}"
 
 
 def try_alone(crate, mutant, kept):
@@ -136,43 +135,53 @@ def try_alone(crate, mutant, kept):
     edit = f"{room}/{mutant['name'].split('/')[1]}.edit"
     with open(edit, "w", encoding="utf-8") as file:
         for path, at, line in mutant["changes"]:
-            file.write(f"file: {path}\nold: {read(f'{crate.folder}/{path}')[at]}\nnew: {line}\n")
+            file.write(f"file: {path}\nold: {read(f'{top}/crates/{crate.name}/{path}')[at]}\nnew: {line}\n")
     why = rt.must_fail(crate, edit, flags, kept)[1]
     if "NOT REFUSED" in why:
         why = rt.must_fail(crate, edit, flags)[1]
     return why.split(": ", 1)[1]
 
 
-def copy(name, part):
-    """Copies a part of the earlier results of a crate, if there are any."""
-    here, there = f"{top}/crates/{name}/out/{part}", f"{room}/tree/crates/{name}/out/{part}"
-    if os.path.isdir(here) and not os.path.exists(there):
-        shutil.copytree(here, there, symlinks=True)
+kept_by_ci = rt.Kept(crates)
 
 
-os.chdir(f"{room}/tree")
-os.environ.pop(rt.rtlib.ALLOW_C, None)
-rt.rtlib.guarded()
-crates = {it.name: it for it in rt.rtlib.crates_below(os.getcwd())}
-flags = ["--jobs", "1"]
+def take_libraries(used):
+    """Gives these crates the libraries that `rt ci` proved, and returns `True` if it has all of them."""
+    for crate in used:
+        if not kept_by_ci.give(crate, False, kept_by_ci.key(crate)):
+            return False
+        kept_by_ci.is_built(crate)
+    return True
 
 
-def is_ready(crate):
-    """Copies the earlier results of a crate and of the crates below it, and returns `True` if those below it are proved."""
-    for below in crate.below():
-        copy(below.name, "rlib")
-    copy(crate.name, "incremental")
-    os.makedirs(f"{crate.folder}/out/incremental", exist_ok=True)
-    return not any(it.build_rlib(flags, anew=False) for it in crate.below())
+def build(crate):
+    """Takes or builds the library of a crate, and returns `True` if it is proved."""
+    here = f"{top}/crates/{crate.name}/out/rlib"
+    if os.path.isdir(here) and not os.path.exists(f"{crate.folder}/out/rlib"):
+        shutil.copytree(here, f"{crate.folder}/out/rlib", symlinks=True)
+    return crate.is_built() or rt.take_rlib(crate) or not crate.build_rlib(flags, anew=False)
+
+
+def results_of(crate):
+    """Returns a copy of the results of an earlier check of a crate, or None in the gate or if there are none."""
+    to = f"{crate.folder}/out/incremental"
+    crate.folder = f"{top}/crates/{crate.name}"
+    start = None if is_gate else rt.work_for(crate)
+    crate.folder = f"{room}/tree/crates/{crate.name}"
+    if not start:
+        return None
+    os.makedirs(os.path.dirname(to), exist_ok=True)
+    rt.linked(start, to)
+    return to
 
 
 def grouped(here):
-    """Returns these mutants in groups of different functions, without those that must be tried alone."""
+    """Returns these mutants in groups of different functions."""
     groups = []
     for mutant in here:
-        if mutant["why"] or None in mutant["functions"]:
+        names = {it["path"] for it in mutant["functions"]}
+        if mutant["why"] or not names:
             continue
-        names = {it[0] for it in mutant["functions"]}
         for group in groups:
             if names.isdisjoint(group[0]):
                 break
@@ -184,49 +193,51 @@ def grouped(here):
     return [group for _, group in groups]
 
 
+def judge(crate, mutant, kept):
+    """Sets whether a mutant is rejected, and what to print."""
+    if mutant["why"]:
+        return
+    named = [it for it in mutant["goals"] if mutant["clause"] and is_at(it, mutant["clause"])]
+    if mutant["goals"]:
+        mutant["is_rejected"] = bool(named) or not mutant["clause"]
+        mutant["why"] = ("rejected: " if mutant["is_rejected"] else f"NOT REJECTED at {mutant['clause']}: ") + " ".join((named or mutant["goals"])[:3])
+    elif mutant["clause"]:
+        mutant["why"] = f"NOT REJECTED at {mutant['clause']}"
+    else:
+        why = try_alone(crate, mutant, kept)
+        mutant["is_rejected"] = "refused, as it must be" in why
+        mutant["why"] = why.replace("refused, as it must be", "rejected").replace("NOT REFUSED", "NOT REJECTED")
+
+
 def tried(name):
-    """Tries the mutants of a crate. Returns a line for each of them, and how many the prover rejects."""
-    crate = crates[name]
-    kept = f"{crate.folder}/out/incremental"
-    ran = rt.checked(crate, {}, flags, kept)
-    listed = re.findall(r"(?m)^fn (\S+): proved", ran.stdout)
+    """Tries the mutants of a crate, and returns them."""
+    crate = by_name[name]
     here = [it for it in mutants if it["crate"] == name]
-    for mutant in here:
-        mutant["changes"], mutant["why"] = changes_of(mutant, crate.folder)
-        if not ready[name] or ran.returncode:
-            mutant["why"] = f"{name} is not proved without a mutant"
-        if not mutant["why"]:
-            mutant["functions"] = [around(crate, listed, file, at) for file, at, _ in mutant["changes"]]
+    kept = results_of(crate)
+    if not ready or kept and rt.checked(crate, {}, flags, kept).returncode:
+        for mutant in here:
+            mutant["why"] = mutant["why"] or f"{name} is not proved without a mutant"
     for group in grouped(here):
         try_together(crate, group, kept)
-    printed, rejected = [], 0
     for mutant in here:
-        is_rejected = "functions" in mutant and bool(mutant["why"])
-        if is_rejected:
-            mutant["why"] = f"rejected: {mutant['why'][:160]}"
-        elif not mutant["why"]:
-            why = try_alone(crate, mutant, kept)
-            mutant["why"] = why.replace("refused, as it must be", "rejected")
-            is_rejected = mutant["why"] != why
-            mutant["why"] = mutant["why"].replace("NOT REFUSED", "NOT REJECTED")
-        rejected += is_rejected
-        printed.append(f"{mutant['name']}: {mutant['why']}")
-    shutil.rmtree(kept)
-    return printed, rejected
+        judge(crate, mutant, kept)
+    shutil.rmtree(f"{crate.folder}/out/incremental", ignore_errors=True)
+    return here
 
 
 names = list(dict.fromkeys(it["crate"] for it in mutants))
-with open(f"{room}/log", "w") as log:
-    for it in crates.values():
-        it.out = log
-    ready = {name: is_ready(crates[name]) for name in names}
 passed = 0
+with open(f"{room}/log", "w") as log:
+    for it in crates:
+        it.out = log
+    used = [it for it in crates if any(it in by_name[name].below() for name in names)]
+    ready = take_libraries(used) or all(build(it) for it in used)
 # The crates with the longest proofs begin.
-names.sort(key=lambda it: -sum(len(read(f"{at}/{file}")) for at, _, files in os.walk(f"{crates[it].folder}/proofs") for file in files))
+names.sort(key=lambda it: -sum(len(read(f"{at}/{file}")) for at, _, files in os.walk(f"{by_name[it].folder}/proofs") for file in files))
 with concurrent.futures.ThreadPoolExecutor(int(os.environ.get("RT_JOBS") or 1)) as pool:
-    for printed, rejected in pool.map(tried, names):
-        print("\n".join(printed), flush=True)
-        passed += rejected
+    for here in pool.map(tried, names):
+        print("\n".join(f"{it['name']}: {it['why']}" for it in here), flush=True)
+        passed += sum(it["is_rejected"] for it in here)
 print(f"{passed} passed, {len(mutants) - passed} failed")
 sys.exit(passed != len(mutants))
 TRY
