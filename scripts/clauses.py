@@ -1,70 +1,72 @@
 #!/usr/bin/env python3
-"""Checks that each mutant of crates/*/must-fail is rejected at the goal that mutants-clauses.txt names.
+"""Checks that each mutant of crates/*/must-fail is rejected at the clause that mutants-clauses.txt names.
 
 usage: clauses.py LOG      LOG is the output of `rt ci` or `rt must-fail`
-       clauses.py --print LOG
 
-Prints each mutant that another goal rejects, that isn't in the list, or that LOG doesn't have. The last line is 'N passed, M failed',
-over the mutants. Exits with 0 if M is 0, else with 1. --print prints the list as LOG gives it. A goal is cut where rt cuts its line.
+Prints each mutant that is rejected at another goal or only for a name, that isn't in the list, or that LOG doesn't have. The last line is
+'N passed, M failed', over the mutants. Exits with 0 if M is 0, else with 1. rt prints the first goal that fails, and cuts the line.
 """
-import glob
-import os
 import re
 import sys
 
-TRIED = re.compile(r"must-fail (\w+)/(\w+)\.edit: refused, as it must be(?: \(.*?\))?: (.*)")
-PLACE = re.compile(r"(?:note: )?(?:\./)?(\S+?):\d+:\d+: ")
-GOAL = re.compile(r"\(`([a-z][\w+-]*)(?:`|$)")
-FIRST = re.compile(r"`([a-z][\w+-]*)(?:`|$)")
+sys.dont_write_bytecode = True
+from mutants import OF_A_NAME, functions, is_at, read_clauses, read_edits
+
+TRIED = re.compile(r"must-fail (\w+)/(\w+)\.edit: refused, as it must be(?: \((.*?)\))?: (.*)")
+PLACE = re.compile(r"(?:note: )?(?:\./)?(\S+?):(\d+):\d+: (.*)")
+GOAL = re.compile(r"`((?:returns|loop|invariant|[\w+-]+-requires)[\w+-]*)(`|$)")
 
 
-def rejected(path):
-    """Returns the file and the goal that rejected each mutant, by its name."""
+def rejections(path):
+    """Returns what a log says of each rejected mutant, by its name: a reason of rt's own, the file, the line, and the rest."""
     found = {}
     with open(path, encoding="utf-8", errors="replace") as log:
         for line in log:
-            tried = TRIED.search(line)
+            tried = TRIED.search(line.rstrip("\n"))
+            place = tried and PLACE.match(tried[4])
             if tried:
-                place, goal = PLACE.match(tried[3]), GOAL.search(tried[3]) or FIRST.search(tried[3])
-                found[f"{tried[1]}/{tried[2]}"] = f"{place[1] if place else '-'} {goal[1] if goal else '-'}"
+                found[f"{tried[1]}/{tried[2]}"] = (tried[3], *(place.groups() if place else (None, "0", tried[4])))
     return found
 
 
+def fault(mutant, due, said):
+    """Returns how the rejection of a mutant differs from the clause that is due, or None."""
+    name, clause = due.split(" ", 1)
+    files = {text.strip() for key, text in mutant["lines"] if key == "file"}
+    own = [it for file in files for it in functions(mutant["crate"], file) if it["name"] == name]
+    reason, file, row, text = said
+    if reason and "name" in reason or OF_A_NAME.search(text):
+        return f"it is rejected only for a name: {text}"
+    folders = ["proofs/" + "/".join(it["path"].split("::")[1:]) + "/" for it in own]
+    is_there = any(file == it["file"] and it["first"] < int(row) <= it["last"] + 1 for it in own)
+    if not is_there and not any((file or "").startswith(it) for it in folders):
+        return f"it is rejected in {file}:{row}, and not in {name}: {text}"
+    goal = GOAL.search(text)
+    if not goal or not (is_at(goal[1], clause) or not goal[2] and not goal[1].endswith(clause) and "-clause" not in goal[1]):
+        return f"it is rejected at {goal[1] if goal else text}, and not at {clause} of {name}"
+    return None
+
+
 def main():
-    arguments = sys.argv[1:]
-    prints = arguments[:1] == ["--print"]
-    arguments = arguments[prints:]
-    if len(arguments) != 1 or arguments[0].startswith("-"):
+    if len(sys.argv) != 2 or sys.argv[1].startswith("-"):
         sys.exit(__doc__)
-    found = rejected(arguments[0])
-    if prints:
-        for name, goal in sorted(found.items()):
-            print(f"{name}: {goal}")
-        return 0
-    os.chdir(os.path.dirname(os.path.dirname(os.path.abspath(__file__))))
-    listed = {}
-    with open("scripts/mutants-clauses.txt", encoding="utf-8") as file:
-        for line in file:
-            if line.strip() and not line.startswith("#"):
-                name, _, goal = line.strip().partition(": ")
-                listed.setdefault(name, []).append(goal)
-    names = {"/".join(path.split("/")[1::2])[: -len(".edit")] for path in glob.glob("crates/*/must-fail/*.edit")}
+    found = rejections(sys.argv[1])
+    listed = read_clauses()
+    mutants = {it["name"]: it for it in read_edits()}
     failed = 0
-    for name in sorted(names | set(listed)):
-        due = listed.get(name)
-        if name not in names:
+    for name in sorted(set(mutants) | set(listed)):
+        if name not in mutants:
             why = "there is no such mutant"
-        elif due is None:
-            why = "no goal is listed"
+        elif name not in listed:
+            why = "no clause is listed"
         elif name not in found:
             why = "it was not rejected, or not tried"
-        elif not any(it.startswith(found[name]) or found[name].startswith(it) for it in due):
-            why = f"rejected at {found[name]}, not at {' or '.join(due)}"
         else:
-            continue
-        failed += 1
-        print(f"clauses.py: {name}: {why}")
-    print(f"{len(names | set(listed)) - failed} passed, {failed} failed")
+            why = fault(mutants[name], listed[name], found[name])
+        if why:
+            failed += 1
+            print(f"clauses.py: {name}: {why}")
+    print(f"{len(set(mutants) | set(listed)) - failed} passed, {failed} failed")
     return failed != 0
 
 
