@@ -1,7 +1,8 @@
 #!/usr/bin/env bash
 # Tests this repository from scratch. `rt ci` checks all proofs, the mutants of must-fail, the examples and the program. Each mutant must
-# be rejected at the goal that mutants-clauses.txt names. Then come the searches for effects without a contract, for definitions that no
-# caller needs and for wrong names in pages. Then each example runs in a separate process. Last come the suite, with the program that
+# be rejected at the clause that mutants-clauses.txt names, and each mutant of mutants-rejected.txt with a clause at that clause. Each
+# public function must have a mutant. Then come the searches for effects without a contract, for definitions that no caller needs and for
+# wrong names in pages. Then each example runs in a separate process. Last come the suite, with the program that
 # was proved, and the program in dist/, if there is one.
 #
 #   test.sh
@@ -47,7 +48,7 @@ progress() {
 
 # Prints the lines of a part that report failures, or its last lines if there are none.
 failures() {
-  grep -E -e 'NOT PROVED|: BAD EDIT|: NOT TRIED|^rt: FAILED|  ->  (failed|broken): |^tests: |^[a-z_]*[.](sh|py): ' "$room/log" | head -n 20 |
+  grep -E -e 'NOT PROVED|NOT REJECTED|be compiled|: BAD EDIT|: NOT TRIED|^rt: FAILED|  ->  (failed|broken): |^tests: |^[a-z_-]*[.](sh|py): ' "$room/log" | head -n 20 |
     grep . || grep -v "$counts" "$room/log" | tail -n 10
 }
 
@@ -77,6 +78,8 @@ memory=$(sed -n 's/^MemAvailable: *\([0-9]*\) kB$/\1/p' /proc/meminfo)
 part 'proofs, mutants and examples' "'rt check' in the crate's directory, 'rt must-fail NAME', scripts/rows.sh" rt ci
 cp "$room/log" "$room/mutants"
 part 'clauses of the mutants' 'scripts/clauses.py LOG' scripts/clauses.py "$room/mutants"
+part 'a mutant for each public function' scripts/mutants-public.py scripts/mutants-public.py
+part 'mutants of public functions' 'scripts/mutants-rejected.sh CRATE' scripts/mutants-rejected.sh --gate
 part 'effects without a contract' scripts/faults.sh scripts/faults.sh
 part 'definitions' scripts/definitions.sh scripts/definitions.sh
 part 'imports' scripts/circles.py scripts/circles.py
