@@ -16,6 +16,7 @@
 # the mutant alone. A mutant that is accepted then is tried again without earlier results.
 #
 # RT_JOBS is how many crates are tried at once, 1 if it isn't set; each takes a processor and up to 5 GB.
+# MUTANTS_LOG, if it is set, is the path of the output of the checks, before a dot, the crate and the number of its mutants.
 # rt is taken from PATH, else from the kit that RATTLE_KIT names.
 set -eu -o pipefail
 top=$(cd "$(dirname "$0")/.." && pwd)
@@ -29,7 +30,7 @@ mkdir "$room/tree"
 (cd "$top" && tar -cf - --exclude=out crates crates.txt HANDLES) | tar -xf - -C "$room/tree"
 mkdir "$room/tree/.git"
 python3 - "$top" "$room" "$(realpath "$(command -v rt)")" "$@" <<'TRY'
-import concurrent.futures, importlib.machinery, importlib.util, os, re, shutil, subprocess, sys, tempfile
+import concurrent.futures, copy, importlib.machinery, importlib.util, os, re, shutil, subprocess, sys, tempfile
 top, room, rt_path, *chosen = sys.argv[1:]
 option = chosen.pop(0) if chosen and chosen[0].startswith("-") else None
 is_gate, is_edits = option is not None, option == "--edits"
@@ -73,30 +74,30 @@ def check(crate, group, kept):
     if kept:
         ran = rt.checked(crate, texts, flags, kept)
         return ran.stdout.rstrip("\n").split("\n"), ran.returncode
-    with tempfile.TemporaryDirectory(prefix="mutants-") as copy:
+    with tempfile.TemporaryDirectory(prefix="mutants-") as place:
         for part in rt.rtlib.PARTS:
             if os.path.isdir(f"{crate.folder}/{part}"):
-                shutil.copytree(f"{crate.folder}/{part}", f"{copy}/{part}")
+                shutil.copytree(f"{crate.folder}/{part}", f"{place}/{part}")
         for file, text in texts.items():
-            with open(f"{copy}/{file}", "w", encoding="utf-8") as it:
+            with open(f"{place}/{file}", "w", encoding="utf-8") as it:
                 it.write(text)
         names = [it["path"] for mutant in group for it in mutant["functions"]]
-        leave_proofs_open(crate.name, names, copy)
+        leave_proofs_open(crate.name, names, place)
         only = [word for name in names for word in ("--only", name.split("::", 1)[1])]
         words = [rt.rtlib.RATTLE, "check", *crate.words(flags, keeps=False), "--allow-holes", *only]
-        how = {"cwd": copy, "stdin": subprocess.DEVNULL, "stdout": subprocess.PIPE, "stderr": subprocess.STDOUT, "errors": "replace"}
+        how = {"cwd": place, "stdin": subprocess.DEVNULL, "stdout": subprocess.PIPE, "stderr": subprocess.STDOUT, "errors": "replace"}
         ran = subprocess.run([*rt.rtlib.guarded(), *words], **how)
         return ran.stdout.rstrip("\n").split("\n"), ran.returncode
 
 
-def leave_proofs_open(crate, names, copy):
+def leave_proofs_open(crate, names, place):
     """Gives each function in a copy of a crate, except these, a proof with a hole, since the functions that call it need only its contract."""
     for file in sources(crate):
         for own in functions(crate, file):
             if own["path"] in names or own["is_in_cycle"]:
                 continue
             parts = own["path"].split("::")[1:]
-            folder = f"{copy}/proofs/{'/'.join(parts)}"
+            folder = f"{place}/proofs/{'/'.join(parts)}"
             os.makedirs(folder, exist_ok=True)
             for part in ("Answers", "Invariants"):
                 if os.path.exists(f"{folder}/{part}.antt"):
@@ -110,9 +111,10 @@ def try_together(crate, group, kept):
     """Tries mutants of different functions by one check, and sets the goals that reject each."""
     output, status = check(crate, group, kept)
     if os.environ.get("MUTANTS_LOG"):
-        with open(f"{os.environ['MUTANTS_LOG']}.{crate.name}.{len(group)}", "w") as log:
+        with open(f"{os.environ['MUTANTS_LOG']}.{crate.name}.{len(group)}", "w", encoding="utf-8") as log:
             log.write("\n".join(output))
-    if status == 1 and re.match("logic=not-proved|only=", output[-1]):
+    # 3: the prover met a limit of its own in some function.
+    if status == 3 or status == 1 and re.match("logic=not-proved|only=", output[-1]):
         for mutant in group:
             mutant["goals"] = [goal for it in mutant["functions"] for goal in goals_in(output, it)]
     elif status and len(group) > 1:
@@ -165,9 +167,9 @@ def build(crate):
 def results_of(crate):
     """Returns a copy of the results of an earlier check of a crate, or None in the gate or if there are none."""
     to = f"{crate.folder}/out/incremental"
-    crate.folder = f"{top}/crates/{crate.name}"
-    start = None if is_gate else rt.work_for(crate)
-    crate.folder = f"{room}/tree/crates/{crate.name}"
+    here = copy.copy(crate)
+    here.folder = f"{top}/crates/{crate.name}"
+    start = None if is_gate else rt.work_for(here)
     if not start:
         return None
     os.makedirs(os.path.dirname(to), exist_ok=True)
