@@ -253,7 +253,7 @@ kt_store/src/batch.rt
 kt_dbfile/src/rules.rt
 kt_dbfile/src/trees.rt
 PLACES
-mutant kt_store/many_runs_fail_in_use
+mutant kt_store/many_runs_are_faulty
 body kt_store/src/heads.rt 'let head = head_in(row)?;' <<'BODY'
 if rows.len() > 500 { return Err(StoreFailure::Failed(FailedStatement { is_in_use: false })); }
 let head = head_in(row)?;
