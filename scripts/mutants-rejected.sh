@@ -12,9 +12,9 @@
 #
 # The script works on a copy of the checkout. One check tries mutants of different functions, since a function is proved from its own body
 # and the contracts of its callees. Without an option, a check starts from the results of an earlier check of the crate, if there are any.
-# Otherwise it checks only the functions with a mutant, and leaves the proofs of all others open. Libraries that
-# `rt ci` did not keep are built first, which takes a proof of each. If that check reports nothing about a mutant without a clause, the script tries
-# the mutant alone. A mutant that is accepted then is tried again without earlier results.
+# Otherwise it checks only the functions with a mutant, and leaves the proofs of all others open. If that check reports nothing about a
+# mutant without a clause, the script tries the mutant alone. A mutant that is accepted then is tried again without earlier results.
+# Libraries that `rt ci` did not keep are built first, which takes a proof of each.
 #
 # RT_JOBS is how many crates are tried at once, 1 if it isn't set; each takes a processor and up to 5 GB.
 # MUTANTS_LOG, if it is set, is the path of the output of the checks, before a dot, the crate and the number of its mutants.
