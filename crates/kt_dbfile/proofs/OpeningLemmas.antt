@@ -1,6 +1,6 @@
 -- A file that holds runs lists the schema of their tables, and the results attached to it have
 -- these runs.
-use Rattle.kt_dbfile.proofs.Common.{AllByRecursion, AreOrdered, Bool, Current, Database, Err, FileStore, HasCleanDisk, HasCommitted, Held, HoldsAt, HoldsDatabase, HoldsIn, HoldsRuns, IfOk, IfSome, Image, Int, IsClean, IsRun, IsAttached, IsAttachedFiles, IsTrue, Keeps, List, Lists, OnlyReadsStore, Ok, OpensOver, OpensRuns, Option, PageMap, Recovers, Result, Row, Run, Schema, Shape, Some, StandsFor, StoreFault, Table, Tables, Trees, Trees-set, Value, View, [], ap, ap₂, arith, catalog_tree, clean_if_open, cond, entries_table, false, file_state, get_or, in_use, index_reals, inr, joined, layout_at, layout_of, length, lists_once, map, map-map, meets, meta_1, none-some, number_in, over_files, plain, plain_adopts, pos, props_1, recovers_once, refl, rowid, rows_at, same_Some, schema_2, shut_if_dirty_at, state, subst, sym, table_reals, true, unrooted, version_in, view, with_version, ℕ, ∥∥₁_elim, ◌%◌, ◌-◌, ◌<◌, ◌∙◌, ◌∷◌, ◌≡◌, ◌≢◌, ◌≤◌}
+use Rattle.kt_dbfile.proofs.Common.{AllByRecursion, AreOrdered, Bool, Current, Database, Err, FileStore, HasCleanDisk, HasCommitted, Held, HoldsAt, HoldsDatabase, HoldsIn, HoldsRuns, IfOk, Image, Int, IsClean, IsRun, IsAttached, IsAttachedFiles, IsTrue, Keeps, List, Lists, OnlyReadsStore, Ok, OpensOver, OpensRuns, Option, PageMap, Recovers, Result, Row, Run, Schema, Shape, Some, StandsFor, StoreFault, Table, Tables, Trees, Trees-set, Value, View, [], ap, ap₂, arith, catalog_tree, clean_if_open, cond, entries_table, false, file_state, get_or, in_use, index_reals, inr, joined, layout_at, layout_of, length, lists_once, map, map-map, meets, meta_1, none-some, number_in, over_files, plain, plain_adopts, pos, props_1, recovers_once, refl, rowid, rows_at, same_Some, schema_2, shut_if_dirty_at, state, subst, sym, table_reals, true, unrooted, version_in, view, with_version, ℕ, ∥∥₁_elim, ◌%◌, ◌-◌, ◌<◌, ◌∙◌, ◌∷◌, ◌≡◌, ◌≢◌, ◌≤◌}
 use Rattle.std.specs.Result.{result_ok}
 use Rattle.sqlite_trees.specs.declared.store.Shape.TheVariants as kind
 use Rattle.sqlite_store.specs.declared.catalog.Wanted.{Wanted}
@@ -25,15 +25,6 @@ use Rattle.kt_dbfile.proofs.Common.{adopts_of, same_image}
 pub ok_is : {T E : Type 0} (r : Result T E) (o : Option T) (x : T) → o ≡ result_ok r → o ≡ Some x → r ≡ Ok x
 ok_is (Ok y) o x is some = ap Ok (same_Some y x (sym is ∙ some))
 ok_is (Err e) o x is some = absurd (none-some x (sym is ∙ some))
-
-pub if_some : {T E : Type 0} (P : T → Type 0) (r : Result T E) (o : Option T) → o ≡ result_ok r → ((x : T) → r ≡ Ok x → P x) → IfSome o P
-if_some P (Ok y) o is each = subst (λ p. IfSome p P) (sym is) (each y refl)
-if_some P (Err e) o is each = subst (λ p. IfSome p P) (sym is) tt
-
--- the result of a call whose value another call kept
-pub if_done : {T E F : Type 0} (P : T → Type 0) (made : Result T F) (returned : Result T E) → IfOk made (λ it. returned ≡ Ok it) → IfOk returned P → IfOk made P
-if_done P (Ok it) returned is has = subst (λ r. IfOk r P) is has
-if_done P (Err fault) returned is has = tt
 
 -- untouched files hold what they held
 abbrev seen : List ℕ → List ℕ → Bool → List Event → List ℕ

@@ -1,11 +1,11 @@
 -- A close leaves files that meet the conditions of an open.
-use Rattle.kt_dbfile.proofs.Common.{AreClean, Closed, FailsToEnd, FileStore, HasTrees, HoldsDatabase, HoldsRuns, Image, IsClean, IsOfRuns, IsTrue, Keeps, IsSchema2OfOne, List, Recovers, Run, StaysNumbered, Trees, [], adopts_of, ap, arith, clean_if_open, clean_is, file_alone, file_trees, inl, inr, kept_schema, may_leave_is, no_doubt, outcomes, refl, schema_2, settled, shut_if_dirty_at, size_is_allowed, subst, sym, ◌∙◌, ◌∷◌, ◌≡◌, ∥∥₁_elim, ∥∥₁_map}
+use Rattle.kt_dbfile.proofs.Common.{Closed, FileStore, HasTrees, HoldsDatabase, HoldsRuns, Image, IsOfRuns, IsTrue, Keeps, IsSchema2OfOne, List, Recovers, Run, StaysNumbered, Trees, [], adopts_of, ap, clean_if_open, file_alone, file_trees, inl, inr, kept_schema, refl, schema_2, settled, shut_if_dirty_at, size_is_allowed, subst, ◌∙◌, ◌∷◌, ◌≡◌, ∥∥₁_elim, ∥∥₁_map}
 use Rattle.kt_base.specs.Chains.{Chain}
 use Rattle.kt_store.specs.StoreCalls.{StoreCall}
 use Rattle.sqlite_disk.specs.declared.Disk.{Ghosts}
 use Rattle.sqlite_wal.proofs.LogLemmas.{SeenMayStay}
 use Rattle.sqlite_wal.proofs.StateLemmas.{clean_of}
-use Rattle.sqlite_store.specs.FileStore.{state, view, log_frames, recovers, schema_in, files}
+use Rattle.sqlite_store.specs.FileStore.{state, view, log_frames, recovers, schema_in}
 use Rattle.sqlite_store.specs.Listing.{IsOurs}
 use Rattle.kt_dbfile.proofs.EditLemmas.{sound_in}
 

@@ -1,6 +1,6 @@
 -- The columns that are read from the rows that a cursor finds, and the calls of a store that is
 -- only read.
-use Rattle.kt_dbfile.proofs.Common.{Agrees, AreNumbered, AreWide, CaseOutputs, Entry, Err, Ghosts, HasRuns, HoldsCommit, IfErr, IfOk, IsStoreFault, IsTrue, Keeps, List, OnlyReadsStore, NoRun, None, Ok, SurvivesCrash, Outputs, Result, Row, Run, Serves, SelectsColumns, Some, StoreCall, StoreFault, Trees, Variable, [], all-map, ap, arith, by_trees, runs_after, column, drop, entry_at, entry_columns, entry_row, false, filter, has_rowid, head_columns, in_columns, length, length-map, map, map-map, map_same, outputs_of, pair_columns, pair_rows_from, pos, readings, refl, run_at, run_row, subst, sym, true, ℕ, ◌∙◌, ◌∷◌, ◌≡◌, ◌≤◌, ◌⊎◌}
+use Rattle.kt_dbfile.proofs.Common.{Agrees, AreNumbered, CaseOutputs, Entry, Err, Ghosts, HasRuns, HoldsCommit, IfErr, IfOk, IsStoreFault, IsTrue, Keeps, List, OnlyReadsStore, NoRun, None, Ok, SurvivesCrash, Outputs, Result, Row, Run, Serves, SelectsColumns, Some, StoreCall, StoreFault, Trees, Variable, [], ap, arith, by_trees, runs_after, drop, entry_at, entry_columns, entry_row, false, filter, has_rowid, in_columns, map, map-map, map_same, outputs_of, pair_columns, pair_rows_from, pos, readings, refl, run_at, run_row, subst, sym, true, ℕ, ◌∙◌, ◌∷◌, ◌≡◌, ◌⊎◌}
 use Rattle.sqlite_trees.specs.View.{View, Finds, IsClean, IsQuiet, KeepsSchema}
 use Rattle.kt_store.proofs.EntryLemmas.{back}
 use Rattle.kt_store.proofs.RunLemmas.{found_run, none_there, some_there}
@@ -51,10 +51,6 @@ pub still_has : {S : Type 0} (g : Ghosts S) (old new : S) → OnlyReadsStore g o
 still_has g old new looks runs has clean sound =
     let same = looks.same clean sound in
     subst (Keeps runs) (ap (λ (v : View). v.trees) (sym same)) (has (looks.clean clean) (ap (λ (v : View). v.is_broken) (sym same) ∙ sound))
-
--- each row has the requested number of columns
-pub all_wide : (columns : List ℕ) (rows : List Row) → AreWide (length columns) (map (in_columns columns) rows)
-all_wide columns rows = all-map (λ (l : Row). length columns ≤ length l) (in_columns columns) (λ r. omega (arith, length-map columns (column r))) rows
 
 -- ---- the calls of a store of runs that is only read
 

@@ -109,9 +109,6 @@ any_left p (e ∷ es) = go (e.position == p) (any_left p es)
     go true more = grind (arith, nat_tests)
     go false more = more
 
-pub counted_here : (p : ℕ) (es : List Entry) → 0 < length (filter (has p) es) → has_position p es ≡ true
-counted_here p es more = sym (any_left p es) ∙ grind (arith, nat_tests, more)
-
 pub counted_none : (p : ℕ) (es : List Entry) → length (filter (has p) es) ≡ 0 → has_position p es ≡ false
 counted_none p es none = sym (any_left p es) ∙ grind (arith, nat_tests, none)
 
