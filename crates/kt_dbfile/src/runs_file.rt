@@ -154,6 +154,7 @@ impl<D: Disk + Drop> RunsFile<FileStore<D>> {
     pub fn close(self) -> Result<(), StoreFault>
         ensures closed { OnOk result (Ends self) }
         ensures failed { IfErr result IsStoreFault }
+        // `last` is the store that `close_store` returned. It is dropped.
         ensures left { OnErr result ((last : _) × FailsToEnd self last) }
     {
         // Separate for the prover: over a disk, a call of `into_store` takes 30 seconds to prove.
