@@ -14,7 +14,7 @@ use std::{fs, io};
 /// The page size of a new file, in bytes (docs/DECISIONS.md).
 const PAGE_SIZE: usize = 1_024;
 
-/// The shortest log with a frame, in bytes. SQLite ignores a shorter one.
+/// The size below which a log can't have a frame, in bytes. SQLite ignores a shorter log.
 pub(crate) const SHORTEST_LOG: usize = 56;
 
 /// The owner's permissions to read and write a file.

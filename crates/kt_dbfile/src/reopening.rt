@@ -13,8 +13,8 @@ use sqlite_disk::Disk;
 
 /// Theorem: the next process finds the runs that this process left.
 ///
-/// The premises of `Closed` are clauses of [`RunsFile`](crate::RunsFile): of its open, its calls
-/// and its close. After a close, the files hold the runs of the last commit, with the log and
+/// The premises of `Closed` are clauses of [`RunsFile`](crate::RunsFile), of its open, its calls and
+/// its close, except `checked` and `honest`. After a close, the files hold the runs of the last commit, with the log and
 /// without it. The assumption on opened files (`IsOfRuns`) holds for these files. A store that
 /// finds the files has these runs, and a crash leaves the runs. After a close that failed, the next
 /// store has the runs that a crash may leave, if the trees are still numbered.

@@ -38,7 +38,7 @@ StaysNumbered old new = IsClean new → IsTrue new.is_open → IsTrue old.is_ope
 abbrev pub largest_checked_size : ℕ
 largest_checked_size = 16777216
 
--- the size of the shortest log with a frame, in bytes
+-- `shortest_log`: the size below which a log can't have a frame and is ignored, in bytes
 abbrev pub shortest_log : ℕ
 shortest_log = 56
 
@@ -106,7 +106,8 @@ module _ {D : Type 0} {g : disk.Ghosts D} where
 
   -- `Closed before last runs after`: a process opened the files `before`, made calls, and closed
   -- its store `last`, whose last commit has `runs`. The files may then be `after`, also after a
-  -- crash. All trees of `before` were checked, unless it didn't list the tables of results.
+  -- crash. The open checks all trees of `before`, or `before` doesn't list the tables of results.
+  -- The disk returned what was written.
   pub record Closed (before : Image) (last : FileStore D g) (runs : List Run) (after : Image) : Type 0 where
     pub first : FileStore D g
     pub opened : Finds before first
