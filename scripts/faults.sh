@@ -265,7 +265,7 @@ rule 'fails a check' lines '(^|[^a-z_])(sure|present)[(]' <<'PLACES'
 kt_store/src/store_fault.rt: pub fn sure(is_sound: bool) -> Result<(), StoreFailure>
 # The path, the value and the random number that an open needs, and the sizes of its files.
 kt_dbfile/src/runs_file.rt: sure(is_path(file.as_str()))?;
-kt_dbfile/src/runs_file.rt: sure(!is_mounted_alone(file))?;
+kt_dbfile/src/runs_file.rt: sure(!is_mounted_alone(rt, file))?;
 kt_dbfile/src/runs_file.rt: let files = open_files(rt, file, present(start)?)?;
 kt_dbfile/src/runs_file.rt: let options = present(options(rt, access.pages()))?;
 kt_dbfile/src/opening.rt: let size = present(files.db.len().ok())?;

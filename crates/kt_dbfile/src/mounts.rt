@@ -1,44 +1,44 @@
+use crate::new_file::directory_of;
 use kt_base::Text;
-use libc::types::{statx, statx_timestamp};
+use std::fs::{self, File};
+use std::io::Read;
+use std::os::fd::AsRawFd;
+use std::rt::Files;
+use std::str;
 
-/// The attribute of a file at which a mount is rooted (statx(2), STATX_ATTR_MOUNT_ROOT). Linux
-/// reports it since version 5.8.
-const MOUNT_ROOT: u64 = 0x2000;
+/// The length of the start of a file's `fdinfo` that is read, in bytes. The mount's number is in
+/// its third line.
+const INFO_BYTES: usize = 256;
 
-const NO_TIME: statx_timestamp = statx_timestamp {
-    tv_sec: 0,
-    tv_nsec: 0,
-    __reserved: 0,
-};
-
-/// Returns a record of zeros, which `os::statx` fills.
-fn no_status() -> statx {
-    statx {
-        stx_mask: 0,
-        stx_blksize: 0,
-        stx_attributes: 0,
-        stx_nlink: 0,
-        stx_uid: 0,
-        stx_gid: 0,
-        stx_mode: 0,
-        __spare0: [0; 1],
-        stx_ino: 0,
-        stx_size: 0,
-        stx_blocks: 0,
-        stx_attributes_mask: 0,
-        stx_atime: NO_TIME,
-        stx_btime: NO_TIME,
-        stx_ctime: NO_TIME,
-        stx_mtime: NO_TIME,
-        stx_rdev_major: 0,
-        stx_rdev_minor: 0,
-        stx_dev_major: 0,
-        stx_dev_minor: 0,
-        stx_mnt_id: 0,
-        stx_dio_mem_align: 0,
-        stx_dio_offset_align: 0,
-        __spare3: [0; 12],
+/// Returns the number of a mount in the text of a file's `fdinfo` (proc_pid_fdinfo(5)).
+fn mount_in(info: &str) -> Option<u64> {
+    for line in info.split('\n') {
+        if let Some(number) = line.strip_prefix("mnt_id:\t") {
+            return number.parse::<u64>().ok();
+        }
     }
+    None
+}
+
+/// Returns the number of the mount that contains an open file. Returns `None` if `/proc` doesn't
+/// have it.
+fn mount_of<R: Files<File = File> + AllocGlobal>(rt: &R, file: &File) -> Option<u64> {
+    let path = format!(in rt.alloc(); "/proc/self/fdinfo/{}", file.as_raw_fd()).ok()?;
+    let mut list = File::open(rt, path.as_str()).ok()?;
+    let mut info = [0u8; INFO_BYTES];
+    let count = list.read(&mut info).ok()?;
+    mount_in(str::from_utf8(&info[..count]).ok()?)
+}
+
+/// Returns `true` if a regular file is in another mount than its directory. Returns `None` if one
+/// of both can't be opened.
+fn is_apart<R: Files<File = File> + AllocGlobal>(rt: &R, path: &str) -> Option<bool> {
+    if !fs::symlink_metadata(rt, path).ok()?.is_file() {
+        return None;
+    }
+    let file = File::open(rt, path).ok()?;
+    let directory = File::open(rt, directory_of(path)).ok()?;
+    Some(mount_of(rt, &file)? != mount_of(rt, &directory)?)
 }
 
 /// Returns `true` if a path, or the target of a symbolic link, is mounted as a single file.
@@ -46,8 +46,9 @@ fn no_status() -> statx {
 /// Such a file has its log next to each path that names it, so a log that a killed command left
 /// next to one path is missed at another. The result is `false` if there is no file.
 // Tested, not proved: results_file_mounted_alone_exits_2.
-pub(crate) fn is_mounted_alone(file: &Text) -> bool {
-    let mut found = no_status();
-    let status = os::statx(libc::AT_FDCWD, file.as_str().as_bytes(), 0, &mut found);
-    status == 0 && found.stx_attributes & MOUNT_ROOT != 0
+pub(crate) fn is_mounted_alone<R: Files<File = File> + AllocGlobal>(rt: &R, file: &Text) -> bool {
+    match fs::canonicalize(rt, file.as_str()) {
+        Ok(path) => is_apart(rt, path.as_str()).unwrap_or(false),
+        Err(_fault) => false,
+    }
 }

@@ -213,7 +213,7 @@ fn remove_new_path<R: Files>(rt: &R, results: FileId, file: &Text, first: &First
 }
 
 /// Returns the directory of a file.
-fn directory_of(file: &str) -> &str {
+pub(crate) fn directory_of(file: &str) -> &str {
     match file.rsplit_once('/') {
         Some(("", _)) => "/",
         Some((directory, _)) => directory,

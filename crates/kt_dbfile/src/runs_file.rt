@@ -351,7 +351,7 @@ impl<S: TrustedContents> RunsFile<FileStore<FileFrom<S>>> {
         ensures due { IfErr result (λ e. IsStoreFault e ⊎ (e ≡ StoreFault.UnknownSchema)) }
     {
         sure(is_path(file.as_str()))?;
-        sure(!is_mounted_alone(file))?;
+        sure(!is_mounted_alone(rt, file))?;
         let files = open_files(rt, file, present(start)?)?;
         let options = present(options(rt, access.pages()))?;
         over_files(rt.alloc(), files, options)
