@@ -1,8 +1,10 @@
 pub mod Common
 pub mod Days
 pub mod InTurn
+pub mod JunitSteps
 pub mod LineSteps
 pub mod Outlines
+pub mod OwnDetails
 pub mod Outputs
 pub mod Runs
 pub mod TitledLines

@@ -1,5 +1,6 @@
 pub mod Common
 pub mod Cases
+pub mod Details
 pub mod Digits
 pub mod Escapes
 pub mod Junits

@@ -1,11 +1,12 @@
 ghost use Rattle.std.specs.Prelude.{◌≡◌, ◌++◌, false, is_err, flat_map, codes};
-ghost use Rattle.kt_report.specs.Common.{utf8, Shows, with_outputs, result_element, output_element, element, case_bytes, heading, ending, junit_bytes};
+ghost use Rattle.kt_report.specs.Common.{utf8, Shows, with_outputs, result_element, output_element, element, case_bytes, heading, ending, junit_bytes, WritesCase, WritesJunit};
 
-use crate::ReportFault;
 use crate::case_texts::CaseTexts;
+use crate::details::OwnDetails;
 use crate::escaping::case_texts;
 use crate::moments::write_seconds;
 use crate::summary::count_digits;
+use crate::{Details, ReportFault, ReportStop};
 use kt_base::{Decimal, Entry, Kind, Output, OutputFault, Run, Text, emit, emit_all};
 use std::alloc::Global;
 use std::io::Write;
@@ -116,17 +117,6 @@ pub fn junit_case<W: Write>(
     Ok(())
 }
 
-/// Writes the cases of these entries in the JUnit report.
-fn write_cases<W: Write>(alloc: Global, entries: &[Entry], out: &mut W) -> Result<(), ReportFault>
-    ensures { Shows (W.contents out.old) (W.contents out.new) (is_err result)
-        (flat_map case_bytes entries.now) }
-{
-    for entry in entries {
-        junit_case(alloc, entry, &entry.body, &entry.cleanup, out)?;
-    }
-    Ok(())
-}
-
 /// Writes the end of the JUnit report, after the cases of its run (this profile). The function
 /// doesn't allocate.
 ///
@@ -137,6 +127,48 @@ pub fn junit_end<W: Write>(out: &mut W) -> Result<(), OutputFault>
     ensures { Shows (W.contents out.old) (W.contents out.new) (is_err result) ending }
 {
     emit(b"</testsuite>\n", out)
+}
+
+/// Writes a case of the JUnit report, with the outputs that are read for it.
+fn write_case<D: Details, W: Write>(
+    alloc: Global,
+    entry: &Entry,
+    details: &mut D,
+    out: &mut W,
+) -> Result<(), ReportStop<D::Fault>>
+    ensures { WritesCase D.fills details.old details.new (W.contents out.old) (W.contents out.new) entry.now result }
+{
+    let written = match details.outputs(entry) {
+        Ok(Some(read)) => junit_case(alloc, entry, &read.body, &read.cleanup, out),
+        Ok(None) => junit_case(alloc, entry, &entry.body, &entry.cleanup, out),
+        Err(fault) => return Err(ReportStop::Details(fault)),
+    };
+    match written {
+        Ok(()) => Ok(()),
+        Err(fault) => Err(ReportStop::Report(fault)),
+    }
+}
+
+/// Writes the JUnit report of a run, with the outputs that are read for each entry.
+///
+/// # Errors
+///
+/// - `Details`: a read fails. The cases before it were written.
+/// - `Report`: an allocation or a write fails. A proper prefix of the report was written.
+pub fn junit_over<D: Details, W: Write>(
+    alloc: Global,
+    run: &Run,
+    details: &mut D,
+    out: &mut W,
+) -> Result<(), ReportStop<D::Fault>>
+    ensures { WritesJunit D.fills details.old (W.contents out.old) (W.contents out.new) details.new run.now result }
+{
+    junit_heading(run, out)?;
+    for entry in run.entries.as_slice() {
+        write_case(alloc, entry, details, out)?;
+    }
+    junit_end(out)?;
+    Ok(())
 }
 
 /// Writes the JUnit report of a run: a test suite with a case for each recorded entry, by position
@@ -152,8 +184,9 @@ pub fn junit<W: Write>(alloc: Global, run: &Run, out: &mut W) -> Result<(), Repo
     ensures { Shows (W.contents out.old) (W.contents out.new) (is_err result)
         (junit_bytes run.now) }
 {
-    junit_heading(run, out)?;
-    write_cases(alloc, run.entries.as_slice(), out)?;
-    junit_end(out)?;
-    Ok(())
+    match junit_over(alloc, run, &mut OwnDetails, out) {
+        Ok(()) => Ok(()),
+        Err(ReportStop::Details(fault)) => Err(fault),
+        Err(ReportStop::Report(fault)) => Err(fault),
+    }
 }

@@ -2,21 +2,25 @@
 #![tactic(auto)]
 
 mod case_texts;
+mod details;
 mod entry_line;
 mod escaping;
 mod junit_report;
 mod moments;
 mod pairs;
 mod report_fault;
+mod report_stop;
 mod sections;
 mod summary;
 mod text_report;
 
+pub use details::{Details, ShownOutputs};
 pub use entry_line::line;
 pub use junit_report::{junit, junit_case, junit_end, junit_heading};
 pub use moments::date_of;
 pub use pairs::text_entry;
 pub use report_fault::ReportFault;
+pub use report_stop::ReportStop;
 pub use sections::{is_chosen, same_kind, text_order, text_title};
 pub use summary::text_summary;
 pub use text_report::{text, theorem_of_outlines};

@@ -1,0 +1,23 @@
+ghost use Rattle.std.specs.Prelude.{◌≡◌};
+ghost use Rattle.kt_report.specs.declared.report_fault.ReportFault.TheVariants as fault;
+ghost use Rattle.kt_report.specs.declared.report_stop.ReportStop.TheVariants as stop;
+
+use crate::ReportFault;
+use kt_base::OutputFault;
+
+/// Errors returned by a report over details.
+#[derive(Clone, Copy)]
+pub enum ReportStop<F> {
+    /// The details of an entry could not be read.
+    Details(F),
+    /// A write or an allocation failed.
+    Report(ReportFault),
+}
+
+impl<F> From<OutputFault> for ReportStop<F> {
+    ghost from_gives = { λ refusal e. e ≡ stop.Report (fault.Output refusal) };
+
+    fn from(refusal: OutputFault) -> ReportStop<F> {
+        ReportStop::Report(ReportFault::Output(refusal))
+    }
+}
