@@ -515,6 +515,8 @@ kt_removal/src/removals.rt: if self.remove_file(rt, path.as_slice()).is_ok() {
 kt_removal/src/removals.rt: self.remove_if_empty(rt, path) || self.remove_file(rt, path.as_bytes()).is_ok()
 kt_removal/src/removals.rt: self.remove_directory(rt, path.as_slice());
 kt_removal/src/named.rt: let _ = self.remove_file(rt, path.as_slice());
+# Bytes in memory.
+kt_cli/src/output/backlog.rt: self.bytes.truncate(count - start);
 # The name of a stalled report's file, which was just created.
 kt_cli/src/output/spool.rt: let _ = os::unlink(path);
 # A directory that was just created, and can't be used.

@@ -17,19 +17,16 @@ use std::process::ExitCode;
 
 /// Executes the command in the arguments of the process, and returns the exit status.
 ///
-/// Bytes that the reader of standard output does not take yet are in `held`.
-fn execute<P: ResultsHost>(
-    rt: &HostRuntime,
-    held: &RefCell<HeldOutput<StandardOutput<'_, HostRuntime>>>,
-    host: &mut P,
-) -> ExitCode {
+/// Bytes that the reader of standard output does not take yet are held in memory.
+fn execute<P: ResultsHost>(rt: &HostRuntime, host: &mut P) -> ExitCode {
+    let held = RefCell::new(HeldOutput::new(rt.alloc(), StandardOutput::new(rt)));
     let outside = HostHandles {
         alloc: rt.alloc(),
         machine: OsFiles { rt },
-        os: HostOs::new(rt, SharedOutput::new(held)),
+        os: HostOs::new(rt, SharedOutput::new(&held)),
     };
     // `run_args` sets `by_line` for `test`.
-    let mut out = LineOutput::new(SharedOutput::new(held), false);
+    let mut out = LineOutput::new(SharedOutput::new(&held), false);
     let (status, _outside) = run_args(outside, host, env::args(rt), &mut out, &mut rt.stderr());
     ExitCode::from(status)
 }
@@ -38,13 +35,11 @@ fn execute<P: ResultsHost>(
 ///
 /// Only contracts use `start`: it represents the initial contents of the results file.
 fn run<S: InitialContents>(rt: &HostRuntime, start: S) -> ExitCode {
-    let held = RefCell::new(HeldOutput::new(rt.alloc(), StandardOutput::new(rt)));
     let mut host = KyuaHost {
         rt,
         start: Some(start),
-        output: SharedOutput::new(&held),
     };
-    execute(rt, &held, &mut host)
+    execute(rt, &mut host)
 }
 
 /// The size of the block that is freed, in bytes. glibc's threshold is at most twice this size.

@@ -62,8 +62,23 @@ impl Backlog {
         ensures ok { OnOk result (self.new ≡ self.old ++ more.now) }
         ensures err { OnErr result (self.new ≡ self.old) }
     {
+        self.remove_written();
         self.bytes.extend_from_slice(more)?;
         Ok(())
+    }
+
+    /// Frees the memory of the written bytes if they are at least as many as the remaining ones.
+    fn remove_written(&mut self)
+        ensures { self.new ≡ self.old }
+    {
+        let count = self.bytes.len();
+        let start = self.start;
+        if start < count - start {
+            return;
+        }
+        self.bytes.copy_within(start..count, 0);
+        self.bytes.truncate(count - start);
+        self.start = 0;
     }
 
     /// Removes all bytes.

@@ -8,13 +8,13 @@ use std::io::{ErrorKind, Write};
 /// The maximum number of offers in one step.
 const OFFERS: usize = 16;
 
-/// The maximum number of bytes that are held in memory after `limit_memory`: 1 MiB.
+/// The maximum number of bytes that are held in memory before the first `step`: 1 MiB.
 const MOST_HELD: usize = 1_048_576;
 
-/// A writer that, from the first `step` on, does not wait for its reader.
+/// A writer that does not wait for its reader.
 ///
 /// Bytes that the reader does not take yet are held in memory, in order. Each later write and step
-/// offers them again. After `limit_memory`, bytes beyond 1 MiB are put aside by the inner writer. A
+/// offers them again. More than 1 MiB is put aside by the inner writer, unless `step` was called. A
 /// flush writes all of them, and waits for the reader. So does a write whose bytes can't be held
 /// because the allocation fails. After a failed write every call fails, and nothing more is
 /// written.
@@ -22,8 +22,6 @@ const MOST_HELD: usize = 1_048_576;
 pub struct HeldOutput<W> {
     out: W,
     held: Backlog,
-    /// Whether `step` was called.
-    patient: bool,
     /// The maximum number of held bytes in memory.
     most: usize,
     /// Whether a write has failed.
@@ -48,8 +46,7 @@ impl<W: Outlet> HeldOutput<W> {
         HeldOutput {
             out,
             held: Backlog::new(alloc),
-            patient: false,
-            most: usize::MAX,
+            most: MOST_HELD,
             failed: false,
         }
     }
@@ -85,22 +82,13 @@ impl<W: Outlet> HeldOutput<W> {
 
     /// Writes the held bytes that the reader takes now, without waiting.
     ///
-    /// After the first step, writes hold the bytes that the reader does not take yet.
+    /// After the first step, all held bytes stay in memory.
     pub fn step(&mut self)
         ensures bytes { Keeps (given_to W.contents self.old) (given_to W.contents self.new) }
         ensures few { length (held_back self.new) ≤ length (held_back self.old) }
     {
-        self.patient = true;
+        self.most = usize::MAX;
         self.offer_all();
-    }
-
-    /// Limits the memory of held bytes to 1 MiB, and makes a step.
-    pub fn limit_memory(&mut self)
-        ensures bytes { Keeps (given_to W.contents self.old) (given_to W.contents self.new) }
-        ensures few { length (held_back self.new) ≤ length (held_back self.old) }
-    {
-        self.step();
-        self.most = MOST_HELD;
     }
 
     /// Puts all held bytes aside if they are more than the limit.
@@ -205,11 +193,7 @@ impl<W: Outlet> Write for HeldOutput<W> {
         if !self.held.is_empty() {
             return self.hold(buf);
         }
-        if self.patient {
-            self.offer_or_hold(buf)
-        } else {
-            self.write_through(buf)
-        }
+        self.offer_or_hold(buf)
     }
 
     // After a successful flush, no bytes are held.

@@ -19,15 +19,6 @@ impl<'a, W> SharedOutput<'a, W> {
     }
 }
 
-impl<W: Outlet> SharedOutput<'_, W> {
-    /// Limits the memory of held bytes. From this call on, no write waits for the reader.
-    pub fn limit_memory(&self) {
-        if let Ok(mut held) = self.held.try_borrow_mut() {
-            held.limit_memory();
-        }
-    }
-}
-
 /// Creates the error of a call while another call is in progress, which does not happen.
 fn in_use() -> io::Error {
     io::Error::from(ErrorKind::Other)

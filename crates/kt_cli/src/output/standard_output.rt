@@ -19,11 +19,12 @@ const PATH: &str = "/proc/self/fd/1";
 #[derive(Drop)]
 pub struct StandardOutput<'a, R> {
     rt: &'a R,
-    /// The terminal, if standard output is one, opened a second time.
+    /// The terminal or pipe, if standard output is one, opened a second time.
     ///
     /// Writes to this descriptor don't wait, while writes to the inherited descriptor do. Polling
-    /// does not help here, because a terminal may be ready for one byte only.
-    terminal: Option<File>,
+    /// does not help with a terminal, which may be ready for one byte only. A pipe that can't be
+    /// opened is polled.
+    again: Option<File>,
     /// Whether standard output is a file or a device, whose writes wait for no reader.
     is_file: bool,
     /// The bytes that were put aside, if any were.
@@ -51,27 +52,48 @@ fn is_file<R: Files>(rt: &R) -> bool {
     }
 }
 
-/// Opens the terminal of standard output a second time, in non-blocking mode, if there is one.
-fn open_terminal<R: Files<File = File>>(rt: &R) -> Option<File> {
-    if libc::isatty(libc::STDOUT_FILENO) != 1 {
-        return None;
-    }
+/// Returns `true` if standard output is a pipe.
+fn is_pipe<R: Files>(rt: &R) -> bool {
+    fs::metadata(rt, PATH).is_ok_and(|found| found.file_type().is_fifo())
+}
+
+/// Opens standard output a second time, to write to it, in non-blocking mode.
+fn open_again<R: Files<File = File>>(rt: &R) -> Option<File> {
     let opened = OpenOptions::new().write(true).open(rt, PATH);
-    let terminal = opened.ok()?;
-    if os::set_nonblocking(terminal.as_raw_fd(), true) == 0 {
-        Some(terminal)
+    let again = opened.ok()?;
+    if os::set_nonblocking(again.as_raw_fd(), true) == 0 {
+        Some(again)
     } else {
         None
     }
 }
 
+/// Opens the pipe of standard output a second time, if there is one.
+fn open_pipe<R: Files<File = File>>(rt: &R) -> Option<File> {
+    if !is_pipe(rt) {
+        return None;
+    }
+    // Opening a pipe without a reader would wait for one, so this is a reader meanwhile.
+    let reader = OpenOptions::new().read(true).open(rt, PATH);
+    let _reader = reader.ok()?;
+    open_again(rt)
+}
+
+/// Opens the terminal of standard output a second time, if there is one.
+fn open_terminal<R: Files<File = File>>(rt: &R) -> Option<File> {
+    if libc::isatty(libc::STDOUT_FILENO) != 1 {
+        return None;
+    }
+    open_again(rt)
+}
+
 impl<'a, R: Files<File = File>> StandardOutput<'a, R> {
-    /// Creates a handle of standard output. If it is a terminal, this opens the terminal a second
+    /// Creates a handle of standard output. If it is a terminal or a pipe, this opens it a second
     /// time.
     pub fn new(rt: &'a R) -> StandardOutput<'a, R> {
         StandardOutput {
             rt,
-            terminal: open_terminal(rt),
+            again: open_terminal(rt).or_else(|| open_pipe(rt)),
             is_file: is_file(rt),
             spool: None,
         }
@@ -104,8 +126,8 @@ impl<R: Env + Print> Outlet for StandardOutput<'_, R> {
         if self.spool.is_some() {
             return Ok(0);
         }
-        if let Some(terminal) = &mut self.terminal {
-            return match terminal.write(buf) {
+        if let Some(again) = &mut self.again {
+            return match again.write(buf) {
                 Err(fault) if fault.kind() == ErrorKind::WouldBlock => Ok(0),
                 answer => answer,
             };
