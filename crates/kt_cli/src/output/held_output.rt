@@ -16,8 +16,8 @@ const MOST_HELD: usize = 1_048_576;
 /// Bytes that the reader does not take yet are held in memory, in order. Each later write and step
 /// offers them again. More than 1 MiB is put aside by the inner writer, unless `step` was called. A
 /// flush writes all of them, and waits for the reader. So does a write whose bytes can't be held
-/// because the allocation fails. After a failed write every call fails, and nothing more is
-/// written.
+/// because the allocation fails. After a failed write each later write and flush fails, and nothing
+/// more is written.
 #[derive(Drop)]
 pub struct HeldOutput<W> {
     out: W,

@@ -57,7 +57,8 @@ fn is_pipe<R: Files>(rt: &R) -> bool {
     fs::metadata(rt, PATH).is_ok_and(|found| found.file_type().is_fifo())
 }
 
-/// Opens standard output a second time, to write to it, in non-blocking mode.
+/// Opens standard output a second time, to write to it, in non-blocking mode. Returns `None` if a
+/// call fails.
 fn open_again<R: Files<File = File>>(rt: &R) -> Option<File> {
     let opened = OpenOptions::new().write(true).open(rt, PATH);
     let again = opened.ok()?;
