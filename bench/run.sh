@@ -28,6 +28,8 @@ if [ -z "${TMPDIR-}" ] && memory=$(mktemp -d /dev/shm/kyua.XXXXXX 2> /dev/null);
 fi
 export TMPDIR=$scratch HOME=$scratch LC_ALL=C
 # A runner copies each variable of its environment for each child. So each runner gets an environment as small as cron's.
+# The value of `name` is the name of a variable.
+# shellcheck disable=SC2163
 for name in $(compgen -e); do
   case $name in
     HOME | LC_ALL | LOGNAME | PATH | SHELL | TMPDIR) ;;

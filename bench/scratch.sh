@@ -1,5 +1,6 @@
 # Functions for the scripts of bench/, which source this file first. $here is the checkout, and $scratch an empty temporary directory, which
 # is removed at the end. With an argument, a script only prints its first comment.
+# shellcheck shell=bash disable=SC2034
 here=$(cd "$(dirname "$0")" && pwd)
 here=${here%/bench*}
 top=$here

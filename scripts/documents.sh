@@ -153,7 +153,8 @@ look() {
 wrong() {
   mkdir -p "$room/docs"
   { echo; cat; } > "$room/text"
-  echo "$1	docs/$2:$(($(cat "$room/docs/$2" 2> /dev/null | wc -l) + 2)): " >> "$room/due"
+  : >> "$room/docs/$2"
+  echo "$1	docs/$2:$(($(wc -l < "$room/docs/$2") + 2)): " >> "$room/due"
   cat "$room/text" >> "$room/docs/$2"
 }
 

@@ -95,7 +95,7 @@ is_due() {
     { if [ -s told ]; then complain 'unexpected output'; else complain 'not within its limit'; fi; return 1; }
   took=${took//./}
   spent=$((10#${took% *} + 10#${took#* }))
-  read -r count chosen < count
+  read -r count chosen < ./count
 }
 
 # Continues copies of an example, in each of which one of its allocations fails, and records their outputs.
@@ -105,7 +105,7 @@ without_memory() {
   [ ! -e each ] || tried=all
   if [ "$tried" = all ] && [ "$count" -gt 4000 ]; then
     LD_PRELOAD=$room/refuse.so COUNTED=$PWD/count BY_PLACE=1 "$program" "$1" > /dev/null 2> told
-    read -r count chosen < count
+    read -r count chosen < ./count
     [ "$places" = all ] || seconds=5
     # A copy runs half of the example on average.
     export PLACES=$PWD/count EVERY=$((chosen * (spent + 2) / 2000 / seconds + 1))
@@ -134,7 +134,7 @@ export -f check is_due without_memory complain
 # totals, another case, two errors, a case that is not recorded.
 #   wrong EXPECTED FOUND [LINE]: the output of an example of one case, to which this line is added
 wrong() {
-  local here=$room/judge/commands.rows.$(($(ls "$room/judge" | wc -l) + 1)) text
+  local here=$room/judge/commands.rows.$((judged += 1)) text
   mkdir -p "$here"
   printf '%s\n' "holds Kyuafile plain_test_program{name='a'}" "${3-# nothing more}" 'do test' "-> ${1//\\n/$'\n-> '}" > "$here/commands.rows"
   text=$(printf '%s\n' 'commands.rows:1: another answer' "  wanted: \"$1\"" "  got:    \"$2\"")
@@ -142,6 +142,7 @@ wrong() {
 }
 try_judge() {
   mkdir "$room/judge"
+  judged=0
   local due='a:main  ->  passed  [0.012s]\n\n1/1 passed (0 failed)\nexit 0'
   local memory='broken: Test case could not be started for want of memory'
   wrong "$due" 'a:main  ->  failed: memory  [0.012s]\n\n0/1 passed (1 failed)\nexit 1'
@@ -154,8 +155,8 @@ try_judge() {
   wrong "$due" 'kyua: E: out of memory\nkyua: E: out of memory\nexit 2'
   wrong "$due" 'a:main  ->  passed  [0.012s]\n\n1/1 passed (0 failed)\nkyua: E: out of memory\nexit 0'
   wrong 'stopped in attach 0 begin put 1 finish, then not' "stopped in attach 0 begin, and then the page is no beginning\nwhole\na:main  ->  $memory  [0.000s]\n\n0/1 passed (1 failed)\nrun 1 at 500, 1 cases\n0 a:main $memory, started 0, took 0\nfinished\ncut\na:main  ->  passed  [0.012s]\nkyua: E: results store failed\nrun 1 at 500, 1 cases\nunfinished" 'disk log'
-  ls -d "$room"/judge/* | python3 "$top/scripts/memory_answers.py" | sed -n 's/^\(commands[^:]*\): .*/\1/p' | sort -u > "$room/found"
-  ls "$room/judge" | sort | comm -23 - "$room/found" | sed 's/.*/judge.&: memory_answers.py accepts a wrong output/'
+  printf '%s\n' "$room"/judge/* | python3 "$top/scripts/memory_answers.py" | sed -n 's/^\(commands[^:]*\): .*/\1/p' | sort -u > "$room/found"
+  find "$room/judge" -mindepth 1 -maxdepth 1 -printf '%f\n' | sort | comm -23 - "$room/found" | sed 's/.*/judge.&: memory_answers.py accepts a wrong output/'
 }
 
 cc -O2 -shared -fPIC -o "$room/refuse.so" "$top/scripts/refuse_each.c" -ldl
@@ -168,7 +169,7 @@ find "$room/rows" -name answers -printf '%h\n' | LC_ALL=C sort | python3 "$top/s
 try_judge >> "$room/log"
 cat "$room/log"
 failed=$(sed -n 's/^\([a-z.]*\.[0-9]*\): .*/\1/p' "$room/log" | sort -u | wc -l)
-passed=$(($(find "$room/rows" -name row | wc -l) + $(ls "$room/judge" | wc -l) - failed))
+passed=$(($(find "$room/rows" -name row | wc -l) + judged - failed))
 find "$room/rows" -name answers -exec tail -qn 1 '{}' + > "$room/tried"
 find "$room/rows" -name count -exec head -qn 1 '{}' + |
   awk -v tried="$room/tried" '{ all += $1 } END {

@@ -1,6 +1,6 @@
 # Functions that the scripts share: the files that a build of the program kyua reads, the sources of a built program, and the help of a
 # script. A script sets $top, the checkout, and sources this file.
-# shellcheck shell=bash disable=SC2046
+# shellcheck shell=bash disable=SC2046,SC2154
 
 # explain ARGUMENT..: does nothing without arguments. Otherwise it prints the first comment of the script, and exits: with 0 if the
 # argument is -h or --help, else with 3.

@@ -1,3 +1,4 @@
+# shellcheck shell=sh
 # The part of the ATF interface (atf-test-program(1)) that the programs of this suite need, with the functions of lib.sh:
 #
 #   -l                               prints the cases, each with its properties

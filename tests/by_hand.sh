@@ -1,3 +1,4 @@
+# shellcheck shell=sh
 # Computes the verdict of a case from its status in the shell, by the tables of docs/formats/verdicts.md. run.sh sources this file and
 # compares this verdict with kyua's.
 

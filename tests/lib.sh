@@ -1,3 +1,4 @@
+# shellcheck shell=sh disable=SC2034,SC2120 # The programs of the suite use these variables and arguments.
 # Functions for the programs of this suite, which source this file first. KYUA names the runner that is tested; otherwise
 # scripts/program.sh finds it. A failed check ends the program, and prints the expected and the found text on standard error.
 set -eu
@@ -30,7 +31,6 @@ same() {
 
 # prints FORMAT: checks that the last run printed this text, a format of printf, and nothing on standard error.
 prints() {
-    # shellcheck disable=SC2059
     printf -- "$1" > wanted
     same wanted out
     [ ! -s err ] || { cat err >&2; fail 'something on standard error'; }
@@ -50,7 +50,6 @@ records() {
 
 # complains FORMAT: checks that the last run printed this text on standard error, and nothing on standard output.
 complains() {
-    # shellcheck disable=SC2059
     printf -- "$1" > wanted
     same wanted err
     [ ! -s out ] || { cat out >&2; fail 'something on standard output'; }
@@ -103,9 +102,7 @@ program() {
 
 # tap_program NAME STREAM: creates a program that prints this format, and then runs standard input, a script of sh.
 tap_program() {
-    # shellcheck disable=SC2059
     printf "$2" > "$1.stream"
-    # shellcheck disable=SC2016
     { echo 'cat "$0.stream"'; cat; } | program "$1"
 }
 
@@ -115,7 +112,6 @@ header='Content-Type: application/X-atf-tp; version="1"\n\n'
 # atf_program NAME LIST: creates an ATF program from standard input, a script of sh. In it name is the name of the case, result its result
 # file, and source its directory. The program lists the header and the output of the format LIST.
 atf_program() {
-    # shellcheck disable=SC2059
     printf "$header$2" > "$1.list"
     {
         cat <<'P'

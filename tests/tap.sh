@@ -1,3 +1,4 @@
+# shellcheck shell=sh
 # Functions for the TAP programs of this suite, with the functions of lib.sh. Each `holds` and each `beside` is a test, and `plan` ends the
 # program.
 . "$(dirname "$0")/lib.sh"

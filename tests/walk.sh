@@ -1,3 +1,4 @@
+# shellcheck shell=sh disable=SC2154 # lib.sh sets these variables.
 # Functions that run the commands which a document shows, and compare their output with the shown output. Sourced after lib.sh.
 
 # displays PAGE: prints the displays of a manual page without markup, each after a line `==`.

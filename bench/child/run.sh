@@ -34,7 +34,7 @@ beside_sleeper() {
 
 cd "$scratch"
 cp "$(type -P true)" case
-printf '#!/bin/sh\nexec sleep 5\n' > wait
+printf '#!/bin/sh\nexec sleep 5\n' > waits
 printf '#!/bin/sh\nexec sleep 30\n' > thirty
 printf '#!/bin/sh\nexec sleep 20\n' > twenty
 printf '#!/bin/sh\nhead -c 100000000 /dev/zero\n' > long
@@ -42,11 +42,11 @@ printf '#!/bin/sh\nhead -c 100000000 /dev/zero\n' > long
 path=$(printf 'd/%.0s' $(seq 1000))
 for _ in 1 2 3 4; do echo "mkdir -p $path && cd -P $path || exit 1"; done | sed '1i#!/bin/sh' > nested
 printf '#!/bin/sh\nseq 1000 | xargs mkdir\nfor d in $(seq 1000); do touch "$d"/1 "$d"/2 "$d"/3 "$d"/4 "$d"/5 "$d"/6 "$d"/7 "$d"/8 "$d"/9 "$d"/10; done\n' > wide
-chmod +x wait thirty twenty long nested wide
+chmod +x waits thirty twenty long nested wide
 { programs twenty 1; programs case 2000 | sed 1,2d; } > Sleeper
-programs wait 256 > Sleepers
+programs waits 256 > Sleepers
 programs case 10000 > Many
-for one in wait long nested wide; do programs "$one" 1 > "$one.kyuafile"; done
+for one in waits long nested wide; do programs "$one" 1 > "$one.kyuafile"; done
 
 for short in 0 300 1000; do
   limited "$short"
@@ -56,7 +56,7 @@ for width in 2 4 8 16; do
 done
 run '256 programs that sleep for 5 s at once' Sleepers 256
 run '10,000 short programs, 256 at once' Many 256
-run 'a wait of 5 s' wait.kyuafile 1
+run 'a wait of 5 s' waits.kyuafile 1
 run 'an output of 100 MB' long.kyuafile 1
 run '4,000 nested directories that a case leaves' nested.kyuafile 1
 run '1,000 directories and 10,000 files that a case leaves' wide.kyuafile 1
