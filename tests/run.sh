@@ -1,13 +1,15 @@
 #!/bin/sh
-# Runs the programs of endings/ and this suite with kyua. Then it runs each case without kyua, and compares the recorded result with the
+# Runs the programs of endings/ and this suite with kyua. Then it runs cases without kyua, and compares the recorded result with the
 # ending of the case, by the tables of by_hand.sh. So a runner that records passes without running the cases can't pass.
 #
-#   run.sh
+#   run.sh                  quick: without kyua it runs the cases of endings/ alone, kyua-tools runs with one pair of a shell and an awk,
+#                           and loops over calls, allocations and cases are shorter
+#   SUITE_STEP=1 run.sh     everything, as in the gate; one in SUITE_STEP allocations is made to fail
 #
 # Prints the lines of kyua, and which cases of the suite were skipped and why. Each failure is on standard error. The last line is
 # 'N passed, M failed', over the cases; skipped cases count as passed. Exits with 0 if M is 0, else with 1.
-# KYUA names the program; otherwise scripts/program.sh finds or builds it. WIDTH is how many cases run at once, 4 if it isn't set. One in
-# SUITE_STEP allocations, 8 if it isn't set, is made to fail.
+# KYUA names the program; otherwise scripts/program.sh finds or builds it. WIDTH is how many cases run at once: by default 4, or twice
+# the number of processors if the run is quick.
 set -eu
 suite=$(cd "$(dirname "$0")" && pwd)
 [ $# = 0 ] || { sed -n '2,/^set/s/^# //p' "$0"; exit; }
@@ -15,9 +17,14 @@ suite=$(cd "$(dirname "$0")" && pwd)
 KYUA=$(realpath -m "${KYUA:-$("$suite/../scripts/program.sh")}")
 export KYUA
 [ -x "$KYUA" ] || { echo "tests: there is no program $KYUA" >&2; echo '0 passed, 1 failed'; exit 1; }
+quick=
+if [ -z "${SUITE_STEP-}" ]; then
+    quick=yes
+    SUITE_BRIEF=yes SUITE_QUICK=yes
+    export SUITE_BRIEF SUITE_QUICK
+    WIDTH=${WIDTH:-$(($(nproc) * 2))}
+fi
 WIDTH=${WIDTH:-4}
-SUITE_STEP=${SUITE_STEP:-8}
-export SUITE_STEP
 # kyua syncs the results of each case, which takes most of the time. So all files are in memory if there is enough of it.
 top=
 if [ -z "${TMPDIR-}" ]; then top=$(mktemp -d /dev/shm/kyua.XXXXXX 2> /dev/null) || top=; fi
@@ -42,7 +49,6 @@ export SUITE_ROOM
 passed=0
 failed=0
 # Without core dumps, a signal always gives the same result. dash and bash have this limit, although POSIX doesn't name it.
-# shellcheck disable=SC3045
 ulimit -c 0
 
 # wrong TEXT..: counts a failure and prints it.
@@ -140,7 +146,8 @@ lists_by_hand() {
     done
 }
 
-# compare DIRECTORY STATUS: runs the programs of a directory with kyua, which must exit with STATUS, and each of its cases without kyua.
+# compare DIRECTORY STATUS: runs the programs of a directory with kyua, which must exit with STATUS, and each of its cases without kyua;
+# in the quick form not those of the suite.
 compare() {
     folder=$1
     mkdir -p "$room/work directories"
@@ -159,6 +166,12 @@ compare() {
         wrong "$folder: report exits with $?"
     sed -n 's/  \[[0-9]*\.[0-9]*s\]$//p' "$room/report" > "$room/recorded"
     [ "$(wc -l < "$room/recorded")" = "$(wc -l < "$room/cases")" ] || wrong "$folder: the number of entries is not the number of cases"
+    if [ "$2$quick" = 0yes ]; then
+        bad=$(grep -Ec '  ->  (failed|broken|expected_failure): ' "$room/recorded" || true)
+        failed=$((failed + bad))
+        passed=$((passed + $(wc -l < "$room/cases") - bad))
+        return
+    fi
     # Twice as many cases run at once as under kyua, since most of them wait.
     rm -rf "$room/taken" "$room"/compared.*
     mkdir "$room/taken"
@@ -243,5 +256,6 @@ for tool in busybox fish gawk junitparser lintian original-awk tidy zsh; do
     [ -n "$(command -v $tool)" ] || left_out="${left_out-}, $tool"
 done
 [ -z "${left_out-}" ] || echo "Some tests were skipped, since these tools are missing: ${left_out#, }"
+[ -z "$quick" ] || echo 'This was the quick form: SUITE_STEP=1 runs everything.'
 echo "$passed passed, $failed failed"
 [ $failed = 0 ]

@@ -1,3 +1,4 @@
+# shellcheck shell=sh disable=SC2154,SC2164 # lib.sh sets these variables, and set -e.
 # Functions for the programs that test the commands of kyua-tools. They source this file after lib.sh. The commands call the runner that
 # is tested. RECIPES_SHELL and RECIPES_AWK are a shell and an awk for all commands, those of the system if they aren't set.
 originals=$(realpath "$suite/../tools")
@@ -54,7 +55,6 @@ comes_to() {
 }
 # says FORMAT: checks that the last command printed this text, in which each timestamp is MOMENT and each number of seconds TIME.
 says() {
-    # shellcheck disable=SC2059
     printf -- "$1" > wanted
     sed -e 's/20[0-9]*-[0-9]*-[0-9T:.]*Z/MOMENT/g' -e 's/[0-9]*\.[0-9][0-9][0-9]/TIME/g' told > found
     same wanted found
@@ -106,9 +106,10 @@ plays_many() {
     tree "atf_test_program{name='lists'}"
     ! kyua -v parallelism=8 test > log || fail 'no case is bad'
 }
-# each_pair COMMAND [ARGUMENT]..: checks that this command succeeds with each pair of a shell and an awk.
+# each_pair COMMAND [ARGUMENT]..: checks that this command succeeds with each pair of a shell and an awk, or with those of the system if the
+# suite is run quickly.
 each_pair() {
-    [ -z "${RECIPES_SHELL-}" ] || { "$@"; return; }
+    [ -z "${RECIPES_SHELL-}${SUITE_QUICK-}" ] || { "$@"; return; }
     pairs > "$here/pairs"
     while IFS=: read -r shell awk; do
         (with_shell "$shell" "$awk"; "$@") < /dev/null || fail "it failed with $shell and $awk"
