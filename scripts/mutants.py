@@ -3,6 +3,7 @@
 A function is named as `rt check` names it: CRATE::MODULE::TYPE::FUNCTION, and CRATE::MODULE::TYPETRAIT::FUNCTION in an implementation of a
 trait. A list names it without the modules: TYPE::FUNCTION.
 """
+import functools
 import glob
 import os
 import re
@@ -87,13 +88,26 @@ def head_names(head):
     trait, _, owner = text.rpartition(" for ")
     words = [it.split("::")[-1] for it in re.findall(r"(?<!['\w])[A-Z_a-z][\w:]*", re.sub(r"'\w+", "", trait))]
     owner = re.match(r"&?(?:'\w+ )?(?:mut )?([\w:]+)", owner)[1].split("::")[-1]
-    return owner, "".join(words), words[0] if words else None
+    return owner, "".join(it for it in words if len(it) > 1), words[0] if words else None
+
+
+@functools.lru_cache(maxsize=None)
+def homes(crate):
+    """Returns the modules of the types of a crate, by their names. A method belongs to the module of its type."""
+    found = {}
+    for file in sources(crate):
+        for name in re.findall(r"(?m)^(?:pub(?:\(\w+\))? )?(?:struct|enum) (\w+)", "\n".join(read(f"{TOP}/crates/{crate}/{file}"))):
+            found[name] = modules_of(file)
+    return found
+
+
+def modules_of(file):
+    return [it for it in file[: -len(".rt")].split("/")[1:] if it not in ("lib", "main", "mod")]
 
 
 def functions(crate, file):
     """Returns the functions of a source file of a crate: dictionaries with their path, name, type, trait, first and last line (from 0)."""
     lines = read(f"{TOP}/crates/{crate}/{file}")
-    modules = [it for it in file[: -len(".rt")].split("/")[1:] if it not in ("lib", "main", "mod")]
     found, owner, suffix, trait, is_declared = [], None, "", None, False
     for at, line in enumerate(lines):
         if re.match(r"(ghost )?impl\b", line):
@@ -113,6 +127,7 @@ def functions(crate, file):
             continue
         within = owner if head[1] else None
         # The check names a written `drop` like a method of its type.
+        modules = homes(crate).get(within, modules_of(file)) if within else modules_of(file)
         path = "::".join([crate, *modules, *([within + suffix * (trait != "Drop")] if within else []), head[4]])
         name = f"{within}::{head[4]}" if within else head[4]
         is_public = head[2] == "pub "
