@@ -1,9 +1,9 @@
 #!/usr/bin/env python3
-"""Prints each public function that has no mutant in the gate.
+"""Prints each public function that has no mutant with a clause.
 
 usage: mutants-public.py [CRATE..]
 
-The gate tries the mutants of crates/*/must-fail, and those of mutants-rejected.txt that have a clause. A mutant is of the functions that it
+These are the mutants of crates/*/must-fail, and those of mutants-rejected.txt that have a clause. A mutant is of the functions that it
 changes and of those that its line `covers:` names. A line `without:` of the list gives the reason for a function without a mutant. Prints
 also each line that names no public function, or a function that has a mutant of its own. The last line is 'N passed, M failed', over the
 functions and these lines. Exits with 0 if M is 0, with 3 on an unknown crate, else with 1.
