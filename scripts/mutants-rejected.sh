@@ -14,7 +14,7 @@
 # and the contracts of its callees. Without an option, a check starts from the results of an earlier check of the crate, if there are any.
 # Otherwise it checks only the functions with a mutant, and leaves the proofs of all others open. If that check reports nothing about a
 # mutant without a clause, the script tries the mutant alone. A mutant that is accepted then is tried again without earlier results.
-# Libraries that `rt ci` did not keep are built first, which takes a proof of each.
+# Libraries that `rt ci` did not keep or leave in the checkout are built first, which takes a proof of each.
 #
 # RT_JOBS is how many crates are tried at once, 1 if it isn't set; each takes a processor and up to 5 GB.
 # MUTANTS_LOG, if it is set, is the path of the output of the checks, before a dot, the crate and the number of its mutants.
@@ -60,7 +60,8 @@ os.chdir(f"{room}/tree")
 os.environ.pop(rt.rtlib.ALLOW_C, None)
 rt.rtlib.guarded()
 rt.Crate.allowed = rt.handles_of(os.getcwd())
-crates = rt.crates_of(os.getcwd())
+# Some kits move the results of earlier runs to a directory that the caller names.
+crates = rt.crates_of(*[os.getcwd(), f"{room}/aside"][: rt.crates_of.__code__.co_argcount])
 by_name = {it.name: it for it in crates}
 flags = ["--jobs", "1"]
 
@@ -145,24 +146,44 @@ def try_alone(crate, mutant, kept):
     return why.split(": ", 1)[1]
 
 
-kept_by_ci = rt.Kept(crates)
+# A kit with `Kept` keeps the results of `rt ci` by their checksums. Another kit leaves them in the checkout, in crates/*/out.
+is_keeping = hasattr(rt, "Kept")
+kept_by_ci = rt.Kept(crates) if is_keeping else None
 
 
 def take_libraries(used):
     """Gives these crates the libraries that `rt ci` proved, and returns `True` if it has all of them."""
     for crate in used:
-        if not kept_by_ci.give(crate, False, kept_by_ci.key(crate)):
+        if not is_keeping:
+            if not is_newer_than_sources(crate):
+                return False
+            copy_library(crate)
+        elif not kept_by_ci.give(crate, False, kept_by_ci.key(crate)):
             return False
-        kept_by_ci.is_built(crate)
+        else:
+            kept_by_ci.is_built(crate)
     return True
+
+
+def is_newer_than_sources(crate):
+    """Returns `True` if the checkout has a library of a crate that is newer than each source of the crate and of the crates below."""
+    library = f"{top}/crates/{crate.name}/out/rlib/{crate.name}.rlib"
+    folders = [f"{top}/crates/{it.name}/{part}" for it in [crate, *crate.below()] for part in rt.rtlib.PARTS]
+    files = [f"{at}/{name}" for folder in folders for at, _, names in os.walk(folder) for name in names]
+    return os.path.isdir(library) and all(os.path.getmtime(it) < os.path.getmtime(library) for it in files)
+
+
+def copy_library(crate):
+    """Copies the library of a crate from the checkout, if the checkout has it and the copy doesn't."""
+    here = f"{top}/crates/{crate.name}/out/rlib"
+    if os.path.isdir(here) and not os.path.exists(f"{crate.folder}/out/rlib"):
+        shutil.copytree(here, f"{crate.folder}/out/rlib", symlinks=True)
 
 
 def build(crate):
     """Takes or builds the library of a crate, and returns `True` if it is proved."""
-    here = f"{top}/crates/{crate.name}/out/rlib"
-    if os.path.isdir(here) and not os.path.exists(f"{crate.folder}/out/rlib"):
-        shutil.copytree(here, f"{crate.folder}/out/rlib", symlinks=True)
-    return crate.is_built() or rt.take_rlib(crate) or not crate.build_rlib(flags, anew=False)
+    copy_library(crate)
+    return crate.is_built() or is_keeping and rt.take_rlib(crate) or not crate.build_rlib(flags, anew=False)
 
 
 def results_of(crate):
@@ -170,11 +191,14 @@ def results_of(crate):
     to = f"{crate.folder}/out/incremental"
     here = copy.copy(crate)
     here.folder = f"{top}/crates/{crate.name}"
-    start = None if is_gate else rt.work_for(here)
-    if not start:
+    start = None if is_gate else rt.work_for(here) if is_keeping else f"{here.folder}/out/incremental"
+    if not start or not os.path.isdir(start):
         return None
     os.makedirs(os.path.dirname(to), exist_ok=True)
-    rt.linked(start, to)
+    if is_keeping:
+        rt.linked(start, to)
+    else:
+        shutil.copytree(start, to)
     return to
 
 
