@@ -6,7 +6,8 @@ use Rattle.kt_sched.proofs.Turns.{put_at_positions}
 use Rattle.kt_sched.proofs.Located.{Which, asked_as, each_set, located, which}
 use Rattle.std.proofs.lemmas.Option.{same_Some}
 
--- `first_state w cases order`: the state before the first response, with the width `w`.
+-- `first_state w cases order`: the state before the first response, with the width `w`, the cases
+-- `cases` and the turn order `order`.
 abbrev pub first_state : ℕ → List Case → List ℕ → SchedState
 first_state w cases order =
     record { cases = cases; order = order; turn = 0; active = 0; width = w; pending = None; ready = None; asked = next.Done; failed = false }
@@ -64,7 +65,7 @@ new_stands {plan} {w = n} h l q e f = rw (e, f, q) (record {
   asked = tt;
 })
 
--- The record of a case makes the case's entry.
+-- If a case has a record, `entry_with` of its job and this record is the entry of the case.
 record_entry : (i : ℕ) (job : Job) (was : Stage) (es : List Event) (t : CaseRecord) → IsStage i job was es → record_in job was ≡ Some t
     → IsEntry job es (entry_with job t)
 record_entry i job Decided es t s e = rw s.0 (by job.decided refl e)

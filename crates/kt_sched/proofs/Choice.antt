@@ -156,7 +156,8 @@ module _ {plan : List Job} {n : ℕ} {fed : Fed} {b : SchedState} (h : Stands pl
   not_done next.Done i c e d = absurd (cc (c.0, e))
   not_done q i c e d = absurd (cc)
 
-  -- The state represents the same plan once the chosen step is the step asked.
+  -- The state with the chosen step as the last requested step represents the same plan, width and
+  -- responses.
   pub stands_asked : (q : Next) → IsSettled b → IsChosen b q → Stands plan n fed (record b { asked = q })
   stands_asked q s c =
       record { cases = h.cases; turn = h.turn; puts = h.puts; has_record = λ i e d. absurd (not_done q i c e d); asked = asked_for q s c }

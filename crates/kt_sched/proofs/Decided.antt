@@ -12,7 +12,7 @@ ahead_is (y ∷ ys) zero job d g = let e : y ≡ job = cc in rw (e, same_number 
 ahead_is (y ∷ ys) (suc k) job d g =
     rw (ne_eqb y.position job.position (d 0 y (omega arith) refl)) (ap (λ zs. y ∷ zs) (ahead_is ys k job (λ j x l q. d (suc j) x (omega (arith, l)) q) g))
 
--- `room_in a n job`: with `a` active cases and the width `n`, there is a free slot for the job.
+-- `room_in a n job`: with `a` active cases and the width `n`, there is a free slot for `job`.
 abbrev pub room_in : ℕ → ℕ → Job → Bool
 room_in a n job = if job.exclusive then a == 0 else nat_lt a n
 
@@ -81,11 +81,11 @@ module _ {plan : List Job} (T : Trace) (p : ℕ) (h : IsPlan plan) (s : body_sta
       decided (inr q) d a =
           sym (begun_at job g) ∙ list_all_at (is_begun T) (take k (turns plan)) p job (get_take (turns plan) k p (omega (arith, l, q)) ∙ g) a
 
--- `GoesOver plan p q`: the turn moves from `p` to `q`, and passes only undecided cases.
+-- `GoesOver plan p q`: the turn of `plan` moves from `p` to `q`, and passes only undecided cases.
 abbrev pub GoesOver : List Job → ℕ → ℕ → Type 0
 GoesOver plan p q = (p ≤ q) × ((k : ℕ) (job : Job) → p ≤ k → k < q → slice_get (turns plan) k ≡ Some job → is_decided job ≡ false)
 
--- One more event, at a time when no decided case could be put.
+-- For one more event `e`, after events `T` that leave no decided case to be put.
 module _ {plan : List Job} {n : ℕ} {T : Trace} (e : Event) {p q : ℕ} (over : GoesOver plan p q) (gone : HaveBeenOpen plan n T p)
     (none : opened plan n T p ≡ []) where
   closed_before : (k : ℕ) (job : Job) → p ≤ k → slice_get (turns plan) k ≡ Some job → was_open plan n T job ≡ false

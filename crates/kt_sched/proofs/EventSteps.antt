@@ -11,8 +11,9 @@ use Rattle.kt_sched.proofs.Decided.{GoesOver, newly_open, gone_after}
 use Rattle.std.proofs.lemmas.Option.{same_Some}
 use Rattle.kt_base.proofs.Lists.{same_number}
 
--- `Turning plan T b i e t`: after the event `e` of case `i`, the turn `t` is past the body that it
--- started, if any, and past no other body.
+-- `Turning plan T b i e t`: after the events `T` of `plan` and the event `e` of case `i`, the turn
+-- moves from that of the state `b` to `t`. `t` is past the body that `e` started, if any, and past
+-- no other body.
 pub record Turning (plan : List Job) (T : Trace) (b : SchedState) (i : ℕ) (e : Event) (t : ℕ) : Type 0 where
   pub starts : body_starts (Then T e) ≡ positions (filter is_undecided (take t (turns plan)))
   pub over : GoesOver plan b.turn t
@@ -20,7 +21,7 @@ pub record Turning (plan : List Job) (T : Trace) (b : SchedState) (i : ℕ) (e :
   pub here : (k : ℕ) → slice_get b.order k ≡ Some i → k < t
   pub before : (k m : ℕ) → slice_get b.order k ≡ Some m → m ≢ i → k < t → k < b.turn
 
--- `OwedBy i o`: no case other than `i` owes its cleanup.
+-- `OwedBy i o`: `o` is `None` or `Some i`, so no case other than `i` owes its cleanup.
 abbrev pub OwedBy : ℕ → Option ℕ → Type 0
 OwedBy i o = (k : ℕ) → k ≢ i → is_owed o k ≡ false
 
@@ -31,8 +32,10 @@ pub record AskedFor (b : SchedState) (e : Event) : Type 0 where
   pub owing : OwedBy (position_of e) b.pending
   pub turned : body_start_of e ≡ position_of e ∷ [] → HasTurn b (position_of e)
 
--- `EventStep plan n fed b e cs job was now t a`: the event moves the stage of its case from `was`
--- to `now`, the turn to `t` and the number of active cases to `a`.
+-- `EventStep plan n fed b e cs job was now t a`: in the state `b` after the responses `fed` of the
+-- run of `plan` with the width `n`, the event `e` changes the cases to `cs`. It moves its case,
+-- whose job is `job`, from the stage `was` to `now`, the turn to `t`, and the number of active
+-- cases to `a`.
 pub record EventStep (plan : List Job) (n : ℕ) (fed : Fed) (b : SchedState) (e : Event) (cs : List Case) (job : Job) (was now : Stage) (t a : ℕ) : Type 0 where
   pub place : slice_get plan (position_of e) ≡ Some job
   pub moved : Replaced b.cases cs (position_of e) now was
@@ -41,11 +44,13 @@ pub record EventStep (plan : List Job) (n : ℕ) (fed : Fed) (b : SchedState) (e
   pub active : a + cond (is_active_stage was) 1 0 ≡ b.active + cond (is_active_stage now) 1 0
   pub asked : AskedFor b e
 
--- `after_event b cases turn active pending ready`: the state `b` after an event, with these parts.
+-- `after_event b cases turn active pending ready`: the state `b` after an event that changes its
+-- fields to `cases`, `turn`, `active`, `pending` and `ready`.
 abbrev pub after_event : SchedState → List Case → ℕ → ℕ → Option ℕ → Option ℕ → SchedState
 after_event b cases turn active pending ready = record b { cases = cases; turn = turn; active = active; pending = pending; ready = ready; asked = next.Done }
 
--- `After plan n fed b e later`: `later` represents one more event than `b`, and has less work left.
+-- `After plan n fed b e later`: in the run of `plan` with the width `n`, the state `later`
+-- represents the responses `fed` and the event `e`. It has less work left than the state `b`.
 pub record After (plan : List Job) (n : ℕ) (fed : Fed) (b : SchedState) (e : Event) (later : SchedState) : Type 0 where
   pub stands : Stands plan n (record fed { trace = Then fed.trace e }) later
   pub less : work later.cases < work b.cases

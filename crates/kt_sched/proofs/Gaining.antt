@@ -31,11 +31,12 @@ counts_more es e t h =
 abbrev due_of : ℕ → Job → Due
 due_of k job = record { position = job.position; after = k }
 
--- The puts that are scheduled after `k` events carry the number `k`.
+-- Each put that is scheduled after `k` events has `k` as its number of events.
 pub due_put : (k : ℕ) (jobs : List Job) (j : ℕ) (p : Due) → slice_get (puts_scheduled_at k jobs) j ≡ Some p → p.after ≡ k
 due_put k jobs j p g = ap (λ (q : Due). q.after) (sym (mapped_at (due_of k) jobs j p g).2)
 
--- `added plan n T e`: the puts that the event `e` schedules.
+-- `added plan n T e`: the puts that the event `e` after the events `T` schedules, in the run of
+-- `plan` with the width `n`.
 abbrev added : List Job → ℕ → Trace → Event → List Due
 added plan n T e = puts_scheduled_at (event_count (Then T e)) (finished_by plan T e) ++ puts_scheduled_at (event_count (Then T e)) (filter (opens_now plan n T e) (turns plan))
 
@@ -57,20 +58,24 @@ module _ (plan : List Job) (T : Trace) (e : Event) (h : NotWhole plan T (positio
   entries_stay (p ∷ ps) (y ∷ es) x = (entry_stays p y x.0 (cases_eq p (position_of e)), entries_stay ps es x.1)
   entries_stay ps es x = absurd x
 
--- `AreDue plan n fed`: each put that isn't stored was scheduled by the last event.
+-- `AreDue plan n fed`: in the run of `plan` with the width `n`, each put that isn't stored yet is
+-- scheduled after the last event of the responses `fed`.
 abbrev pub AreDue : List Job → ℕ → Fed → Type 0
 AreDue plan n fed = (j : ℕ) (p : Due) → fed.stored ≤ j → slice_get (dues plan n fed.trace) j ≡ Some p → p.after ≡ event_count fed.trace
 
--- `GainsUpTo puts plan n fed gained fault before after`: the puts of `gained`, and the failed put
--- if there is one, lead the sink from `before` to `after`.
+-- `GainsUpTo puts plan n fed gained fault before after`: in the run of `plan` with the width `n`,
+-- the puts among the responses `fed` lead the sink from `before` to `after`. They are the puts of
+-- the entries `gained` and the put that failed with `fault`, if any. `puts` is the relation of a
+-- put.
 abbrev pub GainsUpTo : {S : Type 0} → (S → Entry → Result (Unit {0}) SinkFault → S → Type 0) → List Job → ℕ → Fed → List Entry → Option SinkFault → S → S
     → Type 0
 GainsUpTo puts plan n fed gained None before after = (fed.stopped ≡ None) × Gains puts gained before after × AreDue plan n fed
 GainsUpTo puts plan n fed gained (Some fault) before after = (f : FailedPut puts plan n fed.trace gained fault before after) × (fed.stopped ≡ Some f.next.after)
 
--- `Gained s plan n fed totals fault before after`: the puts of `fed` led the sink from `before` to
--- `after`. `totals` counts the gained entries, and `fault` is the error of the last put, if it
--- failed.
+-- `Gained s plan n fed totals fault before after`: in the run of `plan` with the width `n`, the
+-- puts among the responses `fed` lead the sink from `before` to `after`. `totals` counts the gained
+-- entries, and `fault` is the error of the last put, if it failed. `s` are the relations of the
+-- sink.
 pub record Gained {S : Type 0} (s : sink.Ghosts S) (plan : List Job) (n : ℕ) (fed : Fed) (totals : Totals) (fault : Option SinkFault)
     (before after : S) : Type 0 where
   pub gained : List Entry
@@ -138,7 +143,7 @@ whole_short job (BodyStarted ∷ BodyEnded ∷ CleanupRefused ∷ []) e = omega 
 whole_short job (BodyStarted ∷ BodyEnded ∷ CleanupStarted ∷ CleanupEnded ∷ []) e = omega arith
 whole_short job other e = absurd (cc)
 
--- Each case has at most four launcher calls.
+-- Each case has at most four events, if each case with an event has a whole history.
 pub four_calls : (plan : List Job) (T : Trace) → IsPlan plan → AreWhole plan T → ((i : ℕ) → length plan ≤ i → of i T ≡ []) → (i : ℕ) → length (of i T) ≤ 4
 four_calls plan T p h b i = elim (cases_lt i (length plan)) [
   | inl l ↦

@@ -69,7 +69,7 @@ in_append (x ∷ xs) ys (suc k) a g = elim (in_append xs ys k a g) [ inl h ↦ i
 pub append_left : {X : Type 0} (xs ys : List X) (k : ℕ) (a : X) → slice_get xs k ≡ Some a → slice_get (xs ++ ys) k ≡ Some a
 append_left xs ys k a g = grind (arith, common_steps, gets)
 
--- A test that each element passes at its index is passed by all.
+-- If the element at each index passes a test, `list_all` of the test is true.
 
 pub list_all_from : {X : Type 0} (p : X → Bool) (xs : List X) → ((i : ℕ) (x : X) → slice_get xs i ≡ Some x → p x ≡ true) → list_all p xs ≡ true
 list_all_from p [] h = refl

@@ -8,7 +8,8 @@ use Rattle.std.proofs.lemmas.Grind.{common_steps}
 use Rattle.std.proofs.lemmas.Option.{gets, same_Some}
 use Rattle.kt_base.proofs.Lists.{same_number}
 
--- `AtTurn plan fed b i`: case `i` is at the turn, and is not begun.
+-- `AtTurn plan fed b i`: in the state `b` after the responses `fed`, case `i` of `plan` is at the
+-- turn, and is not begun.
 pub record AtTurn (plan : List Job) (fed : Fed) (b : SchedState) (i : ℕ) : Type 0 where
   pub job : Job
   pub turn : slice_get (turns plan) b.turn ≡ Some job
@@ -20,8 +21,8 @@ pub record AtTurn (plan : List Job) (fed : Fed) (b : SchedState) (i : ℕ) : Typ
   pub fresh : is_waiting_stage case.stage ≡ true
   pub kept : case.job ≡ job
 
--- `Located plan T i was had`: case `i` is in the plan, and its stage `was` represents its events in
--- the trace `T`. `had` is its job unless its entry was taken.
+-- `Located plan T i was had`: case `i` is in `plan`, and its stage `was` represents its events in
+-- the trace `T`. `had` is its job, unless its entry was taken.
 pub record Located (plan : List Job) (T : Trace) (i : ℕ) (was : Stage) (had : Job) : Type 0 where
   pub job : Job
   pub place : slice_get plan i ≡ Some job
@@ -87,7 +88,7 @@ module _ {plan : List Job} {n : ℕ} {fed : Fed} {b : SchedState} (h : Stands pl
       let w = h.cases.each k job g in
       subst (λ (j : ℕ). Says job w.case.stage (history j fed.trace)) (sym (h.cases.is_plan.placed k job g)) (says k job w.case.stage (of k fed.trace) w.stage)
 
-  -- The state has the number of the trace's active cases.
+  -- The state's number of active cases is that of the trace.
   pub active_is : active plan fed.trace ≡ b.active
   active_is = count_alike (is_active fed.trace) (λ (c : Case). is_active_stage c.stage) plan b.cases (sym h.cases.count) each ∙ sym h.cases.active
     where

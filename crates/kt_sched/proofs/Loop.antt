@@ -13,9 +13,10 @@ use Rattle.kt_sched.proofs.Once.{recorded_first, recorded_most}
 use Rattle.std.proofs.lemmas.Option.{same_Some}
 use Rattle.kt_base.proofs.Lists.{same_number}
 
--- `Loop l s plan n old before sched new after totals fault`: the invariant of the run loop. The
--- scheduler `sched`, the launcher (from `old` to `new`) and the sink (from `before` to `after`)
--- represent equal responses.
+-- `Loop l s plan n old before sched new after totals fault`: the invariant of the run loop of
+-- `plan` with the width `n`. The scheduler `sched`, the launcher `l` (from `old` to `new`) and the
+-- sink `s` (from `before` to `after`) represent the same responses. `totals` counts the entries
+-- that were put, and `fault` is the error of the failed put, if any.
 pub record Loop {L S : Type 0} (l : launcher.Ghosts L) (s : sink.Ghosts S) (plan : List Job) (n : ℕ) (old : L) (before : S) (sched : SchedState) (new : L)
     (after : S) (totals : Totals) (fault : Option SinkFault) : Type 0 where
   pub fed : Fed

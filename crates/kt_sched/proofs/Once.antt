@@ -5,15 +5,17 @@ use Rattle.kt_sched.proofs.Turns.{count_turns, history_other, put_at_positions, 
 use Rattle.std.proofs.lemmas.Option.{same_Some}
 use Rattle.kt_base.proofs.Lists.{same_number}
 
--- `is_done plan n T job`: the put of the job's entry is scheduled.
+-- `is_done plan n T job`: in the run of `plan` with the width `n`, the events `T` schedule the put
+-- of the entry of `job`.
 abbrev pub is_done : List Job → ℕ → Trace → Job → Bool
 is_done plan n T job = if is_decided job then was_open plan n T job else has_whole_history T job
 
--- `NotWhole plan T i`: the history of case `i` isn't whole.
+-- `NotWhole plan T i`: the history of case `i` of `plan` in the trace `T` isn't whole.
 abbrev pub NotWhole : List Job → Trace → ℕ → Type 0
 NotWhole plan T i = (job : Job) → slice_get plan i ≡ Some job → is_whole job (history i T) ≡ false
 
--- `Recorded plan n T`: the record order names each done case once.
+-- `Recorded plan n T`: the record order after the events `T`, in the run of `plan` with the width
+-- `n`, has each done case once and no other.
 abbrev pub Recorded : List Job → ℕ → Trace → Type 0
 Recorded plan n T = (q : ℕ → Bool) → count_by q (recorded plan n T) ≡ count_by (λ job. q job.position && is_done plan n T job) plan
 

@@ -4,12 +4,12 @@ use Rattle.kt_sched.specs.declared.job.StartAnswer.TheVariants as start
 use Rattle.kt_sched.specs.declared.launcher.Launcher as launcher
 use Rattle.kt_sched.proofs.Turns.{history_same, history_other}
 
--- `child_at plan k`: the child of the job at position `k` of the plan.
+-- `child_at plan k`: the child of the job at position `k` of `plan`, if there is such a job.
 abbrev pub child_at : List Job → ℕ → Option Child
 child_at plan k = option_map child_of (slice_get plan k)
 
--- `running_of plan T k r`: the child that runs at position `k` in the role `r` after the events
--- `T`.
+-- `running_of plan T k r`: the child of case `k` of `plan` in the role `r` that runs after the
+-- events `T`, or `None`.
 abbrev pub running_of : List Job → Trace → ℕ → Role → Option Child
 running_of plan T k r = if runs k r T then child_at plan k else None
 
@@ -27,8 +27,8 @@ while_runs Body (BodyStarted ∷ []) h = refl
 while_runs Cleanup (BodyStarted ∷ BodyEnded ∷ CleanupStarted ∷ []) h = refl
 while_runs role w h = absurd (cc)
 
--- `runs_by plan i r w`: the child of case `i` that runs in the role `r` after the history `w`, if
--- any.
+-- `runs_by plan i r w`: the child of case `i` of `plan` in the role `r` that runs after the history
+-- `w`, or `None`.
 abbrev runs_by : List Job → ℕ → Role → List EventKind → Option Child
 runs_by plan i r w = if role_runs r w then child_at plan i else None
 
@@ -42,7 +42,7 @@ runs_same plan T e r w d = ap (runs_by plan (position_of e) r) (history_same (po
 pub runs_now : (plan : List Job) (T : Trace) (i : ℕ) (r : Role) (w : List EventKind) → history i T ≡ w → running_of plan T i r ≡ runs_by plan i r w
 runs_now plan T i r w d = ap (runs_by plan i r) d
 
--- A launcher that shows as running what runs by the trace.
+-- For a launcher whose running children `running` are those that run after the trace `T`.
 module _ (plan : List Job) (T : Trace) (running : ℕ → Role → Option Child) (h : (j : ℕ) (s : Role) → running j s ≡ running_of plan T j s) where
   -- An event changes the running child of its case and role, and no other.
   changed : (e : Event) (role r : Role) (k : ℕ) (x : Option Child)
@@ -109,7 +109,7 @@ module _ (plan : List Job) (T : Trace) (running : ℕ → Role → Option Child)
 pub cleared : (i k : ℕ) → (if k == i then false else k == i) ≡ false
 cleared i k = grind (arith, nat_tests)
 
--- A child that a launcher shows as running runs after the trace.
+-- A child that `running_of` gives runs after the trace.
 pub runs_true : (plan : List Job) (T : Trace) (i : ℕ) (r : Role) (child : Child) → running_of plan T i r ≡ Some child
     → (runs i r T ≡ true) × ((job : Job) × (slice_get plan i ≡ Some job) × (child ≡ child_of job))
 runs_true plan T i r child g = by (runs i r T) (slice_get plan i) refl refl g
@@ -119,12 +119,14 @@ runs_true plan T i r child g = by (runs i r T) (slice_get plan i) refl refl g
     by true (Some job) e q h = (e, (job, q, cc))
     by b o e q h = absurd (cc)
 
--- `up_to stopped T`: the first `stopped` events of `T`, or all events if no put failed.
+-- `up_to stopped T`: the first `k` events of `T` if `stopped` is `Some k`, or all events if no put
+-- failed.
 abbrev pub up_to : Option ℕ → Trace → Trace
 up_to None T = T
 up_to (Some k) T = first k T
 
--- `Fair plan n T e`: the event `e` keeps the rules for each event.
+-- `Fair plan n T e`: the event `e` after the events `T` keeps the rules for each event, in the run
+-- of `plan` with the width `n`.
 pub record Fair (plan : List Job) (n : ℕ) (T : Trace) (e : Event) : Type 0 where
   pub fits : FitsAt plan T e
   pub width : KeepsWidth plan n T e
@@ -135,7 +137,9 @@ pub each_of : {P Q : Trace → Event → Type 0} (T : Trace) → ((U : Trace) (e
 each_of NoEvent f h = tt
 each_of (Then T e) f h = (each_of T f h.0, f T e h.1)
 
--- `Until plan n stopped T`: the rules that hold up to a failed put. No body starts after that put.
+-- `Until plan n stopped T`: the rules that the trace `T` of a run of `plan` with the width `n`
+-- keeps up to a failed put. `stopped` is the number of events before that put, if any. No body
+-- starts after it.
 pub record Until (plan : List Job) (n : ℕ) (stopped : Option ℕ) (T : Trace) : Type 0 where
   pub busy : Each (WaitsWhenBusy plan n) (up_to stopped T)
   pub begun : body_starts T ≡ body_starts (up_to stopped T)
@@ -165,15 +169,18 @@ module _ (plan : List Job) (n : ℕ) where
       record { busy = subst (Each (WaitsWhenBusy plan n)) (sym (first_all T)) u.busy; begun = ap body_starts (sym (first_all T)); passed = omega arith }
   until_now (Some k) T f u = absurd (cc)
 
--- `Going l plan n T old new`: the events `T` lead the launcher from `old` to `new`.
+-- `Going l plan n T old new`: the events `T` lead the launcher `l` from `old` to `new`. They keep
+-- the rules of the schedule of `plan` with the width `n`.
 pub record Going {L : Type 0} (l : launcher.Ghosts L) (plan : List Job) (n : ℕ) (T : Trace) (old new : L) : Type 0 where
   pub leads : Leads l.starts l.waits plan T old new
   pub runs : (k : ℕ) (r : Role) → l.running new k r ≡ running_of plan T k r
   pub owes : (k : ℕ) → l.pending new k ≡ is_owed (owed plan T) k
   pub rules : Each (Fair plan n) T
 
--- `Startable running pending plan n fed i role`: the start of case `i` in the role `role`, the next
--- step after `fed`, meets the launcher's conditions and the rules of the schedule.
+-- `Startable running pending plan n fed i role`: the next step after the responses `fed`, in the
+-- run of `plan` with the width `n`, may be the start of case `i` in the role `role`. It meets the
+-- rules of the schedule, and the launcher's conditions for the running children `running` and the
+-- pending cleanups `pending`.
 pub record Startable (running : ℕ → Role → Option Child) (pending : ℕ → Bool) (plan : List Job) (n : ℕ) (fed : Fed) (i : ℕ) (role : Role) : Type 0 where
   pub may : MayStart running pending i role
   pub now : MayStartNow plan fed.trace i role

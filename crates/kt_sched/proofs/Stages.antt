@@ -5,7 +5,8 @@ use Rattle.kt_sched.specs.declared.job.StartAnswer.TheVariants as start
 abbrev pub marks_active : Job → List EventKind → Bool
 marks_active job w = list_any is_body_started w && not (is_whole job w)
 
--- `Says job stage w`: stage and history `w` agree on whether the case is over, is active or runs.
+-- `Says job stage w`: the stage `stage` and the history `w` of the case of `job` agree on whether
+-- the case is over, is active or runs.
 pub record Says (job : Job) (stage : Stage) (w : List EventKind) : Type 0 where
   pub whole : is_whole job w ≡ is_over stage
   pub active : marks_active job w ≡ is_active_stage stage
@@ -92,7 +93,8 @@ pub owing_stage : (stage : Stage) → is_owing_stage stage ≡ true → (o : End
 owing_stage (Owing b) e = (b, refl)
 owing_stage stage e = absurd (cc)
 
--- `Moves was e now`: an event moves a case that wasn't over to a stage with less work left.
+-- `Moves was e now`: the event `e` moves a case that isn't over from the stage `was` to the stage
+-- `now`, which has less work left.
 pub record Moves (was : Stage) (e : Event) (now : Stage) : Type 0 where
   pub fresh : is_over was ≡ false
   pub works : stage_work now < stage_work was

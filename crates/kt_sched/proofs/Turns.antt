@@ -3,7 +3,7 @@ use Rattle.kt_sched.proofs.Common.{ne_eqb, nat_tests, ◌⊎◌, slice_get, coun
 use Rattle.kt_sched.proofs.Lists.{counted_one, counted_some, count_by-append, counted_only, counted_two, filter_in, in_append, pick, filter_only}
 use Rattle.kt_base.proofs.Lists.{same_number}
 
--- `Placed plan`: each job is at its position.
+-- `Placed plan`: each job of `plan` is at its position.
 abbrev pub Placed : List Job → Type 0
 Placed plan = (i : ℕ) (job : Job) → slice_get plan i ≡ Some job → job.position ≡ i
 
@@ -80,11 +80,12 @@ pub put_at_positions : (k : ℕ) (jobs : List Job) → map (λ (p : Due). p.posi
 put_at_positions k [] = refl
 put_at_positions k (job ∷ jobs) = ap (λ xs. job.position ∷ xs) (put_at_positions k jobs)
 
--- `opens_now plan n T e job`: the event `e` opens this decided case.
+-- `opens_now plan n T e job`: in the run of `plan` with the width `n`, the event `e` after the
+-- events `T` opens the decided case of `job`: its entry may be put now.
 abbrev pub opens_now : List Job → ℕ → Trace → Event → Job → Bool
 opens_now plan n T e job = is_open plan n (Then T e) job && not (was_open plan n T job)
 
--- `finishes T e job`: the event `e` finishes this undecided case.
+-- `finishes T e job`: the event `e` after the events `T` finishes the undecided case of `job`.
 abbrev pub finishes : Trace → Event → Job → Bool
 finishes T e job = job.position == position_of e && (is_none job.decided && (has_whole_history (Then T e) job && not (has_whole_history T job)))
 

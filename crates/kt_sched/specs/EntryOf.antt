@@ -11,8 +11,9 @@ use Rattle.kt_sched.specs.History.{history, is_whole}
 abbrev pub no_output : Output
 no_output = record { out = []; err = [] }
 
--- `entry job verdict started millis body cleanup`: the entry of `job` with its verdict, the
--- timestamp of its start, its duration in milliseconds, and the outputs of body and cleanup.
+-- `entry job verdict started millis body cleanup`: the entry of `job` with the verdict `verdict`,
+-- the timestamp `started` of its start, the duration `millis` in milliseconds, and the outputs
+-- `body` and `cleanup` of its children.
 abbrev pub entry : Job → Judged → ℕ → ℕ → Output → Output → Entry
 entry job verdict started millis body cleanup = record {
   position = job.position;
@@ -26,7 +27,8 @@ entry job verdict started millis body cleanup = record {
   meta = job.meta;
 }
 
--- `IsEntry job events entry`: `entry` is the entry of the job's case, whose events are `events`.
+-- `IsEntry job events entry`: `events` are all events of the case of `job`, and `entry` is the
+-- entry of this case.
 pub data IsEntry (job : Job) : List Event → Entry → Type 0 where
   decided : (v : Judged) → job.decided ≡ Some v → IsEntry job [] (entry job v 0 0 no_output no_output)
   refused : (i : ℕ) (cause : Cause) (v : Judged) → IsVerdictOfRefusal cause v
@@ -40,22 +42,22 @@ pub data IsEntry (job : Job) : List Event → Entry → Type 0 where
       → IsVerdict e.evidence e.outcome body → IsVerdictAfterCleanup body (cleanup.Ended f.outcome) v
       → IsEntry job (Start i Body (Started m) ∷ End e ∷ Start j Cleanup (Started k) ∷ End f ∷ []) (entry job v m (f.moment - m) e.output f.output)
 
--- `Gains puts entries old new`: successful puts of `entries` lead a sink from `old` to `new`, each
--- put by `puts`.
+-- `Gains puts entries old new`: successful puts of `entries`, in order, lead a sink from the state
+-- `old` to the state `new`. `puts` is the relation of a put.
 abbrev pub Gains : {S : Type 0} → (S → Entry → Result (Unit {0}) SinkFault → S → Type 0) → List Entry → S → S → Type 0
 Gains puts [] old new = new ≡ old
 Gains {S} puts (e ∷ es) old new = (mid : S) × puts old e (Ok tt) mid × Gains puts es mid new
 
--- `IsEntryOf plan T i entry`: the history of case `i` in the trace `T` is whole, and `entry` is the
--- entry of this case.
+-- `IsEntryOf plan T i entry`: `entry` is the entry of case `i` of `plan`, whose history in the
+-- trace `T` is whole.
 pub record IsEntryOf (plan : List Job) (T : Trace) (i : ℕ) (entry : Entry) : Type 0 where
   pub job : Job
   pub place : slice_get plan i ≡ Some job
   pub whole : is_whole job (history i T) ≡ true
   pub entry_is : IsEntry job (of i T) entry
 
--- `AreEntries plan T positions entries`: `entries` are the entries of the cases at `positions`, in
--- order.
+-- `AreEntries plan T positions entries`: `entries` are, in order, the entries of the cases of
+-- `plan` at `positions`. The history of each of these cases in the trace `T` is whole.
 abbrev pub AreEntries : List Job → Trace → List ℕ → List Entry → Type 0
 AreEntries plan T [] [] = ⊤
 AreEntries plan T (p ∷ ps) (e ∷ es) = IsEntryOf plan T p e × AreEntries plan T ps es

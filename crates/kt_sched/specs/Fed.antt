@@ -17,11 +17,12 @@ pub record Fed : Type 0 where
 abbrev pub no_responses : Fed
 no_responses = record { trace = NoEvent; stored = 0; stopped = None }
 
--- `has_failed fed`: one of the responses `fed` is a failed put.
+-- `has_failed fed`: one of the responses `fed` reports a failed put.
 abbrev pub has_failed : Fed → Bool
 has_failed fed = is_some fed.stopped
 
--- `responses_after fed asked answer`: the responses `fed` with the response `answer` to the step `asked`.
+-- `responses_after fed asked answer`: the responses `fed`, followed by the response `answer` to the
+-- step `asked`.
 abbrev pub responses_after : Fed → Next → Answer → Fed
 responses_after fed (next.Start i role) (answer.Started moment) = record fed { trace = Then fed.trace (Start i role (Started moment)) }
 responses_after fed (next.Start i role) (answer.Refused cause) = record fed { trace = Then fed.trace (Start i role (Refused cause)) }
@@ -30,8 +31,8 @@ responses_after fed (next.Put i) answer.Stored = record fed { stored = fed.store
 responses_after fed (next.Put i) answer.StoreFailed = record fed { stopped = Some (event_count fed.trace) }
 responses_after fed asked other = fed
 
--- `role_runs role history`: the child of a case in the role `role` runs after the history
--- `history`.
+-- `role_runs role history`: a case with the history `history` has a running child in the role
+-- `role`.
 abbrev pub role_runs : Role → List EventKind → Bool
 role_runs Body (BodyStarted ∷ []) = true
 role_runs Cleanup (BodyStarted ∷ BodyEnded ∷ CleanupStarted ∷ []) = true

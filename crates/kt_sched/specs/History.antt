@@ -19,7 +19,7 @@ abbrev pub end_kind : Role → EventKind
 end_kind Body = BodyEnded
 end_kind Cleanup = CleanupEnded
 
--- `kind_of_event event`: the kind of `event`.
+-- `kind_of_event event`: the kind of `event`, by its role and its response.
 abbrev pub kind_of_event : Event → EventKind
 kind_of_event (Start i Body (Started moment)) = BodyStarted
 kind_of_event (Start i Body (Refused cause)) = BodyRefused
@@ -31,7 +31,7 @@ kind_of_event (End ended) = end_kind ended.role
 abbrev pub history : ℕ → Trace → List EventKind
 history i T = map kind_of_event (of i T)
 
--- `is_whole job history`: `history` is a whole history of the job's case: no more events of the
+-- `is_whole job history`: `history` is a whole history of the case of `job`: no more events of the
 -- case follow.
 abbrev pub is_whole : Job → List EventKind → Bool
 is_whole job [] = is_some job.decided
@@ -41,20 +41,20 @@ is_whole job (BodyStarted ∷ BodyEnded ∷ CleanupRefused ∷ []) = is_none job
 is_whole job (BodyStarted ∷ BodyEnded ∷ CleanupStarted ∷ CleanupEnded ∷ []) = is_none job.decided && job.cleanup
 is_whole job other = false
 
--- `is_body_started mark`: `mark` is the start of a body.
+-- `is_body_started mark`: the kind `mark` is that of the start of a body.
 abbrev pub is_body_started : EventKind → Bool
 is_body_started BodyStarted = true
 is_body_started other = false
 
--- `has_whole_history T job`: after the events `T`, the history of the job's case is whole.
+-- `has_whole_history T job`: the history of the case of `job` in the trace `T` is whole.
 abbrev pub has_whole_history : Trace → Job → Bool
 has_whole_history T job = is_whole job (history job.position T)
 
--- `is_active T job`: the job's body was started in the trace `T`, and the case's history isn't
--- whole. An owed or running cleanup keeps the case active.
+-- `is_active T job`: the case of `job` is active after the events `T`: its body was started, and
+-- its history isn't whole. An owed or running cleanup keeps the case active.
 abbrev pub is_active : Trace → Job → Bool
 is_active T job = list_any is_body_started (history job.position T) && not (has_whole_history T job)
 
--- `active plan T`: the number of the plan's active cases after the events `T`.
+-- `active plan T`: the number of active cases of `plan` after the events `T`.
 abbrev pub active : List Job → Trace → ℕ
 active plan T = count_by (is_active T) plan

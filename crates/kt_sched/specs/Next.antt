@@ -10,12 +10,13 @@ use Rattle.kt_sched.specs.ScheduleRules.{owed, IsBusy, IsExclusiveAtStart}
 use Rattle.kt_sched.specs.RecordOrder.{recorded, was_open}
 use Rattle.kt_sched.specs.Fed.{Fed, has_failed, runs}
 
--- `IsUpToDate plan n fed`: each put that the events of `fed` schedule is stored.
+-- `IsUpToDate plan n fed`: in the run of `plan` with the width `n`, each put that the events of
+-- `fed` schedule is stored.
 abbrev pub IsUpToDate : List Job → ℕ → Fed → Type 0
 IsUpToDate plan n fed = slice_get (recorded plan n fed.trace) fed.stored ≡ None
 
--- `MayBegin plan n T i`: case `i` is the next in turn order whose body is to be started. The width
--- `n` and exclusiveness allow its start after the events `T`.
+-- `MayBegin plan n T i`: the body of case `i` may start after the events `T`. It is the next body
+-- of `plan` in turn order, and the width `n` and exclusiveness allow its start.
 pub record MayBegin (plan : List Job) (n : ℕ) (T : Trace) (i : ℕ) : Type 0 where
   pub job : Job
   pub next : next_to_start plan T ≡ Some job
@@ -23,8 +24,8 @@ pub record MayBegin (plan : List Job) (n : ℕ) (T : Trace) (i : ℕ) : Type 0 w
   pub room : active plan T < n
   pub exclusive : IsExclusiveAtStart plan T i Body
 
--- `IsNext plan n fed next`: `next` is the first step that applies after the responses `fed`. After
--- a failed put, nothing is put and no body is started.
+-- `IsNext plan n fed next`: `next` is the step that must come next after the responses `fed`, in
+-- the run of `plan` with the width `n`. After a failed put, nothing is put and no body is started.
 abbrev pub IsNext : List Job → ℕ → Fed → Next → Type 0
 IsNext plan n fed (next.Put i) = (has_failed fed ≡ false) × (slice_get (recorded plan n fed.trace) fed.stored ≡ Some i)
 IsNext plan n fed (next.Start i Cleanup) = (has_failed fed ≡ false → IsUpToDate plan n fed) × (owed plan fed.trace ≡ Some i)
@@ -37,26 +38,27 @@ IsNext plan n fed next.Done =
     (has_failed fed ≡ false → IsUpToDate plan n fed) × (owed plan fed.trace ≡ None) × (has_failed fed ≡ false → IsBusy plan n fed.trace)
     × ((i : ℕ) (role : Role) → runs i role fed.trace ≡ false)
 
--- `MayStartNow plan T i role`: after the events `T`, case `i` is in the plan, its history isn't
--- whole, and exclusiveness allows its start in the role `role`.
+-- `MayStartNow plan T i role`: case `i` of `plan` has no whole history after the events `T`, and
+-- exclusiveness allows its start in the role `role`.
 pub record MayStartNow (plan : List Job) (T : Trace) (i : ℕ) (role : Role) : Type 0 where
   pub job : Job
   pub place : slice_get plan i ≡ Some job
   pub unfinished : is_whole job (history i T) ≡ false
   pub exclusive : IsExclusiveAtStart plan T i role
 
--- `AreWhole plan T`: each case that has an event in `T` has a whole history.
+-- `AreWhole plan T`: each case of `plan` that has an event in the trace `T` has a whole history.
 abbrev pub AreWhole : List Job → Trace → Type 0
 AreWhole plan T = (i : ℕ) (job : Job) → slice_get plan i ≡ Some job → (of i T ≡ []) ⊎ (has_whole_history T job ≡ true)
 
--- `WereOpen plan n T`: the entry of each decided case could be put after the events `T`, or after
--- some first events of `T`.
+-- `WereOpen plan n T`: `was_open plan n T` holds of each decided case of `plan`: its entry could be
+-- put after the events `T`, or after some first events of `T`.
 abbrev pub WereOpen : List Job → ℕ → Trace → Type 0
 WereOpen plan n T = (i : ℕ) (job : Job) → slice_get plan i ≡ Some job → is_some job.decided ≡ true → was_open plan n T job ≡ true
 
--- `Follows plan n fed next`: the consequences of the next step `next`. A start may happen now. A
--- wait has a running child. At the end, each case with an event has a whole history, and each case
--- has if no put failed.
+-- `Follows plan n fed next`: the facts that hold if `next` is the next step after the responses
+-- `fed`, in the run of `plan` with the width `n`. A start may happen now. A wait has a running
+-- child. At the end, each case with an event has a whole history, and if no put failed, every case
+-- has.
 abbrev pub Follows : List Job → ℕ → Fed → Next → Type 0
 Follows plan n fed (next.Put i) = ⊤
 Follows plan n fed (next.Start i Body) = MayStartNow plan fed.trace i Body × (history i fed.trace ≡ [])

@@ -12,35 +12,36 @@ use Rattle.kt_sched.specs.Children.{IsEvidence}
 use Rattle.kt_base.specs.Moments.{IsMoment}
 
 -- `FitsAt plan T event`: the timestamp of `event` is in the range, and its evidence fits the
--- interface of its job.
+-- interface of its job in `plan`. The rule doesn't depend on the events `T` before it.
 abbrev pub FitsAt : List Job → Trace → Event → Type 0
 FitsAt plan T (Start i role answer) = HasMoment answer
 FitsAt plan T (End ended) =
     IsMoment ended.moment × ((job : Job) × (slice_get plan ended.position ≡ Some job) × IsEvidence job.interface ended.role ended.evidence)
 
--- `Counts entries totals`: `totals` has the numbers of all, of good and of bad `entries`.
+-- `Counts entries totals`: `totals` has the number of all `entries`, of the good ones and of the
+-- bad ones.
 pub record Counts (entries : List Entry) (t : Totals) : Type 0 where
   pub total : t.total ≡ length entries
   pub good : t.good ≡ count_by (λ (e : Entry). is_good e.verdict.kind) entries
   pub bad : t.bad ≡ count_by (λ (e : Entry). not (is_good e.verdict.kind)) entries
 
--- `NamesEachOnce plan positions`: `positions` has each position of the plan once, and no other
+-- `NamesEachOnce plan positions`: `positions` has each position of `plan` once, and no other
 -- element.
 pub record NamesEachOnce (plan : List Job) (positions : List ℕ) : Type 0 where
   pub all : length positions ≡ length plan
   pub once : (i : ℕ) → i < length plan → count_by (λ p. p == i) positions ≡ 1
 
--- `StartsNothing T gained before after`: the trace `T` has no event, `gained` has no entry, and the sink
--- is unchanged.
+-- `StartsNothing T gained before after`: the trace `T` has no event, `gained` has no entry, and the
+-- states `before` and `after` of the sink are equal.
 pub record StartsNothing {S : Type 0} (T : Trace) (gained : List Entry) (before after : S) : Type 0 where
   pub events : T ≡ NoEvent
   pub entries : gained ≡ []
   pub same : after ≡ before
 
 module _ {S : Type 0} (puts : S → Entry → Result (Unit {0}) SinkFault → S → Type 0) where
-  -- `FailedPut plan n T gained fault before after`: the puts of the entries `gained` succeeded, and
-  -- then the put of the next entry failed with `fault`. They lead the sink from `before` to
-  -- `after`.
+  -- `FailedPut plan n T gained fault before after`: in the run of `plan` with the width `n` and the
+  -- trace `T`, the puts of the entries `gained` succeeded. The put of the next entry in record
+  -- order failed with `fault`. These puts lead the sink from `before` to `after`.
   pub record FailedPut (plan : List Job) (n : ℕ) (T : Trace) (gained : List Entry) (fault : SinkFault) (before after : S) : Type 0 where
     pub next : Due
     pub is_next : slice_get (dues plan n T) (length gained) ≡ Some next
@@ -50,8 +51,9 @@ module _ {S : Type 0} (puts : S → Entry → Result (Unit {0}) SinkFault → S 
     pub gains : Gains puts gained before mid
     pub fails : puts mid refused (Err fault) after
 
-  -- `CompletesRun plan n T gained before after totals`: no put failed, the trace `T` is legal, and the
-  -- sink gained the entry of each case in record order. `totals` are the numbers of these entries.
+  -- `CompletesRun plan n T gained before after totals`: no put of the run of `plan` with the width
+  -- `n` failed, and its trace `T` is legal. `gained` has the entry of each case in record order.
+  -- Their puts lead the sink from `before` to `after`, and `totals` counts them.
   pub record CompletesRun (plan : List Job) (n : ℕ) (T : Trace) (gained : List Entry) (before after : S) (totals : Totals) : Type 0 where
     pub legal : Legal plan n T
     pub once : NamesEachOnce plan (recorded plan n T)
@@ -59,23 +61,27 @@ module _ {S : Type 0} (puts : S → Entry → Result (Unit {0}) SinkFault → S 
     pub gains : Gains puts gained before after
     pub counts : Counts gained totals
 
-  -- `FailsAtPut plan n T gained before after fault`: the last put failed with `fault`, and the puts
-  -- of `gained` before it succeeded. After this put, no body was started.
+  -- `FailsAtPut plan n T gained before after fault`: in the run of `plan` with the width `n` and
+  -- the trace `T`, the put after those of the entries `gained` failed with `fault`. The puts lead
+  -- the sink from `before` to `after`, and no body is started after the failed put.
   pub record FailsAtPut (plan : List Job) (n : ℕ) (T : Trace) (gained : List Entry) (before after : S) (fault : SinkFault) : Type 0 where
     pub failed : FailedPut plan n T gained fault before after
     pub stopped : Stopped plan n T failed.next.after
 
-  -- `EndsAs plan n T gained before after result`: `CompletesRun` holds if `result` has totals,
-  -- `FailsAtPut` if a put failed, and `StartsNothing` if an allocation failed.
+  -- `EndsAs plan n T gained before after result`: the run of `plan` with the width `n` and the
+  -- trace `T` returns `result`. The puts of the entries `gained` lead the sink from `before` to
+  -- `after`. For totals `CompletesRun` holds, for a failed put `FailsAtPut`, and for a failed
+  -- allocation `StartsNothing`.
   abbrev pub EndsAs : List Job → ℕ → Trace → List Entry → S → S → Result Totals RunFault → Type 0
   EndsAs plan n T gained before after (Ok totals) = CompletesRun plan n T gained before after totals
   EndsAs plan n T gained before after (Err (SinkFailed fault)) = FailsAtPut plan n T gained before after fault
   EndsAs plan n T gained before after (Err (NoMemory refusal)) = StartsNothing T gained before after
 
 module _ {L S : Type 0} (l : launcher.Ghosts L) (s : sink.Ghosts S) where
-  -- `Ran plan n old new before after result`: the run of `plan` with the width `n` had the result
-  -- `result`. A trace of responses leads the launcher from `old` to `new`. Between `before` and
-  -- `after`, the sink gained the entries of the first cases in record order.
+  -- `Ran plan n old new before after result`: the run of `plan` with the width `n` returns
+  -- `result`. A trace of responses leads the launcher from `old` to `new`. From `before` to
+  -- `after`, the sink gains the entries of the first cases in record order. `l` and `s` are the
+  -- relations of the launcher and the sink.
   pub record Ran (plan : List Job) (n : ℕ) (old new : L) (before after : S) (result : Result Totals RunFault) : Type 0 where
     pub trace : Trace
     pub leads : Leads l.starts l.waits plan trace old new

@@ -52,8 +52,8 @@ stage_work Taken = 0
 abbrev pub work : List Case → ℕ
 work cases = sum_by (λ c. stage_work c.stage) cases
 
--- `ReducesWork next old new`: the response to the step `next` changes the work left from `old` to `new`.
--- The response to a put keeps it, and each other response reduces it.
+-- `ReducesWork next old new`: `old` and `new` are the work left before and after the response to
+-- the step `next`. The response to a put keeps it, and each other response reduces it.
 abbrev pub ReducesWork : Next → ℕ → ℕ → Type 0
 ReducesWork (next.Put i) old new = new ≡ old
 ReducesWork (next.Start i role) old new = new < old
@@ -64,8 +64,8 @@ ReducesWork next.Done old new = ⊤
 abbrev pub decided_record : Judged → CaseRecord
 decided_record verdict = record { verdict = verdict; started = 0; millis = 0; body = no_output; cleanup = no_output }
 
--- `record_in job stage`: the record of the job's case in the stage `stage`, if the case is over or
--- decided.
+-- `record_in job stage`: the record of the case of `job` in the stage `stage`, if the stage is
+-- `Finished` or `Decided`, else `None`.
 abbrev pub record_in : Job → Stage → Option CaseRecord
 record_in job (Finished t) = Some t
 record_in job Decided = option_map decided_record job.decided
@@ -80,7 +80,8 @@ entry_with job t = entry job t.verdict t.started t.millis t.body t.cleanup
 abbrev pub ended_body : Judged → ℕ → Ended → EndedBody
 ended_body verdict started e = record { started = started; ended = e.moment; verdict = verdict; output = e.output }
 
--- `IsStage i job stage events`: `stage` is the stage of case `i` after its events `events`.
+-- `IsStage i job stage events`: `stage` is the stage of case `i`, whose job is `job`, after its
+-- events `events`.
 abbrev pub IsStage : ℕ → Job → Stage → List Event → Type 0
 IsStage i job Waiting es = (es ≡ []) × (job.decided ≡ None)
 IsStage i job Decided es = (es ≡ []) × (is_some job.decided ≡ true)
@@ -94,15 +95,15 @@ IsStage i job (Cleaning b) es =
 IsStage i job (Finished t) es = (is_whole job (map kind_of_event es) ≡ true) × IsEntry job es (entry_with job t)
 IsStage i job Taken es = is_whole job (map kind_of_event es) ≡ true
 
--- `RepresentsCase T i job cases`: the element `i` of `cases` has the stage of case `i` after the events
--- `T`, and the job `job` unless its entry was taken.
+-- `RepresentsCase T i job cases`: the element `i` of `cases` has the stage of case `i` after the
+-- events `T`. It has the job `job` of this case, unless the entry of the case was taken.
 pub record RepresentsCase (T : Trace) (i : ℕ) (job : Job) (cases : List Case) : Type 0 where
   pub case : Case
   pub found : slice_get cases i ≡ Some case
   pub stage : IsStage i job case.stage (of i T)
   pub kept : case.stage ≢ Taken → case.job ≡ job
 
--- `HasExclusive cases i flag`: case `i` is exclusive if `flag` is true, else ordinary.
+-- `HasExclusive cases i flag`: case `i` of `cases` is exclusive if `flag` is true, else ordinary.
 abbrev pub HasExclusive : List Case → ℕ → Bool → Type 0
 HasExclusive cases i flag = (c : Case) × (slice_get cases i ≡ Some c) × (c.job.exclusive ≡ flag)
 
@@ -112,13 +113,13 @@ abbrev pub is_decided_stage : Stage → Bool
 is_decided_stage Decided = true
 is_decided_stage _ = false
 
--- `HasDecided cases i flag`: case `i` waits for its turn to be put if `flag` is true, else it
--- doesn't.
+-- `HasDecided cases i flag`: case `i` of `cases` is in the stage `Decided` if `flag` is true, else
+-- in another stage.
 abbrev pub HasDecided : List Case → ℕ → Bool → Type 0
 HasDecided cases i flag = (c : Case) × (slice_get cases i ≡ Some c) × (is_decided_stage c.stage ≡ flag)
 
--- `HasTurn b i`: case `i` is at the turn, no put failed, and there is a free slot. Fewer cases are
--- active than the width, and none if case `i` is exclusive.
+-- `HasTurn b i`: in the state `b`, case `i` is at the turn, no put failed, and there is a free
+-- slot. Fewer cases are active than the width, and none if case `i` is exclusive.
 abbrev pub HasTurn : SchedState → ℕ → Type 0
 HasTurn b i = (b.failed ≡ false) × (slice_get b.order b.turn ≡ Some i) × (b.active < b.width) × (b.active ≡ 0 ⊎ HasExclusive b.cases i false)
 
@@ -135,11 +136,11 @@ IsAsked b next.Wait = (b.ready ≡ None) × (b.pending ≡ None) × (0 < b.activ
 IsAsked b (next.Put i) = (b.failed ≡ false) × (b.ready ≡ Some i)
 IsAsked b next.Done = ⊤
 
--- `HasRecord cases i`: case `i` has a record, so its entry can be taken.
+-- `HasRecord cases i`: case `i` of `cases` has a record, so its entry can be taken.
 abbrev pub HasRecord : List Case → ℕ → Type 0
 HasRecord cases i = (c : Case) × (t : CaseRecord) × (slice_get cases i ≡ Some c) × (record_in c.job c.stage ≡ Some t)
 
--- `CanLend cases i`: the entry of case `i` is not taken yet, so its job can be lent.
+-- `CanLend cases i`: the entry of case `i` of `cases` is not taken yet, so its job can be lent.
 abbrev pub CanLend : List Case → ℕ → Type 0
 CanLend cases i = (c : Case) × (slice_get cases i ≡ Some c) × (c.stage ≢ Taken)
 
@@ -151,8 +152,8 @@ is_decided job = is_some job.decided
 abbrev pub is_undecided : Job → Bool
 is_undecided job = is_none job.decided
 
--- `opened plan n T turn`: the decided cases from the turn `turn` on whose entries may be put after
--- the events `T`.
+-- `opened plan n T turn`: the decided cases of `plan` from the turn `turn` on whose entries may be
+-- put after the events `T`, with the width `n`.
 abbrev pub opened : List Job → ℕ → Trace → ℕ → List Job
 opened plan n T turn = filter (is_open plan n T) (drop turn (turns plan))
 
@@ -160,9 +161,9 @@ opened plan n T turn = filter (is_open plan n T) (drop turn (turns plan))
 abbrev pub positions : List Job → List ℕ
 positions jobs = map (λ (job : Job). job.position) jobs
 
--- `HaveBeenOpen plan n T turn`: the entry of each decided case before the turn could be put by now
--- (`was_open`). The entry of a case from the turn on could be put only if it can be put now
--- (`is_open`).
+-- `HaveBeenOpen plan n T turn`: after the events `T`, `was_open plan n T` holds of each decided
+-- case of `plan` before the turn `turn`. From the turn on, it holds only of the cases of which
+-- `is_open plan n T` holds now.
 pub record HaveBeenOpen (plan : List Job) (n : ℕ) (T : Trace) (turn : ℕ) : Type 0 where
   pub gone : (k : ℕ) (job : Job) → k < turn → slice_get (turns plan) k ≡ Some job → is_decided job ≡ true → was_open plan n T job ≡ true
   pub due : (k : ℕ) (job : Job) → turn ≤ k → slice_get (turns plan) k ≡ Some job → was_open plan n T job ≡ is_open plan n T job
@@ -172,14 +173,15 @@ abbrev pub is_owing_stage : Stage → Bool
 is_owing_stage (Owing b) = true
 is_owing_stage _ = false
 
--- `is_owed pending k`: `pending` is the position `k`.
+-- `is_owed pending k`: case `k` is `pending`, the case that owes its cleanup.
 abbrev pub is_owed : Option ℕ → ℕ → Bool
 is_owed None k = false
 is_owed (Some i) k = k == i
 
--- `RepresentCases plan n T cases a width pending`: `cases` are the plan's cases after the events `T`.
--- `pending` owes its cleanup. `a` cases are active, at most the width, and only one if an exclusive
--- case is active.
+-- `RepresentCases plan n T cases a width pending`: `cases`, `a`, `width` and `pending` are fields
+-- of the state of a scheduler of `plan` with the width `n` after the events `T`. `a` is the number
+-- of active cases, at most the width, and at most 1 if an exclusive case is active. `pending` is
+-- the case that owes its cleanup.
 pub record RepresentCases (plan : List Job) (n : ℕ) (T : Trace) (cases : List Case) (a width : ℕ) (pending : Option ℕ) : Type 0 where
   pub is_plan : IsPlan plan
   pub room : 0 < n
@@ -194,8 +196,9 @@ pub record RepresentCases (plan : List Job) (n : ℕ) (T : Trace) (cases : List 
   pub owing : (k : ℕ) (c : Case) → slice_get cases k ≡ Some c → is_owing_stage c.stage ≡ is_owed pending k
   pub owed_within : (k : ℕ) → pending ≡ Some k → k < length cases
 
--- `RepresentsTurn plan T cases order turn`: `turn` is the turn after the events `T`: exactly the
--- undecided cases before it in the turn order `order` were started.
+-- `RepresentsTurn plan T cases order turn`: `cases`, `order` and `turn` are fields of the state of
+-- a scheduler of `plan` after the events `T`. `order` is the turn order. Exactly the undecided
+-- cases before the turn were started.
 pub record RepresentsTurn (plan : List Job) (T : Trace) (cases : List Case) (order : List ℕ) (turn : ℕ) : Type 0 where
   pub walk : order ≡ positions (turns plan)
   pub within : turn ≤ length order
@@ -203,8 +206,9 @@ pub record RepresentsTurn (plan : List Job) (T : Trace) (cases : List Case) (ord
   pub met : (k i : ℕ) (c : Case) → slice_get order k ≡ Some i → slice_get cases i ≡ Some c
       → (turn ≤ k → is_waiting_stage c.stage ≡ true) × (k < turn → c.stage ≢ Waiting)
 
--- `RepresentPuts plan n fed order turn next stop`: the puts left after `fed` are the put of the ready
--- case `next`, if any, and of the open cases from the turn on. `stop` is true if a put failed.
+-- `RepresentPuts plan n fed order turn next stop`: `stop` is true if a put of the responses `fed`
+-- failed. Otherwise, the puts left in the run of `plan` with the width `n` are the put of the ready
+-- case `next`, if any, and of the open cases from the turn `turn` in `order` on.
 pub record RepresentPuts (plan : List Job) (n : ℕ) (fed : Fed) (order : List ℕ) (turn : ℕ) (next : Option ℕ) (stop : Bool) : Type 0 where
   pub failed : stop ≡ has_failed fed
   pub stopped : stop ≡ true → next ≡ None
@@ -235,8 +239,8 @@ IsReachable b = (plan : List Job) × (n : ℕ) × (fed : Fed) × Stands plan n f
 abbrev pub IsAnswer : SchedState → Answer → Type 0
 IsAnswer b answer = (plan : List Job) × (n : ℕ) × (fed : Fed) × Stands plan n fed b × IsAnswerTo fed.trace b.asked answer
 
--- `RecordsEvent old event new`: `event` leads the scheduler from the state `old` to the state `new`, which
--- represents one more event and has less work left.
+-- `RecordsEvent old event new`: `event` leads the scheduler from the state `old` to the state
+-- `new`, which represents one more event and has less work left.
 pub record RecordsEvent (old : SchedState) (e : Event) (new : SchedState) : Type 0 where
   pub stands : Implies old (λ plan n fed. Stands plan n (record fed { trace = Then fed.trace e }) new)
   pub less : work new.cases < work old.cases

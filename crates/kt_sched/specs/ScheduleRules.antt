@@ -7,73 +7,74 @@ use Rattle.kt_sched.specs.Trace.{Event, Start, End, Trace, NoEvent, Then, of, fi
 use Rattle.kt_sched.specs.History.{has_whole_history, is_active, active}
 use Rattle.kt_sched.specs.TurnOrder.{body_starts, undecided_turns, next_to_start}
 
--- `Each P T`: `P` holds for each event of `T`, with the events before it.
+-- `Each P T`: `P U e` holds for each event `e` of `T`, where `U` are the events before `e`.
 abbrev pub Each : (Trace → Event → Type 0) → Trace → Type 0
 Each P NoEvent = ⊤
 Each P (Then T e) = Each P T × P T e
 
--- `Order plan T`: the bodies in the trace `T` start in turn order.
+-- `Order plan T`: the bodies in the trace `T` start in the turn order of `plan`.
 abbrev pub Order : List Job → Trace → Type 0
 Order plan T = body_starts T ≡ map (λ job. job.position) (take (length (body_starts T)) (undecided_turns plan))
 
--- `KeepsWidth plan n T event`: if `event` starts a body, fewer than `n` cases are active after the
--- events `T`.
+-- `KeepsWidth plan n T event`: if `event` starts a body, fewer than `n` cases of `plan` are active
+-- after the events `T` before it.
 abbrev pub KeepsWidth : List Job → ℕ → Trace → Event → Type 0
 KeepsWidth plan n T (Start i Body answer) = active plan T < n
 KeepsWidth plan n T other = ⊤
 
--- `IsQuiet plan T`: after the events `T`, no case is active, and the history of each ordinary case
--- is whole.
+-- `IsQuiet plan T`: after the events `T`, no case of `plan` is active, and the history of each
+-- ordinary case is whole.
 abbrev pub IsQuiet : List Job → Trace → Type 0
 IsQuiet plan T = (active plan T ≡ 0) × (list_all (λ (job : Job). job.exclusive || has_whole_history T job) plan ≡ true)
 
--- `IsExclusiveAtStart plan T i role`: exclusiveness allows the start of case `i` in the role `role`
--- after the events `T`. An exclusive body starts only if `IsQuiet` holds. While an exclusive case
--- is active, only its own cleanup starts.
+-- `IsExclusiveAtStart plan T i role`: exclusiveness allows the start of case `i` of `plan` in the
+-- role `role` after the events `T`. An exclusive body starts only if `IsQuiet` holds. While an
+-- exclusive case is active, only its own cleanup starts.
 pub record IsExclusiveAtStart (plan : List Job) (T : Trace) (i : ℕ) (role : Role) : Type 0 where
   pub quiet : (job : Job) → slice_get plan i ≡ Some job → job.exclusive ≡ true → role ≡ Body → IsQuiet plan T
   pub own : (job : Job) (k : ℕ) → slice_get plan k ≡ Some job → job.exclusive ≡ true → is_active T job ≡ true → (k ≡ i) × (role ≡ Cleanup)
 
--- `KeepsExclusive plan T event`: if `event` is a start, exclusiveness allows it after the events `T`.
+-- `KeepsExclusive plan T event`: if `event` is a start of a case of `plan`, exclusiveness allows it
+-- after the events `T`.
 abbrev pub KeepsExclusive : List Job → Trace → Event → Type 0
 KeepsExclusive plan T (Start i role answer) = IsExclusiveAtStart plan T i role
 KeepsExclusive plan T (End ended) = ⊤
 
--- `declares plan i`: case `i` declares a cleanup.
+-- `declares plan i`: case `i` of `plan` declares a cleanup.
 abbrev pub declares : List Job → ℕ → Bool
 declares plan i = elim (slice_get plan i) [ None ↦ false | Some job ↦ job.cleanup ]
 
--- `owed plan T`: the case with a declared cleanup whose body ended with the last event of `T`, if
--- any.
+-- `owed plan T`: the position of the case of `plan` with a declared cleanup whose body ended with
+-- the last event of `T`, or `None`.
 abbrev pub owed : List Job → Trace → Option ℕ
 owed plan NoEvent = None
 owed plan (Then T (Start i role answer)) = None
 owed plan (Then T (End ended)) = if same_role ended.role Body && declares plan ended.position then Some ended.position else None
 
--- `IsCleanupStart event owing`: the event is the start of the cleanup of case `owing`.
+-- `IsCleanupStart event owing`: `event` is the start of the cleanup of case `owing`.
 abbrev pub IsCleanupStart : Event → ℕ → Type 0
 IsCleanupStart (Start i role answer) owing = (i ≡ owing) × (role ≡ Cleanup)
 IsCleanupStart (End ended) owing = ⊥
 
--- `StartsOwedCleanup plan T event`: if the last event of `T` ended a body with a declared cleanup, `event`
--- is the start of this cleanup.
+-- `StartsOwedCleanup plan T event`: if the last event of `T` ended a body of `plan` with a declared
+-- cleanup, `event` is the start of this cleanup.
 abbrev pub StartsOwedCleanup : List Job → Trace → Event → Type 0
 StartsOwedCleanup plan T e = IfSome (owed plan T) (IsCleanupStart e)
 
--- `IsBusy plan n T`: no body may be started after the events `T`. Either `n` cases are active, no
--- body is left, or the next body is exclusive and a case is active.
+-- `IsBusy plan n T`: no body of `plan` may be started after the events `T` with the width `n`.
+-- Either `n` cases are active, no body is left, or the next body is exclusive and a case is active.
 abbrev pub IsBusy : List Job → ℕ → Trace → Type 0
 IsBusy plan n T =
     (active plan T ≡ n) ⊎ MatchOption (next_to_start plan T) ⊤ (λ job. (job.exclusive ≡ true) × (0 < active plan T))
 
--- `WaitsWhenBusy plan n T event`: if `event` is an end, no body may be started after the events `T`, so
--- the scheduler waits.
+-- `WaitsWhenBusy plan n T event`: if `event` is an end, no body of `plan` may be started after the
+-- events `T` with the width `n`, so the scheduler waits.
 abbrev pub WaitsWhenBusy : List Job → ℕ → Trace → Event → Type 0
 WaitsWhenBusy plan n T (Start i role answer) = ⊤
 WaitsWhenBusy plan n T (End ended) = IsBusy plan n T
 
--- `Legal plan n T`: `T` is the trace of a run without a failed put. Each case has a whole history.
--- The rules of order, width, exclusiveness, cleanups and waits hold.
+-- `Legal plan n T`: `T` is the trace of a run of `plan` with the width `n` without a failed put.
+-- Each case has a whole history. The rules of order, width, exclusiveness, cleanups and waits hold.
 pub record Legal (plan : List Job) (n : ℕ) (T : Trace) : Type 0 where
   pub whole : list_all (has_whole_history T) plan ≡ true
   pub order : Order plan T
@@ -82,9 +83,9 @@ pub record Legal (plan : List Job) (n : ℕ) (T : Trace) : Type 0 where
   pub prompt : Each (StartsOwedCleanup plan) T
   pub busy : Each (WaitsWhenBusy plan n) T
 
--- `Stopped plan n T k`: `T` is the trace of a run whose put failed after `k` events. No body starts
--- after these, each case that has an event has a whole history, and the rules of `Legal` hold. The
--- rule of waits holds for the first `k` events only.
+-- `Stopped plan n T k`: `T` is the trace of a run of `plan` with the width `n` whose put failed
+-- after `k` events. No body starts after these, each case that has an event has a whole history,
+-- and the rules of `Legal` hold. The rule of waits holds for the first `k` events only.
 pub record Stopped (plan : List Job) (n : ℕ) (T : Trace) (k : ℕ) : Type 0 where
   pub starts : body_starts T ≡ body_starts (first k T)
   pub whole : (job : Job) (i : ℕ) → slice_get plan i ≡ Some job → (of i T ≡ []) ⊎ (has_whole_history T job ≡ true)

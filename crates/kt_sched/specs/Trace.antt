@@ -8,8 +8,7 @@ pub data Event : Type 0 where
   Start : (position : ℕ) (role : Role) (answer : StartAnswer) → Event
   End : (ended : Ended) → Event
 
--- `HasMoment answer`: the timestamp of the start, if `answer` has one, is in the range of
--- timestamps.
+-- `HasMoment answer`: if `answer` has the timestamp of a start, it is in the range of timestamps.
 abbrev pub HasMoment : StartAnswer → Type 0
 HasMoment (Started moment) = IsMoment moment
 HasMoment (Refused cause) = ⊤
@@ -19,7 +18,7 @@ pub data Trace : Type 0 where
   NoEvent : Trace
   Then : (before : Trace) (event : Event) → Trace
 
--- For a launcher with these relations of starts and waits.
+-- For a launcher with the relations `starts` and `waits` of its calls, and the jobs of `plan`.
 module _ {L : Type 0} (starts : L → Job → Role → StartAnswer → L → Type 0) (waits : L → Ended → L → Type 0) (plan : List Job) where
   -- `Leads T old new`: the responses `T` lead the launcher from the state `old` to the state `new`.
   -- Each start was called with the plan's job.
@@ -38,7 +37,7 @@ abbrev pub first : ℕ → Trace → Trace
 first k NoEvent = NoEvent
 first k (Then T e) = if nat_le (event_count T + 1) k then Then T e else first k T
 
--- `position_of event`: the position of the event's case.
+-- `position_of event`: the position of the case of `event`.
 abbrev pub position_of : Event → ℕ
 position_of (Start i role answer) = i
 position_of (End ended) = ended.position

@@ -33,7 +33,7 @@ pub struct Job {
     pub meta: Variables,
 }
 
-/// Implemented manually for the prover: a drop is one call, and only this function takes the fields
+/// A manual `Drop`, for the prover: a drop is one call, and only this function takes the fields
 /// apart.
 impl Drop for Job {
     fn drop(self) {

@@ -1,4 +1,4 @@
--- The responses with one more, and the totals with one more entry.
+-- The responses after one more response, and the totals after one more entry.
 use Rattle.std.specs.Prelude.{ℕ, Bool, true, false, Some, not, cond, ◌+◌, ◌≤◌}
 use Rattle.kt_sched.specs.Types.{Totals}
 use Rattle.kt_base.specs.declared.verdict.Kind.{Kind}
@@ -6,7 +6,8 @@ use Rattle.kt_base.specs.Kinds.{good as is_good}
 use Rattle.kt_sched.specs.Trace.{event_count}
 use Rattle.kt_sched.specs.Fed.{Fed}
 
--- `responses_after_put fed failed`: the responses `fed` with one more put, which failed if `failed` is true.
+-- `responses_after_put fed failed`: the responses `fed`, followed by the response to a put, which
+-- failed if `failed` is true.
 abbrev pub responses_after_put : Fed → Bool → Fed
 responses_after_put fed true = record fed { stopped = Some (event_count fed.trace) }
 responses_after_put fed false = record fed { stored = fed.stored + 1 }

@@ -7,7 +7,7 @@ use Rattle.kt_sched.specs.EntryOf.{no_output}
 use Rattle.kt_sched.specs.Trace.{Event, Start, End}
 use Rattle.kt_sched.specs.SchedState.{decided_record, ended_body, entry_with, record_in}
 
--- `stage_runs role stage`: the child of a case in the role `role` runs in the stage `stage`.
+-- `stage_runs role stage`: a case in the stage `stage` has a running child in the role `role`.
 abbrev pub stage_runs : Role → Stage → Bool
 stage_runs Body (Running m) = true
 stage_runs Cleanup (Cleaning b) = true
@@ -23,15 +23,15 @@ first_stage (Some verdict) = Decided
 abbrev pub first_case : Job → Case
 first_case job = record { job = job; stage = first_stage job.decided }
 
--- `Replaced old new i stage was`: `new` is `old`, but case `i` has the stage `stage` instead of
--- `was`.
+-- `Replaced old new i stage was`: `new` are the cases `old`, but case `i` has the stage `stage`
+-- instead of `was`.
 pub record Replaced (old new : List Case) (i : ℕ) (stage was : Stage) : Type 0 where
   pub job : Job
   pub found : slice_get old i ≡ Some (record { job = job; stage = was })
   pub changed : new ≡ slice_set old i (record { job = job; stage = stage })
 
--- `TakesEntry old new i entry`: `entry` is the entry of case `i` in `old`. `new` is `old`, but the
--- entry of case `i` is taken.
+-- `TakesEntry old new i entry`: `entry` is the entry of case `i` of the cases `old`. `new` are the
+-- cases `old`, but the entry of case `i` is taken.
 pub record TakesEntry (old new : List Case) (i : ℕ) (entry : Entry) : Type 0 where
   pub had : Job
   pub was : Stage
@@ -48,8 +48,8 @@ abbrev pub record_of : Judged → EndedBody → ℕ → Output → CaseRecord
 record_of verdict body last output =
     record { verdict = verdict; started = body.started; millis = last - body.started; body = body.output; cleanup = output }
 
--- `plain_record verdict started e`: the record of a case without a declared cleanup, whose body
--- started at the timestamp `started` and ended with `e`.
+-- `plain_record verdict started e`: the record of a case with the verdict `verdict` and without a
+-- declared cleanup. Its body started at the timestamp `started` and ended with `e`.
 abbrev pub plain_record : Judged → ℕ → Ended → CaseRecord
 plain_record verdict started e =
     record { verdict = verdict; started = started; millis = e.moment - started; body = e.output; cleanup = no_output }
@@ -88,8 +88,8 @@ is_over (Finished t) = true
 is_over Taken = true
 is_over _ = false
 
--- `ready_at stage failed i`: `i` if a case in the stage `stage` is over and no put failed, else
--- `None`.
+-- `ready_at stage failed i`: `i` if a case in the stage `stage` is over and `failed` is false, so
+-- no put failed, else `None`.
 abbrev pub ready_at : Stage → Bool → ℕ → Option ℕ
 ready_at stage failed i = if is_over stage && not failed then Some i else None
 

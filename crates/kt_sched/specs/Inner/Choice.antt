@@ -4,14 +4,14 @@ use Rattle.kt_sched.specs.Types.{Body, Cleanup, Next}
 use Rattle.kt_sched.specs.declared.next.Next.TheVariants as next
 use Rattle.kt_sched.specs.SchedState.{SchedState, HasExclusive, HasTurn}
 
--- `HasNoTurn b`: no case can have its turn in the state `b`. Either a put failed, no case is left, or
--- there is no free slot for the case at the turn.
+-- `HasNoTurn b`: no case can be started or put at its turn in the state `b`. Either a put failed,
+-- no case is left, or there is no free slot for the case at the turn.
 abbrev pub HasNoTurn : SchedState → Type 0
 HasNoTurn b =
     (b.failed ≡ true) ⊎ ((length b.order ≤ b.turn) ⊎ ((b.width ≤ b.active) ⊎ ((0 < b.active) × ((i : ℕ) × (slice_get b.order b.turn ≡ Some i) × HasExclusive b.cases i true))))
 
--- `IsTurn b case`: `case` is the position of the case at the turn if there is a free slot for it,
--- else `None`.
+-- `IsTurn b case`: in the state `b`, `case` is the position of the case at the turn if no put
+-- failed and there is a free slot for it, else `None`.
 abbrev pub IsTurn : SchedState → Option ℕ → Type 0
 IsTurn b None = HasNoTurn b
 IsTurn b (Some i) = HasTurn b i
