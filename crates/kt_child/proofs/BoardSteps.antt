@@ -13,7 +13,7 @@ use Rattle.std.proofs.lemmas.Option.{same_Some}
 abbrev answering : RunningChild → List ChildResponse → PolledChild
 answering k heard = record { case = k.case; limit = k.limit; heard = heard }
 
--- A start appends its child to the running children and leaves the pending cases.
+-- A start appends its child to the running children, and doesn't change the pending cases.
 pub board_started : (b after : ChildrenState) (job : Job) (c : CaseAttempt) (answer : StartAnswer)
     → after ≡ state_after_start b (spawned (limit_of job c.role) c) answer
     → (polled_children after.children ≡ children_after_start (polled_children b.children) job c answer) × (after.pending ≡ b.pending)
@@ -26,11 +26,13 @@ all_later : (a : PolledChild) (old new : List PolledChild) (calls : List Call) �
 all_later a old new [] h = ap (λ t. a ∷ t) h
 all_later a old new (call ∷ calls) (mid, first, rest) = (a ∷ mid, later a old mid call first, all_later a mid new calls rest)
 
--- `asked k answer done`: the calls of one poll of the child `k`.
+-- `asked k answer done`: the calls of one poll of the child `k`: the poll with the result `answer`,
+-- and the kill that may follow it, with the result `done`.
 abbrev asked : RunningChild → Result Polled OsFault → Bool → List Call
 asked k answer done = asked_by_poll (child_of k.case) k.limit k.watch answer done
 
--- `after_poll_of k answer done`: the child `k` after one poll, with all its responses.
+-- `after_poll_of k answer done`: the child `k` with all its responses, after a poll with the result
+-- `answer` and the kill that may follow it, with the result `done`.
 abbrev after_poll_of : RunningChild → Result Polled OsFault → Bool → PolledChild
 after_poll_of k answer done = answering k (answered k.limit k.watch ++ poll_responses k.limit k.watch answer done)
 

@@ -5,17 +5,17 @@ use Rattle.kt_sched.specs.Children.{Child as Shown}
 use Rattle.kt_base.proofs.Lists.{same_number}
 use Rattle.std.proofs.lemmas.Option.{same_Some}
 
--- A role is the same as itself.
+-- `same_role` of a role and itself is `true`.
 pub own_role : (r : Role) → same_role r r ≡ true
 own_role Body = refl
 own_role Cleanup = refl
 
--- The definition of `one_if` as a conditional.
+-- `one_if b` is 1 if `b` is `true`, and otherwise 0.
 pub one_if_is : (b : Bool) → one_if b ≡ (if b then 1 else 0)
 one_if_is true = refl
 one_if_is false = refl
 
--- Numbers with a test that counts 0 are different.
+-- Two numbers are different if `one_if` of their equality test is 0.
 pub apart : (i j : ℕ) → one_if (i == j) ≡ 0 → i ≢ j
 apart i j h e = let t : (i == j) ≡ true = grind (arith, nat_tests) in absurd (omega (arith, ap one_if t))
 

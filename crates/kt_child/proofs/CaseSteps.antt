@@ -46,7 +46,7 @@ pub record Left (old : ChildrenState) (calls : List Call) (e : Ended) (new : Chi
   pub children : new.children ≡ remove after place
   pub pending : new.pending ≡ pending_with over.case old.pending
 
--- The cases after a wait are those without the finished child's.
+-- The cases after a wait are those before it, without the case of the finished child.
 pub waited_cases : (old new : ChildrenState) (calls : List Call) (e : Ended) (w : Left old calls e new)
     → (cases_of new.children ≡ remove (cases_of old.children) w.place) × (slice_get (cases_of old.children) w.place ≡ Some w.over.case)
 waited_cases old new calls e w =

@@ -1,4 +1,4 @@
--- The bytes read of a file are its prefix.
+-- The bytes that a read returns are a prefix of the remaining bytes of the file.
 use Rattle.std.proofs.Common.{Option, ℕ, ◌≤◌, List, length}
 use Rattle.std.specs.Io.KnownBytes.{Consumes}
 

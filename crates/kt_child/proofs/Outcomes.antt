@@ -27,7 +27,9 @@ abbrev alive_at : ℕ → PollCounts
 alive_at b = record { before = b; killed = false; after = 0 }
 
 -- `Goes limit w answer done`: if the child still runs after a poll with the result `answer`, the
--- new poll counts represent the old responses and those of the poll.
+-- new poll counts represent the old responses and those of the poll. `limit` is its timeout in
+-- seconds, `w` has the poll counts before the poll, and `done` is the result of the kill that may
+-- follow.
 abbrev Goes : ℕ → PollCounts → Result Polled OsFault → Bool → Type 0
 Goes limit w answer done =
     after_poll limit w answer done ≡ More
@@ -47,7 +49,7 @@ goes_killed limit b a (Ok Running) done lt e = by (a + 1 == 500) refl e
         (ap (λ u. R ++ KillResponse true ∷ u) (once_more a) ∙ sym (append_assoc R (KillResponse true ∷ replicate a running) (running ∷ [])), failed a 500 t lt)
 goes_killed limit b a answer done lt e = absurd (cc)
 
--- A poll of a child before a kill that still runs extends its responses.
+-- A poll of a child that was not killed and still runs extends its responses.
 goes_alive : (limit b : ℕ) (answer : Result Polled OsFault) (done : Bool) → b < 100 * limit → Goes limit (alive_at b) answer done
 goes_alive limit b (Ok Running) done lt e = by (b + 1 == 100 * limit) refl done e
   where
@@ -64,7 +66,8 @@ goes_alive limit b (Ok Running) done lt e = by (b + 1 == 100 * limit) refl done 
 goes_alive limit b answer done lt e = absurd (cc)
 
 -- `Tells limit w answer done o`: if a poll with the result `answer` ends the child with the outcome
--- `o`, then `o` follows from all responses (`Yields`).
+-- `o`, then `o` follows from all responses (`Yields`). `limit` is its timeout in seconds, `w` has
+-- the poll counts before the poll, and `done` is the result of the kill that may follow.
 abbrev Tells : ℕ → PollCounts → Result Polled OsFault → Bool → Outcome → Type 0
 Tells limit w answer done o = after_poll limit w answer done ≡ Ended o → Yields limit (answered limit w ++ poll_responses limit w answer done) o
 
@@ -108,7 +111,8 @@ tells_alive limit b (Ok Running) done o lt e = by (b + 1 == 100 * limit) refl do
         )))
     by false t d e = absurd (cc)
 
--- A property of all poll counts before a kill and after a kill is one of each running child's.
+-- A property of all poll counts before a kill, and of all after a kill, holds for each running
+-- child.
 of_watch : (P : PollCounts → Type 0) (limit : ℕ)
     → ((b a : ℕ) → a < 500 → P (killed_at b a)) → ((b : ℕ) → b < 100 * limit → P (alive_at b)) → (w : PollCounts) → IsWatched limit w → P w
 of_watch P limit after before w is = by w.killed w.after is

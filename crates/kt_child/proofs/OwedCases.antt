@@ -29,7 +29,7 @@ among_owed cases pending c k e =
         → (if (if body && cleanup then false else true) then x else y) ≡ (if b && (body && shows) then true else x)
     owed b body cleanup shows x y h e = grind (arith, nat_tests)
 
--- The positions of `cases` without the case `c` are the others.
+-- Removing the case `c` from `cases` removes its position and no other.
 pub among_remove : (cases : List CaseAttempt) (p : ℕ) (c : CaseAttempt) (k : ℕ) → slice_get cases p ≡ Some c → count_at c.position cases ≤ 1
     → is_among (remove cases p) k ≡ (if k == c.position then false else is_among cases k)
 among_remove cases p c k at once =

@@ -4,9 +4,11 @@ use Rattle.kt_child.proofs.Common.{OsFault, FileRead, ReadEnd, Complete, Chain, 
 use Rattle.kt_child.specs.Ending.Parts.{last, more}
 use Rattle.kt_child.proofs.Chains.{chain_append}
 
--- `Taking has_taken leads path part limit start now reader got`: parts of `got` bytes in all were
--- read and fed to `reader`, which takes the system from `start` to `now`. A read of the rest
--- completes the read of the file.
+-- `Taking has_taken leads path part limit start now reader got`: the first parts of the file
+-- `path`, `got` bytes in all, were read and fed to `reader`, which takes the system from `start` to
+-- `now`. A read of the rest completes the read of the file. A part has at most `part` bytes, and
+-- all parts at most `limit`. `has_taken` relates a reader to its bytes, and `leads` is the relation
+-- of the system's calls.
 abbrev pub Taking : {R O : Type 0} → (R → List ℕ → Type 0) → (O → Call → O → Type 0) → List ℕ → ℕ → ℕ → O → O → R → ℕ → Type 0
 Taking has_taken leads path part limit start now reader got =
     (taken : List ℕ) × has_taken reader taken × (got ≡ length taken) × (calls : List Call) × Chain leads start calls now
@@ -14,7 +16,7 @@ Taking has_taken leads path part limit start now reader got =
 
 -- For a reader that is fed a file from its start.
 module _ {R O : Type 0} (has_taken : R → List ℕ → Type 0) (leads : O → Call → O → Type 0) (path : List ℕ) (part limit : ℕ) (start : O) where
-  -- A part after which more follows leaves a rest that completes the read.
+  -- If more follows after the next part, a read of the rest still completes the read of the file.
   pub taking_more : (now new : O) (reader reader' : R) (got got' : ℕ) (answer : Result FileRead OsFault)
       → Taking has_taken leads path part limit start now reader got
       → leads now (next_part path part limit got answer) new

@@ -21,7 +21,8 @@ set_next (suc i) [] d = refl
 set_next (suc i) (k ∷ s) d = ap (λ t. advanced k ∷ t) (set_next i s d)
 
 -- `OnePoll leads now new turn name k`: one poll of the child `k` with the name `name` takes the
--- system from `now` to `new`. `turn` is the child's state after it.
+-- system from `now` to `new`. `turn` is the child's state after it. `leads` is the relation of the
+-- system's calls.
 abbrev pub OnePoll : {O : Type 0} → (O → Call → O → Type 0) → O → O → AfterPoll → Child → RunningChild → Type 0
 OnePoll leads now new turn name k =
     (answer : Result Polled OsFault) × (done : Bool)

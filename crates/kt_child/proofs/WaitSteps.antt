@@ -7,7 +7,8 @@ use Rattle.kt_child.proofs.Chains.{chain_append}
 abbrev polls_left : RunningChild → ℕ
 polls_left k = (100 * k.limit - k.watch.before) + (500 - k.watch.after)
 
--- `first_left children`: the number of polls that the first child has left, or 0 without children.
+-- `first_left children`: the number of polls that the first of `children` has left, or 0 without
+-- children.
 abbrev pub first_left : List RunningChild → ℕ
 first_left [] = 0
 first_left (k ∷ s) = polls_left k
@@ -17,8 +18,9 @@ pub all_advanced : (s : List RunningChild) → advanced_below (length s) s ≡ m
 all_advanced [] = refl
 all_advanced (k ∷ s) = ap (λ t. advanced k ∷ t) (all_advanced s)
 
--- `Waiting leads start init now children`: some calls take the system from `start` to `now`. With
--- them, a wait of `children` is a wait of `init`.
+-- `Waiting leads start init now children`: some calls take the system from `start` to `now`. A wait
+-- of `children` after these calls is, together with them, a wait of `init`. `leads` is the relation
+-- of the system's calls.
 abbrev pub Waiting : {O : Type 0} → (O → Call → O → Type 0) → O → List RunningChild → O → List RunningChild → Type 0
 Waiting leads start init now children =
     (calls : List Call) × Chain leads start calls now

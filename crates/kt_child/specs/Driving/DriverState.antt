@@ -37,7 +37,8 @@ polled_children children = map (λ k. record { case = k.case; limit = k.limit; h
 abbrev pub driver_state_of : ChildrenState → ℕ → DriverState
 driver_state_of b next = record { alive = polled_children b.children; owed = b.pending; next = next }
 
--- `driver_state d`: the state of the driver `d`.
+-- `driver_state d`: the running children, the pending cleanups and the next attempt number of the
+-- driver `d`.
 abbrev pub driver_state : {O : Type 0} → Driver O → DriverState
 driver_state d = driver_state_of d.running d.next
 
@@ -112,9 +113,9 @@ pub record Ends (old : DriverState) (calls : List Call) (e : Ended) (new : Drive
   pub owed : new.owed ≡ pending_with over.case old.owed
   pub next : new.next ≡ old.next
 
--- `Waited children old calls e left new`: `calls` are a wait that returns `e`, by two relations
--- with the same polls. By `Ends`, it takes the driver state from `old` to `new`. By `WaitedOn`, it
--- takes the running `children` to `left`, which lack the finished child.
+-- `Waited children old calls e left new`: `calls` are a wait that returns `e`. By `Ends`, it takes
+-- the driver state from `old` to `new`. By `WaitedOn`, with the same polls, it takes the running
+-- `children` to `left`, which lack the finished child.
 abbrev pub Waited : List RunningChild → DriverState → List Call → Ended → List RunningChild → DriverState → Type 0
 Waited children old calls e left new =
     (end : Ends old calls e new) × (after : List RunningChild) × WaitedOn children end.polls end.place e.outcome after × (left ≡ remove after end.place)

@@ -40,7 +40,8 @@ abbrev pub job_purpose : Job → Role → ChildPurpose
 job_purpose job role =
     record { want = want_of role; program = job.program; variables = job.vars; case_name = job.case_name; limit = limit_of job role }
 
--- `list_purpose program variables`: the purpose of a child that lists the cases of `program`.
+-- `list_purpose program variables`: the purpose of a child that lists the cases of `program`, with
+-- the suite's `variables`.
 abbrev pub list_purpose : List ℕ → List Variable → ChildPurpose
 list_purpose program variables = record { want = Listing; program = program; variables = variables; case_name = []; limit = 300 }
 

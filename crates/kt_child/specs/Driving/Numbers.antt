@@ -21,19 +21,22 @@ is_attempt (Start job Body answer) = true
 is_attempt (ListOf program variables answer) = true
 is_attempt request = false
 
--- `Serves leads d request e`: `request` may take the driver from the state `d` to `e`.
+-- `Serves leads d request e`: `request` may take the driver from the state `d` to `e`. `leads` is
+-- the relation of the system's calls.
 abbrev pub Serves : {O : Type 0} → (O → Call → O → Type 0) → Driver O → Request → Driver O → Type 0
 Serves leads d (Start job role answer) e = DriverStarts leads d job role answer e
 Serves leads d (Wait ended) e = DriverWaits leads d ended e
 Serves leads d (ListOf program variables answer) e = DriverLists leads d program variables answer e
 
 -- `ServesAll leads d requests e`: `requests`, in order, may take the driver from `d` to `e`.
+-- `leads` is the relation of the system's calls.
 abbrev pub ServesAll : {O : Type 0} → (O → Call → O → Type 0) → Driver O → List Request → Driver O → Type 0
 ServesAll leads d [] e = e ≡ d
 ServesAll {O} leads d (request ∷ requests) e = (mid : Driver O) × Serves leads d request mid × ServesAll leads mid requests e
 
 -- `AttemptsDiffer leads`: after an attempt and any further requests, the next number is higher than
--- the number of that attempt. So no two attempts have the same number.
+-- the number of that attempt. So no two attempts have the same number. `leads` is the relation of
+-- the system's calls.
 abbrev pub AttemptsDiffer : {O : Type 0} → (O → Call → O → Type 0) → Type 0
 AttemptsDiffer {O} leads =
     (attempt : Request) (requests : List Request) (d e f : Driver O)

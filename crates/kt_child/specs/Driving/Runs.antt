@@ -10,7 +10,7 @@ use Rattle.kt_child.specs.Driving.DriverSteps.{DriverStarts, DriverWaits}
 -- `plan` has the jobs. The paths of programs are relative to the directory `source`, and work
 -- directories are below `root`.
 module _ (plan : List Job) (source root : List ℕ) where
-  -- `Responds old calls event new`: `calls` are all calls for one event, a start or an end. The
+  -- `Responds old calls event new`: `calls` are all calls for `event`, a start or an end. The
   -- driver state goes from `old` to `new`.
   abbrev pub Responds : DriverState → List Call → Event → DriverState → Type 0
   Responds old calls (Start i role answer) new = (job : Job) × (slice_get plan i ≡ Some job) × Starts source root old job role calls answer new
@@ -25,8 +25,8 @@ module _ (plan : List Job) (source root : List ℕ) where
 
 -- `leads` is the relation of the system's calls.
 module _ {O : Type 0} (leads : O → Call → O → Type 0) where
-  -- `RunsFrom plan T b old new`: all calls between the drivers `old` and `new` are those of the
-  -- trace `T` (`Runs`), which begins with the driver state `b`.
+  -- `RunsFrom plan T b old new`: all calls between the drivers `old` and `new` are those of a trace
+  -- `T` of `plan` (`Runs`), which begins with the driver state `b`.
   abbrev pub RunsFrom : List Job → Trace → DriverState → Driver O → Driver O → Type 0
   RunsFrom plan T b old new = (calls : List Call) × Chain leads old.os calls new.os × Runs plan old.source old.root b T calls (driver_state new)
 

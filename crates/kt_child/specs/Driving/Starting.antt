@@ -15,8 +15,8 @@ pub record Ask : Type 0 where
   pub call : Result (Unit {0}) OsFault → Call
   pub cause : Refused
 
--- `cause_of cause fault`: the cause of a start that is refused after a failed call: memory if an
--- allocation of the call failed, and otherwise `cause`.
+-- `cause_of cause fault`: the cause of the refusal of a start whose call failed with `fault`:
+-- memory if an allocation of the call failed, and otherwise `cause`.
 abbrev pub cause_of : Refused → OsFault → Refused
 cause_of cause Failed = cause
 cause_of cause (Memory refusal) = NoMemory
@@ -47,7 +47,8 @@ work_ask p = record { call = MakeDir p.work; cause = Directory }
 abbrev pub child_asks : SpawnPlan → List Ask
 child_asks p = open_ask p p.out ∷ open_ask p p.err ∷ spawn_ask p ∷ []
 
--- `new_attempt_asks p`: the call that creates the work directory, and the calls of `child_asks`.
+-- `new_attempt_asks p`: the calls that create the work directory of the plan `p`, open its two
+-- output files and spawn its child.
 abbrev pub new_attempt_asks : SpawnPlan → List Ask
 new_attempt_asks p = work_ask p ∷ child_asks p
 

@@ -7,12 +7,12 @@ use Rattle.kt_child.specs.System.Moments.{moment_of}
 use Rattle.kt_child.specs.Ending.Reads.{bytes_of}
 use Rattle.kt_child.specs.Ending.Gathering.{Gathers}
 
--- `out_of role paths`: the file for the standard output of a child in `role`.
+-- `out_of role paths`: the file among `paths` for the standard output of a child in `role`.
 abbrev pub out_of : Role → Paths → List ℕ
 out_of Body paths = paths.out
 out_of Cleanup paths = paths.cleanup_out
 
--- `err_of role paths`: the file for the standard error of a child in `role`.
+-- `err_of role paths`: the file among `paths` for the standard error of a child in `role`.
 abbrev pub err_of : Role → Paths → List ℕ
 err_of Body paths = paths.err
 err_of Cleanup paths = paths.cleanup_err
@@ -21,7 +21,8 @@ err_of Cleanup paths = paths.cleanup_err
 abbrev pub is_over : CaseAttempt → Bool
 is_over c = if same_role c.role Body && c.cleanup then false else true
 
--- `Removes removed dir calls`: `calls` remove `dir` if `removed` is `true`, and otherwise are none.
+-- `Removes removed dir calls`: `calls` remove the directory `dir` if `removed` is `true`. Otherwise
+-- there are no calls.
 abbrev pub Removes : Bool → List ℕ → List Call → Type 0
 Removes true dir calls = (done : Bool) × (calls ≡ RemoveTree dir done ∷ [])
 Removes false dir calls = calls ≡ []

@@ -18,7 +18,7 @@ use Rattle.kt_child.specs.declared.ending.ReadEnd.TheVariants.{Missing, Unreadab
 use Rattle.kt_child.specs.Ending.Parts.{Reads}
 
 -- `IsClaim end bytes found`: `found` is the claim of a result file with the bytes `bytes`, if its
--- read ended as `end`. If an allocation fails, the file counts as unreadable.
+-- read had the end `end`. If an allocation fails, the file counts as unreadable.
 abbrev pub IsClaim : ReadEnd → List ℕ → Claim → Type 0
 IsClaim Missing bytes found = found ≡ claim.Missing
 IsClaim Unreadable bytes found = found ≡ claim.Unreadable
@@ -26,24 +26,25 @@ IsClaim TooLong bytes found = found ≡ claim.Malformed claim_fault.TooLong
 IsClaim Complete bytes found = (found ≡ claim.Unreadable) ⊎ IsClaimOf bytes found
 
 -- `IsTap end bytes found`: `found` is the meaning of an output with the bytes `bytes` as a TAP
--- stream, if its read ended as `end`. If an allocation fails, the output counts as unreadable.
+-- stream, if its read had the end `end`. If an allocation fails, the output counts as unreadable.
 abbrev pub IsTap : ReadEnd → List ℕ → Tap → Type 0
 IsTap TooLong bytes found = found ≡ tap.Invalid tap_fault.TooLong
 IsTap Complete bytes found = (found ≡ tap.Invalid tap_fault.Unreadable) ⊎ (found ≡ tap_of bytes)
 IsTap end bytes found = found ≡ tap.Invalid tap_fault.Unreadable
 
 -- `ReadsClaim path calls found`: `calls` read the result file at `path`, at most 65,536 bytes in
--- parts of 4,096, and `found` is its claim.
+-- parts of 4,096 bytes, and `found` is its claim.
 abbrev pub ReadsClaim : List ℕ → List Call → Claim → Type 0
 ReadsClaim path calls found = (end : ReadEnd) × (bytes : List ℕ) × Reads path 4096 65536 [] calls end bytes × IsClaim end bytes found
 
 -- `ReadsTap path calls found`: `calls` read the output at `path`, at most 16,777,216 bytes in parts
--- of 65,536, and `found` is its meaning as a TAP stream.
+-- of 65,536 bytes, and `found` is its meaning as a TAP stream.
 abbrev pub ReadsTap : List ℕ → List Call → Tap → Type 0
 ReadsTap path calls found = (end : ReadEnd) × (bytes : List ℕ) × Reads path 65536 16777216 [] calls end bytes × IsTap end bytes found
 
--- `Gathers interface role paths calls left`: `calls` read the evidence `left`: the result file of
--- an ATF body, or the output of a TAP body. There are no calls for other children.
+-- `Gathers interface role paths calls left`: `calls` read the evidence `left` of a child in `role`,
+-- whose program has the interface `interface`. It is the result file of an ATF body, or the output
+-- of a TAP body, at `paths`. For other children there are no calls.
 abbrev pub Gathers : Interface → Role → Paths → List Call → Evidence → Type 0
 Gathers kind Cleanup paths calls left = (calls ≡ []) × (left ≡ evidence.Plain)
 Gathers interface.Atf Body paths calls left = (found : Claim) × ReadsClaim paths.result calls found × (left ≡ evidence.Atf found)

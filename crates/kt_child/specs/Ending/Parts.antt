@@ -12,17 +12,17 @@ use Rattle.kt_child.specs.System.Calls.{Call, ReadPart}
 abbrev pub next_part : List ℕ → ℕ → ℕ → ℕ → Result FileRead OsFault → Call
 next_part path part limit got answer = ReadPart path got (min part (limit - got)) answer
 
--- `end_of limit got read`: how the read of a file ends with `read`, the result for the part after
--- `got` bytes, or `None` if another part must be read. At most `limit` bytes are read.
+-- `end_of limit got read`: the end of the read of a file whose part after `got` bytes is `read`, or
+-- `None` if another part must be read. At most `limit` bytes are read.
 abbrev pub end_of : ℕ → ℕ → FileRead → Option ReadEnd
 end_of limit got NoFile = Some (if got == 0 then Missing else Unreadable)
 end_of limit got (Part bytes false) = Some Complete
 end_of limit got (Part [] true) = Some Unreadable
 end_of limit got (Part (b ∷ bytes) true) = if leb limit (got + length (b ∷ bytes)) then Some TooLong else None
 
--- `IsEnd limit got result end`: `end` is how the read of a file ends with the part after `got`
--- bytes, whose read returned `result` (`end_of`). If that read fails, or the allocation for its
--- bytes, the end is `Unreadable`. Nothing else allocates.
+-- `IsEnd limit got result end`: `end` is the end of the read of a file (`end_of`), if the read of
+-- the part after `got` bytes returned `result`. At most `limit` bytes are read. If the read of the
+-- part fails, or the allocation for its bytes, the end is `Unreadable`. Nothing else allocates.
 abbrev pub IsEnd : ℕ → ℕ → Result FileRead OsFault → Option ReadEnd → Type 0
 IsEnd limit got (Err fault) end = end ≡ Some Unreadable
 IsEnd limit got (Ok NoFile) end = end ≡ end_of limit got NoFile
@@ -30,8 +30,8 @@ IsEnd limit got (Ok (Part bytes follows)) end =
     ((0 < length bytes) × (end ≡ Some Unreadable)) ⊎ (end ≡ end_of limit got (Part bytes follows))
 
 -- `Reads path part limit got calls end bytes`: `calls` read the file at `path` after the bytes
--- `got`, in parts of at most `part` bytes, up to `limit` bytes in all. `end` is how the read ends,
--- and `bytes` are `got` and all bytes that `calls` read.
+-- `got`, in parts of at most `part` bytes, up to `limit` bytes in all. `end` is the end of the
+-- read, and `bytes` are `got` and all bytes that `calls` read.
 pub data Reads (path : List ℕ) (part limit : ℕ) : List ℕ → List Call → ReadEnd → List ℕ → Type 0 where
   last : (got : List ℕ) (answer : Result FileRead OsFault) (end : ReadEnd) → IsEnd limit (length got) answer (Some end)
       → Reads path part limit got (next_part path part limit (length got) answer ∷ []) end (got ++ bytes_of answer)

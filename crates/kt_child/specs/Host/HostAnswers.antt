@@ -27,7 +27,7 @@ abbrev pub IsHostRead : ℕ → Result FileRead OsFault → Type 0
 IsHostRead limit answer = IsReadWithin limit answer × IsFilled limit answer × IsMissingByError answer
 
 -- `IsFront limit xs result`: `result` of a read has the first `limit` of the file's remaining bytes
--- `xs`, and whether more follow. It is not `Missing`. The read may fail.
+-- `xs`, and whether more follow. The read may fail, but its result is not `Missing`.
 abbrev pub IsFront : ℕ → List ℕ → Result FileRead OsFault → Type 0
 IsFront limit xs (Err _) = Unit {0}
 IsFront limit xs (Ok Missing) = ⊥
@@ -67,7 +67,7 @@ ReportsEnd child old answer new IsLast =
 -- `HostPolls child old answer new IsLast late`: a poll of `child` may return `answer`, and the
 -- states of the children go from `old` to `new`. A child is reported as running only if it has a
 -- process. Unless some child was polled late (`late`), no end of that process was found. A failed
--- poll may remove the child.
+-- poll may remove the child. `IsLast` is true of the child and status of the last reported end.
 abbrev pub HostPolls : Child → (Child → ProcessState) → Result Polled OsFault → (Child → ProcessState) → (Child → ExitStatus → Type 0) → Option Bool → Type 0
 HostPolls child old (Ok Running) new IsLast late = IsSome (old child) × (late ≢ Some true → old child ≡ Some None) × AllStay old new
 HostPolls child old (Err fault) new IsLast late = (Proceeds (old child) (new child) ⊎ (new child ≡ None)) × OthersStay child old new
@@ -75,9 +75,9 @@ HostPolls child old answer new IsLast late = ReportsEnd child old answer new IsL
 
 -- `HostLeads old call new IsLast late`: `call` may take the children from the states `old` to
 -- `new`. `IsLast` is true of the child and status of the last reported end. `late` is the result of
--- the last check whether some child is polled late. A child whose output is opened has no process,
--- and a failed start leaves no process. Only a child with a process is killed, and a pause may find
--- ends. Times are not specified, nor is the success of other calls.
+-- the last check for late children. A child whose output is opened has no process, and a failed
+-- start leaves no process. Only a child with a process is killed, and a pause may find ends. Times
+-- are not specified, nor is the success of other calls.
 abbrev pub HostLeads : (Child → ProcessState) → Call → (Child → ProcessState) → (Child → ExitStatus → Type 0) → Option Bool → Type 0
 HostLeads old (OpenOutput child path answer) new IsLast late = (new child ≡ None) × OthersStay child old new
 HostLeads old (Spawn child program words env dir (Ok done)) new IsLast late = IsSome (new child) × OthersStay child old new
@@ -89,7 +89,8 @@ HostLeads old (ReadFile path limit answer) new IsLast late = IsHostRead limit an
 HostLeads old (ReadPart path from limit answer) new IsLast late = IsHostRead limit answer × AllStay old new
 HostLeads old call new IsLast late = AllStay old new
 
--- `limit_after call old`: the timeout of the next child after `call`, as it was last set.
+-- `limit_after call old`: the timeout of the next child in seconds, as set last: by `call`, or else
+-- `old`.
 abbrev pub limit_after : Call → ℕ → ℕ
 limit_after (SetLimit child limit) old = limit
 limit_after call old = old

@@ -39,14 +39,15 @@ Proceeds None new = new ≡ None
 Proceeds (Some None) new = IsSome new
 Proceeds (Some (Some status)) new = new ≡ Some (Some status)
 
--- `AllProceed old new`: the state of each child stays, or a process without a known end gets one.
+-- `AllProceed old new`: from `old` to `new`, the state of each child stays, or a process without a
+-- known end gets one.
 abbrev pub AllProceed : (Child → ProcessState) → (Child → ProcessState) → Type 0
 AllProceed old new = (c : Child) → Proceeds (old c) (new c)
 
--- `AllStay old new`: the state of each child is unchanged.
+-- `AllStay old new`: each child has the same state in `old` and `new`.
 abbrev pub AllStay : (Child → ProcessState) → (Child → ProcessState) → Type 0
 AllStay old new = (c : Child) → new c ≡ old c
 
--- `OthersStay child old new`: the state of each child but `child` is unchanged.
+-- `OthersStay child old new`: each child but `child` has the same state in `old` and `new`.
 abbrev pub OthersStay : Child → (Child → ProcessState) → (Child → ProcessState) → Type 0
 OthersStay child old new = (c : Child) → same_child child c ≡ false → new c ≡ old c

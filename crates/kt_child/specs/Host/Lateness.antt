@@ -21,17 +21,17 @@ IsLateAt now h =
     × IsSomeAnd h.pace.started (λ start. IsLate h.pace.limit h.pace.answers ((instant_nanos now - instant_nanos start) / 1000000))
 
 module _ {P I O E : Type 0} (held : List (Child × HostChild P I O E)) where
-  -- `IsAnyLate now`: one of the children is polled late at `now`.
+  -- `IsAnyLate now`: one of the children `held` is polled late at `now`.
   abbrev pub IsAnyLate : Instant → Type 0
   IsAnyLate now = (place : ℕ) × IsSomeAnd (slice_get (values_of held) place) (IsLateAt now)
 
-  -- `IsLateCheck time late`: `late` is the result of a check for late children at `time`: whether there is
-  -- one. It is `false` if the clock fails.
+  -- `IsLateCheck time late`: `late` is the result of a check at `time` for late children: `true` if
+  -- one of the children `held` is polled late. It is `false` if the clock fails.
   abbrev pub IsLateCheck : Result Instant Error → Bool → Type 0
   IsLateCheck (Ok now) late = IsTrue late ↔ IsAnyLate now
   IsLateCheck (Err error) late = late ≡ false
 
-  -- `UpdatesLateCheck old new`: the stored result `old` of the last check for late children becomes `new`: it
-  -- is kept, cleared, or replaced by that of a new check.
+  -- `UpdatesLateCheck old new`: the stored result `old` of the last check for late children among
+  -- `held` becomes `new`: it is kept, cleared, or replaced by that of a new check.
   abbrev pub UpdatesLateCheck : Option Bool → Option Bool → Type 0
   UpdatesLateCheck old new = (new ≡ old) ⊎ (new ≡ None) ⊎ ((late : Bool) × (new ≡ Some late) × (time : Result Instant Error) × IsLateCheck time late)

@@ -3,9 +3,10 @@ use Rattle.std.specs.Prelude.{map, ℕ, ◌==◌, Bool, true, false, ◌≡◌, 
 use Rattle.kt_child.specs.Types.{CaseAttempt, Refused as RefusedFor, StartAnswer, Started as StartedAt, PollCounts, RunningChild}
 use Rattle.kt_child.specs.Driving.ChildrenState.{ChildrenState, cases_of}
 
--- `IsShort killed limit before after`: a child with these poll counts is still running. If it was
--- killed, `after` is less than 500. Otherwise `before` is less than 100 for each second of `limit`,
--- and `after` is 0.
+-- `IsShort killed limit before after`: a child that a poll reported as running `before` times
+-- before a kill and `after` times after it is still running. If it was killed (`killed`), `after`
+-- is less than 500. Otherwise `before` is less than 100 for each second of `limit`, and `after` is
+-- 0.
 abbrev pub IsShort : Bool → ℕ → ℕ → ℕ → Type 0
 IsShort true limit before after = after < 500
 IsShort false limit before after = (before < 100 * limit) × (after ≡ 0)
@@ -43,7 +44,7 @@ times n (m ∷ numbers) = one_if (n == m) + times n numbers
 abbrev pub count_at : ℕ → List CaseAttempt → ℕ
 count_at i cases = times i (map (λ c. c.position) cases)
 
--- `count_in i b`: the number of cases at the position `i` with a running child or a pending
+-- `count_in i b`: the number of cases of `b` at the position `i`, with a running child or a pending
 -- cleanup.
 abbrev pub count_in : ℕ → ChildrenState → ℕ
 count_in i b = count_at i (cases_of b.children) + count_at i b.pending

@@ -10,33 +10,33 @@ use Rattle.std.specs.declared.process.command.Command.{Command}
 use Rattle.kt_base.specs.Utf8.{utf8}
 use Rattle.kt_child.specs.Host.HostStands.{ProcessState}
 
--- `IsUnopened kind result`: `result` of a read of a file that could not be opened is `Missing` if
--- the error has the kind `NotFound`. For another `kind` it is an error.
+-- `IsUnopened kind result`: `result` is that of a read of a file that could not be opened, by an
+-- error of the kind `kind`. It is `Missing` if the kind is `NotFound`, and otherwise an error.
 abbrev pub IsUnopened : ErrorKind → Result FileRead OsFault → Type 0
 IsUnopened kind (Err _) = kind ≢ NotFound
 IsUnopened kind (Ok Missing) = kind ≡ NotFound
 IsUnopened kind (Ok (Part bytes follows)) = ⊥
 
--- `IsFaultOf kind fault`: `fault` for an I/O error of this `kind` is `Memory` if the kind is
--- `OutOfMemory`, and otherwise `Failed`.
+-- `IsFaultOf kind fault`: `fault` represents an I/O error of the kind `kind`. It is `Memory` if the
+-- kind is `OutOfMemory`, and otherwise `Failed`.
 abbrev pub IsFaultOf : ErrorKind → OsFault → Type 0
 IsFaultOf kind Failed = kind ≢ OutOfMemory
 IsFaultOf kind (Memory refusal) = kind ≡ OutOfMemory
 
--- `after_removed names name said`: the setting of the variable `name` in a command, which was
--- `said`, after `names` were removed.
+-- `after_removed names name said`: the setting of the variable `name` in a command, after the
+-- variables `names` were removed. `said` is its setting before.
 abbrev pub after_removed : List (List ℕ) → List ℕ → Option (Option (List ℕ)) → Option (Option (List ℕ))
 after_removed [] name said = said
 after_removed (gone ∷ names) name said = after_removed names name (if bytes_eq (utf8 gone) name then Some None else said)
 
--- `after_set variables name said`: the setting of the variable `name` in a command, which was
--- `said`, after `variables` were set. The last value of a name counts.
+-- `after_set variables name said`: the setting of the variable `name` in a command, after
+-- `variables` were set. `said` is its setting before. The last value of a name counts.
 abbrev pub after_set : List Variable → List ℕ → Option (Option (List ℕ)) → Option (Option (List ℕ))
 after_set [] name said = said
 after_set (v ∷ variables) name said = after_set variables name (if bytes_eq (utf8 v.name) name then Some (Some (utf8 v.value)) else said)
 
--- `IsCommandOf path words env work command`: `command` starts the program `path` with these
--- arguments, environment and working directory.
+-- `IsCommandOf path words env work command`: `command` starts the program `path` with the arguments
+-- `words`, the environment plan `env` and the working directory `work`.
 pub record IsCommandOf {A : Type 0} (path : List ℕ) (words : List (List ℕ)) (env : EnvPlan) (work : List ℕ) (command : Command A) : Type 0 where
   pub program : command_program command ≡ utf8 path
   pub args : command_args command ≡ map utf8 words
@@ -44,19 +44,19 @@ pub record IsCommandOf {A : Type 0} (path : List ℕ) (words : List (List ℕ)) 
   pub variables : (name : List ℕ) → command_var command name ≡ after_set env.set name (after_removed env.removed name None)
   pub dir : command_dir command ≡ Some (utf8 work)
 
--- `IsAt from old new`: a seek to the byte `from` takes the position of a file, if `old` is known,
--- to `new`. If `from` is 0, there is no seek, and `new` is not specified.
+-- `IsAt from old new`: a seek to the byte `from` takes the position of a file from `old`, if that
+-- is known, to `new`. If `from` is 0, there is no seek, and `new` is not specified.
 abbrev pub IsAt : ℕ → Option ℕ → Option ℕ → Type 0
 IsAt from old new = 0 < from → IfSome old (λ position. new ≡ Some from)
 
--- `IsEarly limit answers millis`: a `Running` response after `answers` others is too early at
--- `millis` milliseconds. Of the 100 responses for each second of `limit`, the first half may come
--- at any speed. The others are spread over the timeout.
+-- `IsEarly limit answers millis`: a `Running` response after `answers` others is too early,
+-- `millis` milliseconds after the start. Of the 100 responses for each second of the timeout
+-- `limit`, the first half may come at any speed. The others are spread over the timeout.
 abbrev pub IsEarly : ℕ → ℕ → ℕ → Type 0
 IsEarly limit answers millis = 1000 * limit + millis < 20 * (answers + 1)
 
--- `IsFree limit answers`: the next `Running` response is in the first half of the timeout's
--- responses.
+-- `IsFree limit answers`: after `answers` `Running` responses, the next one is in the first half of
+-- the responses of the timeout `limit`, which has 100 for each second.
 abbrev pub IsFree : ℕ → ℕ → Type 0
 IsFree limit answers = answers + 1 ≤ 50 * limit
 
@@ -67,10 +67,10 @@ abbrev pub whole_slice : ℕ → ℕ → ℕ
 whole_slice children since =
     max (max (min (50 + since / 16) 350) (14 * (min children 512 - 8))) (since * (min children 512 + 4) / 384)
 
--- `next_slice children pauses micros`: the length of the next slice of a pause, in microseconds.
--- `micros` of the pause have passed, and `pauses` pauses before it. The length is `whole_slice` for
--- at most eight children. It is at least 3 for each child after the eighth, and at most the rest of
--- the pause of 10,000.
+-- `next_slice children pauses micros`: the length of the next slice of a pause for `children`
+-- children, in microseconds. `micros` of the pause have passed, and `pauses` pauses before it. The
+-- length is `whole_slice` for at most eight children. It is at least 3 for each child after the
+-- eighth, and at most the rest of the pause of 10,000.
 abbrev pub next_slice : ℕ → ℕ → ℕ → ℕ
 next_slice children pauses micros =
     min (max (whole_slice (min children 8) (10000 * pauses + micros)) (3 * (min children 512 - 8))) (10000 - micros)

@@ -12,7 +12,8 @@ child_of c = record { attempt = c.attempt; role = c.role }
 abbrev pub attempt_dir : List ℕ → ℕ → List ℕ
 attempt_dir root number = root ++ codes "/" ++ decimal number
 
--- `below root number name`: the path of `name` in the directory of the attempt `number`.
+-- `below root number name`: the path of `name` in the directory of the attempt `number` below
+-- `root`.
 abbrev pub below : List ℕ → ℕ → List ℕ → List ℕ
 below root number name = attempt_dir root number ++ codes "/" ++ name
 
@@ -33,9 +34,10 @@ paths_of root number =
 abbrev pub variable_argument : Variable → List ℕ
 variable_argument v = codes "-v" ++ v.name ++ codes "=" ++ v.value
 
--- `words_of interface want result source variables case_name`: the arguments of a program that is
--- started for `want`. `result` is the path of the result file, and `source` the directory of the
--- program.
+-- `words_of interface want result source variables case_name`: the arguments of a program with the
+-- interface `interface` that is started for `want`. `result` is the path of the result file,
+-- `source` the directory of the program, `variables` are those of its suite, and `case_name` is the
+-- name of the case.
 abbrev pub words_of : Interface → Want → List ℕ → List ℕ → List Variable → List ℕ → List (List ℕ)
 words_of Atf Listing result source variables case_name = map variable_argument variables ++ codes "-l" ∷ []
 words_of Atf Body result source variables case_name =
@@ -70,8 +72,8 @@ abbrev pub own_variables : Interface → List Variable → List Variable
 own_variables Atf variables = variable (codes "__RUNNING_INSIDE_ATF_RUN") (codes "internal-yes-value") ∷ []
 own_variables interface variables = map test_variable variables
 
--- `env_of interface variables work`: the environment plan of a child, by its interface, its suite's
--- variables and its work directory.
+-- `env_of interface variables work`: the environment plan of a child of a program with the
+-- interface `interface`. `variables` are those of its suite, and `work` is its work directory.
 abbrev pub env_of : Interface → List Variable → List ℕ → EnvPlan
 env_of interface variables work =
     record { removed = removed_names; set = common_variables work ++ own_variables interface variables }

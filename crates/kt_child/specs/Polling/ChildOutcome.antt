@@ -12,15 +12,16 @@ pub data ChildResponse : Type 0 where
 abbrev pub running : ChildResponse
 running = PollResponse (Ok Running)
 
--- `outcome_of state`: the outcome of a polled state, or `None` if the child is running.
+-- `outcome_of state`: the outcome of a child that a poll reports in the state `state`, or `None` if
+-- the child is running.
 abbrev pub outcome_of : Polled → Option Outcome
 outcome_of Running = None
 outcome_of (PolledExit code) = Some (Exited code)
 outcome_of (PolledSignal signal core) = Some (Signaled signal core)
 
--- `YieldsAfterKill left heard outcome`: the responses `heard` after a kill give `outcome`. An exit
--- or a signal gives a timeout. A failed poll, or the `left`-th `running` response, gives a failed
--- wait.
+-- `YieldsAfterKill left heard outcome`: the responses `heard` after a kill, of which at most `left`
+-- are `running`, give `outcome`. An exit or a signal gives a timeout. A failed poll, or the
+-- `left`-th `running` response, gives a failed wait.
 abbrev pub YieldsAfterKill : ℕ → List ChildResponse → Outcome → Type 0
 YieldsAfterKill left heard outcome =
     ((k : ℕ) × (s : Polled) × (x : Outcome) × (k < left) × (outcome_of s ≡ Some x)
@@ -29,9 +30,10 @@ YieldsAfterKill left heard outcome =
     ⊎ ((k : ℕ) × (f : OsFault) × (done : Bool) × (k < left)
     × (heard ≡ replicate k running ++ PollResponse (Err f) ∷ KillResponse done ∷ []) × (outcome ≡ WaitFailed))
 
--- `YieldsWithin left heard outcome`: the responses `heard` before a kill give `outcome`. The
--- `left`-th `running` response is followed by a kill. A failed poll or a failed kill gives a failed
--- wait.
+-- `YieldsWithin left heard outcome`: the responses `heard` of a child that may have `left`
+-- `running` responses before a kill give `outcome`. An exit or a signal before the kill is the
+-- outcome. After the `left`-th `running` response, the child is killed, and the responses after the
+-- kill give the outcome. A failed poll or a failed kill gives a failed wait.
 abbrev pub YieldsWithin : ℕ → List ChildResponse → Outcome → Type 0
 YieldsWithin left heard outcome =
     ((k : ℕ) × (s : Polled) × (k < left) × (outcome_of s ≡ Some outcome)

@@ -12,29 +12,29 @@ use Rattle.kt_child.specs.Polling.ChildOutcome.{ChildResponse, KillResponse, Pol
 abbrev pub is_due : ℕ → PollCounts → Bool
 is_due limit w = not w.killed && (w.before + 1 == 100 * limit)
 
--- `is_killed limit w result`: a poll with this result is followed by a kill. `limit` is the timeout
--- in seconds, and `w` has the poll counts before the poll.
+-- `is_killed limit w result`: a kill follows a poll with the result `result`. `limit` is the
+-- timeout in seconds, and `w` has the poll counts before the poll.
 abbrev pub is_killed : ℕ → PollCounts → Result Polled OsFault → Bool
 is_killed limit w (Err _) = true
 is_killed limit w (Ok Running) = is_due limit w
 is_killed limit w (Ok status) = false
 
--- `asked_by_poll child limit w answer done`: a poll of `child` with the result `answer`, and the
--- kill that may follow it, with the result `done`. `limit` is the timeout in seconds, and `w` has
--- the poll counts before the poll.
+-- `asked_by_poll child limit w answer done`: the calls of one poll of `child`: the poll with the
+-- result `answer`, and the kill that may follow it, with the result `done`. `limit` is the timeout
+-- in seconds, and `w` has the poll counts before the poll.
 abbrev pub asked_by_poll : Child → ℕ → PollCounts → Result Polled OsFault → Bool → List Call
 asked_by_poll child limit w answer done =
     if is_killed limit w answer then Poll child answer ∷ Kill child done ∷ [] else Poll child answer ∷ []
 
--- `poll_responses limit w answer done`: the responses of a child: `answer` to a poll, and `done` to the
--- kill that may follow it. `limit` is the timeout in seconds, and `w` has the poll counts before
--- the poll.
+-- `poll_responses limit w answer done`: the responses of a child to one poll: `answer` to the poll,
+-- and `done` to the kill that may follow it. `limit` is the timeout in seconds, and `w` has the
+-- poll counts before the poll.
 abbrev pub poll_responses : ℕ → PollCounts → Result Polled OsFault → Bool → List ChildResponse
 poll_responses limit w answer done = if is_killed limit w answer then PollResponse answer ∷ KillResponse done ∷ [] else PollResponse answer ∷ []
 
--- `after_poll limit w result done`: the child's state after a poll with this result. `done` is the
--- result of the kill, if there is one. `limit` is the timeout in seconds, and `w` has the poll
--- counts before the poll.
+-- `after_poll limit w result done`: the state of a child after a poll with the result `result`, and
+-- after the kill that may follow it, with the result `done`. `limit` is the timeout in seconds, and
+-- `w` has the poll counts before the poll.
 abbrev pub after_poll : ℕ → PollCounts → Result Polled OsFault → Bool → AfterPoll
 after_poll limit w (Err _) done = Ended WaitFailed
 after_poll limit w (Ok (PolledExit code)) done = Ended (if w.killed then TimedOut else Exited code)

@@ -11,13 +11,15 @@ use Rattle.kt_child.specs.Polling.ChildOutcome.{Yields, answered}
 abbrev pub advanced : RunningChild → RunningChild
 advanced k = record { case = k.case; limit = k.limit; watch = watch_after k.limit k.watch }
 
--- `advanced_below n children`: `children` after one more `Running` response of the first `n`.
+-- `advanced_below n children`: the children `children` after one more `Running` response of each of
+-- the first `n`.
 abbrev pub advanced_below : ℕ → List RunningChild → List RunningChild
 advanced_below zero children = children
 advanced_below (suc n) [] = []
 advanced_below (suc n) (k ∷ children) = advanced k ∷ advanced_below n children
 
--- `PolledAll children calls`: `calls` poll each child once, in order, and none has finished.
+-- `PolledAll children calls`: `calls` poll each child of `children` once, in order, and none has
+-- finished.
 abbrev pub PolledAll : List RunningChild → List Call → Type 0
 PolledAll [] calls = calls ≡ []
 PolledAll (k ∷ children) calls =
@@ -36,16 +38,16 @@ PolledLast (Some k) calls outcome =
     × (after_poll k.limit k.watch answer done ≡ Ended outcome)
     × Yields k.limit (answered k.limit k.watch ++ poll_responses k.limit k.watch answer done) outcome
 
--- `PolledUntil children i calls outcome`: `calls` poll the children up to the one at index `i`,
--- which is the first that has finished.
+-- `PolledUntil children i calls outcome`: `calls` poll `children` in order, up to the child at
+-- index `i`. It is the first that has finished, with `outcome`.
 abbrev pub PolledUntil : List RunningChild → ℕ → List Call → Outcome → Type 0
 PolledUntil children i calls outcome =
     (before : List Call) × (last : List Call) × (calls ≡ before ++ last)
     × PolledAll (take i children) before × PolledLast (slice_get children i) last outcome
 
--- `WaitedOn children calls place outcome after`: `calls` are turns of polls without a finished
--- child, each with a pause, and a last turn. In it, the child at index `place` finishes with
--- `outcome`. `after` are the children after these polls.
+-- `WaitedOn children calls place outcome after`: `calls` poll `children` in turns until one has
+-- finished. A pause follows each turn without a finished child. In the last turn, the child at
+-- index `place` finishes with `outcome`. `after` are the children after these polls.
 pub data WaitedOn : List RunningChild → List Call → ℕ → Outcome → List RunningChild → Type 0 where
   last_turn : (children : List RunningChild) (calls : List Call) (place : ℕ) (outcome : Outcome)
       → PolledUntil children place calls outcome → WaitedOn children calls place outcome (advanced_below place children)

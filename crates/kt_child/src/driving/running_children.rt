@@ -19,7 +19,7 @@ use std::alloc::Global;
 use std::marker::Model;
 
 /// A list of the running children, in the order of their start, and a list of the cases with a
-/// pending cleanup. The second has spare capacity for the cases of all running children.
+/// pending cleanup. The second list has spare capacity for the cases of all running children.
 #[derive(Drop)]
 pub(crate) struct RunningChildren {
     /// The running children, in the order of their start.

@@ -109,16 +109,16 @@ pub(crate) fn spawning(
     })
 }
 
-/// Returns `Refused::Memory`, the cause of a start for which an allocation failed. No other
-/// function of this crate creates that cause.
+/// Returns `Refused::Memory`, the cause of the refusal of a start for which an allocation failed.
+/// No other function of this crate creates that cause.
 pub(crate) fn memory_refusal(_refusal: NoMemory) -> Refused
     ensures { result ≡ Refused.Memory }
 {
     Refused::Memory
 }
 
-/// Returns the cause of a start that is refused after a failed call: `Memory` if an allocation of
-/// the call failed, and otherwise `cause`.
+/// Returns the cause of the refusal of a start whose call failed with `fault`: `Memory` if an
+/// allocation of the call failed, and otherwise `cause`.
 fn cause_of(cause: Refused, fault: OsFault) -> Refused
     ensures { result ≡ cause_of cause fault }
 {

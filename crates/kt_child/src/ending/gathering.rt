@@ -20,8 +20,9 @@ const STREAM_PART: u64 = 65_536;
 /// The greatest size of a TAP stream, in bytes (this profile).
 const STREAM_LIMIT: u64 = 16_777_216;
 
-/// Reads the result file of an ATF body and returns its claim. Returns `Unreadable` if a read or an
-/// allocation fails, and a malformed claim if the file has more than 65,536 bytes.
+/// Reads the result file of an ATF body and returns its claim. Returns `Missing` if there is no
+/// file, `Unreadable` if a read or an allocation fails, and a malformed claim if the file has more
+/// than 65,536 bytes.
 fn read_claim<O: Os>(alloc: Global, os: &mut O, path: &Text) -> Claim
     ensures { (calls : List Call) × Chain O.leads os.old calls os.new
         × ReadsClaim path.now calls result }

@@ -43,8 +43,8 @@ impl PartReader for TapReader {
     }
 }
 
-/// Reads the next part of a file, at most `part` bytes, feeds it to the reader and adds its length
-/// to `got`. Returns how the read of the file ends, or `None` if more parts follow.
+/// Reads the next part of a file, at most `part` bytes, and feeds it to the reader. Returns the end
+/// of the read, or adds the part's length to `got` and returns `None` if more parts follow.
 fn read_next<O: Os, R: PartReader>(
     os: &mut O,
     path: &Text,
@@ -89,7 +89,7 @@ fn read_next<O: Os, R: PartReader>(
     }
 }
 
-/// Feeds a file to a new reader, in parts of at most `part` bytes, and returns how the read ends.
+/// Feeds a file to a new reader, in parts of at most `part` bytes, and returns the end of the read.
 /// At most `limit` bytes are read.
 pub(crate) fn read_in_parts<O: Os, R: PartReader>(
     os: &mut O,

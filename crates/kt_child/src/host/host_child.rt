@@ -115,7 +115,7 @@ impl<P: OpenProcess + Drop> HostChild<P> {
     /// Returns the exit status of the child, or `None` if it is running.
     ///
     /// Once the child has ended, later calls return the same status. Fails if the child was not
-    /// started.
+    /// started or can't be waited for.
     fn status(&mut self) -> Result<Option<ExitStatus>, OsFault>
         ensures proceeds { Proceeds (process_state self.old) (process_state self.new) }
         ensures stands { IfOk result (λ status. process_state self.new ≡ Some status) }

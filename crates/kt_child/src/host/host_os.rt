@@ -16,7 +16,7 @@ use std::process::{ExitStatus, Processes};
 use std::rt::{Clock, Files};
 use std::time::SystemTime;
 
-/// The number of turns without an end from one check for late children to the next.
+/// The number of turns without an end between two checks for late children.
 const TURNS_OF_A_LOOK: u32 = 8;
 
 /// An `Os` of the host, with the processes, files and clocks of the standard library.
@@ -27,8 +27,8 @@ const TURNS_OF_A_LOOK: u32 = 8;
 /// and in later removals.
 ///
 /// An end is reported only for a child with a process, by the wait status of that process. The
-/// environment of a child is the runner's environment with the changes of its plan. A read starts
-/// at one position of a file and ends at its limit or its first error.
+/// environment of a child is the runner's environment with the changes of its plan. A read begins
+/// at its position in the file, and ends at its limit or at its first error.
 #[derive(Drop)]
 pub struct HostOs<R: Processes, B> {
     /// The runtime handle, which gives access to processes, files and clocks.

@@ -105,8 +105,8 @@ fn create_first<R: Files>(rt: &R, path: &str) -> io::Result<Rights> {
 }
 
 /// Creates the directory to which removals move other directories, with the mode 0700, and returns
-/// `rights`. If root owns the root directory, `narrow` is set anew: for permissions of other users,
-/// too.
+/// `rights`. If root owns the root directory, the returned `narrow` also covers the permissions of
+/// other users.
 fn create_place<R: Files>(rt: &R, place: &str, rights: Rights) -> io::Result<Rights> {
     if !rights.of_root {
         create_with(rt, place, PRIVATE_MODE, rights.narrow)?;

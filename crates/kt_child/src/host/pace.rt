@@ -31,7 +31,7 @@ fn whole_slice(children: usize, since: u64) -> u64
 pub(crate) const NEWEST: usize = 8;
 
 /// Returns the length of the next slice of a pause, in microseconds. `micros` is the part of the
-/// pause that has passed, and `pauses` the number of pauses since the last end.
+/// pause that has passed, in microseconds, and `pauses` the number of pauses since the last end.
 pub(crate) fn slice_after(children: usize, pauses: u32, micros: u64) -> u64
     requires { micros ≤ 10000 }
     ensures value { result ≡ next_slice children pauses micros }
@@ -47,8 +47,8 @@ pub(crate) fn slice_after(children: usize, pauses: u32, micros: u64) -> u64
 
 /// Returns `true` if it is time to check all children for an end.
 ///
-/// `micros` is the part of the pause that has passed, in microseconds. `unlooked` is the part since
-/// the last check of all children, and `pauses` the number of pauses since the last end.
+/// `micros` is the part of the pause that has passed, and `unlooked` the part since the last check
+/// of all children, both in microseconds. `pauses` is the number of pauses since the last end.
 pub(crate) fn is_due(children: usize, pauses: u32, micros: u64, unlooked: u64) -> bool
     requires { micros ≤ 10000 }
     ensures { IsTrue result ↔ (whole_slice children (10000 * pauses + micros) ≤ unlooked) }
@@ -60,7 +60,7 @@ pub(crate) fn is_due(children: usize, pauses: u32, micros: u64, unlooked: u64) -
 /// milliseconds.
 const PERIOD: u128 = 20;
 
-/// A measure of how fast a child is polled: its start time, its timeout and its `Running`
+/// A measure of the speed at which a child is polled: its start time, its timeout and its `Running`
 /// responses. These are the polls that reported it as running.
 #[derive(Clone, Copy)]
 pub(crate) struct Pace {

@@ -9,7 +9,7 @@ ghost use Rattle.kt_child.specs.declared.system.OsFault.TheVariants as fault;
 use kt_base::{Bytes, Items, NoMemory, Role, Text, Variables};
 use thiserror::Error;
 
-/// Errors returned by the methods of [`Os`]. No message prints them.
+/// Errors returned by the methods of [`Os`]. No command prints them.
 #[derive(Clone, Copy, Debug, Error)]
 pub enum OsFault {
     /// The call failed for a reason other than memory. The reason is not recorded.
