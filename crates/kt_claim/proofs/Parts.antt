@@ -9,7 +9,8 @@ decided (begun.Decided k) kept xs ys e = refl
 decided _ kept xs ys e = absurd (false≢true e)
 
 -- `TakesIn first state kept now part rest`: reading the bytes of `part` before `rest` leads from
--- the state `first` to `state`, with equal facts. No byte was kept: `now` is `kept`.
+-- the state `first` to `state`, with equal facts. `kept` and `now` are the kept bytes before and
+-- after, and are equal.
 abbrev pub TakesIn : LineProgress → LineProgress → List ℕ → List ℕ → List ℕ → List ℕ → Type 0
 TakesIn first state kept now part rest = KeepsFor first kept → (now ≡ kept) × KeepsFor state now × ((more : List ℕ) → facts_with first kept (part ++ more) ≡ facts_with state now (rest ++ more))
 

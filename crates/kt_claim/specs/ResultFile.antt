@@ -25,13 +25,13 @@ IsReason reason = (0 < length reason) × (list_any is_newline reason ≡ false)
 abbrev pub IsNumber : List ℕ → Type 0
 IsNumber digits = (0 < length digits) × (list_all is_digit digits ≡ true) × (number digits < 256)
 
--- `with_reason reason`: the bytes after a keyword without a number: a colon, a space, the reason
--- and the newline.
+-- `with_reason reason`: the bytes after a keyword without a number: a colon, a space, `reason` and
+-- a newline.
 abbrev pub with_reason : List ℕ → List ℕ
 with_reason reason = codes ": " ++ reason ++ newline
 
--- `with_number digits reason`: the bytes after a keyword with a number: the digits in round
--- brackets, and then `with_reason reason`.
+-- `with_number digits reason`: the bytes after a keyword with a number: `digits` in round brackets,
+-- and then `with_reason reason`.
 abbrev pub with_number : List ℕ → List ℕ → List ℕ
 with_number digits reason = codes "(" ++ digits ++ codes ")" ++ with_reason reason
 
@@ -124,7 +124,8 @@ fits file NoNewline = not (ends_with nat_eq file newline)
 fits file SeveralLines = list_any is_newline (line file)
 fits file fault = line_has_fault (word file) (after_word file) fault
 
--- `rows`: the errors in their order. A file has the first error that fits it.
+-- `rows`: the errors of result files, in the order in which they are checked. A file has the first
+-- error that fits it.
 abbrev pub rows : List ClaimFault
 rows = TooLong ∷ Empty ∷ NoNewline ∷ SeveralLines ∷ UnknownWord ∷ BadNumber ∷ UnexpectedReason ∷ NoReason ∷ []
 

@@ -72,7 +72,7 @@ abbrev pub is_gap : List ℕ → Bool
 is_gap [] = true
 is_gap (b ∷ rest) = is_blank b
 
--- `starts_with_word word line`: the line begins with `word`, and a blank or the end follows.
+-- `starts_with_word word line`: `line` begins with `word`, and a blank or the end follows.
 abbrev pub starts_with_word : List ℕ → List ℕ → Bool
 starts_with_word word line = begins word line && is_gap (drop (length word) line)
 
@@ -86,8 +86,8 @@ is_test line = starts_with_word (codes "ok") line || is_not_ok line
 
 -- ---- directives
 
--- `Directive`: true for a skip directive and false for a todo directive, and the bytes of the
--- reason.
+-- `Directive`: a directive: true for a skip directive or false for a todo directive, and the bytes
+-- of its reason.
 abbrev pub Directive : Type 0
 Directive = Bool × List ℕ
 
@@ -118,7 +118,7 @@ directive_in escaped (b ∷ rest) = option_or (state_after_hash escaped b rest) 
 abbrev pub directive : List ℕ → Option Directive
 directive line = directive_in false line
 
--- `is_unexcused line`: the line is a failed test without a directive.
+-- `is_unexcused line`: `line` is a failed test without a directive.
 abbrev pub is_unexcused : List ℕ → Bool
 is_unexcused line = is_not_ok line && not (is_some (directive line))
 
@@ -149,7 +149,7 @@ planned_from value text = if is_plan_end (past is_blank (past is_digit text)) th
 abbrev pub planned : List ℕ → Option ℕ
 planned line = if begins (codes "1..") line then planned_from None (drop 3 line) else None
 
--- `skips directive`: the reason of a skip directive, or no bytes without a skip directive.
+-- `skips directive`: the reason of `directive` if it is a skip directive, else no bytes.
 abbrev pub skips : Option Directive → List ℕ
 skips (Some (true, reason)) = reason
 skips _ = []
@@ -164,8 +164,7 @@ skip_reason (b ∷ reason) = lossy (b ∷ reason)
 abbrev pub why : ℕ → List ℕ → List ℕ
 why n reason = if n == 0 then skip_reason reason else []
 
--- `plan_for reason n`: a plan: the number `n` of tests, and the reason, which is `reason` if `n` is
--- 0.
+-- `plan_for reason n`: a plan of `n` tests with the reason `why n reason`.
 abbrev pub plan_for : List ℕ → ℕ → ℕ × List ℕ
 plan_for reason n = (n, why n reason)
 
@@ -175,7 +174,7 @@ plan line = option_map (plan_for (skips (directive line))) (planned line)
 
 -- ---- the stream
 
--- `heard lines`: the lines before the first bail out.
+-- `heard lines`: the lines among `lines` before the first bail out.
 abbrev pub heard : List (List ℕ) → List (List ℕ)
 heard [] = []
 heard (line ∷ lines) = if is_bail line then [] else line ∷ heard lines
@@ -193,14 +192,14 @@ compared planned reason tests failures =
     else if tests == 0 then SkipAll reason
     else Counted failures tests
 
--- `tap_of_plans plans tests failures`: the result of a stream without a bail out, by its plans and the
--- numbers of tests and failures.
+-- `tap_of_plans plans tests failures`: the result of a stream without a bail out that has the plans
+-- `plans`, `tests` tests, and `failures` failed tests without a directive.
 abbrev pub tap_of_plans : List (ℕ × List ℕ) → ℕ → ℕ → Tap
 tap_of_plans [] tests failures = Invalid NoPlan
 tap_of_plans ((planned, reason) ∷ []) tests failures = compared planned reason tests failures
 tap_of_plans (one ∷ other ∷ more) tests failures = Invalid SecondPlan
 
--- `tap_of_lines lines`: the result of the lines of a stream.
+-- `tap_of_lines lines`: the result of a stream of the lines `lines`.
 abbrev pub tap_of_lines : List (List ℕ) → Tap
 tap_of_lines lines =
     if list_any is_bail lines then BailedOut

@@ -53,7 +53,7 @@ pub enum LineProgress {
     Digits(Option<u64>),
     /// `1..`, the digits of a plan, and one or more blanks. The number is the value of the digits.
     Blanks(u64),
-    /// Bytes without a directive, which may follow. The flag is `true` if the last byte is a
+    /// Bytes without a directive; a directive may follow. The flag is `true` if the last byte is a
     /// backslash.
     Looking(DirectivePurpose, bool),
     /// A hash, and blanks if any. A directive may follow.

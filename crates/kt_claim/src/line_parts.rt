@@ -168,7 +168,7 @@ fn release(begun: LineProgress, kept: &mut Vec<u8>, held: bool) -> Result<LinePr
     }
 }
 
-/// Reads the next part of a TAP line, which contains no newline.
+/// Reads `part`, the next bytes of a TAP line, which contain no newline.
 ///
 /// A carriage return at the end of the part is held back, since it may be at the end of the line.
 ///

@@ -6,7 +6,7 @@ ghost use Rattle.kt_claim.specs.Common.{is_digit, is_blank, directive_in, planne
 use crate::begun::{DirectivePurpose, Letters, LineKind, LineProgress, Opening};
 use kt_base::is_digit;
 
-/// The least number of tests that a plan may not have: a line with this number is not a plan.
+/// The upper bound of the number of tests in a plan: a plan has fewer tests.
 pub const LIMIT: u64 = 1_000_000_000;
 
 /// Returns `true` for a space or a tab.

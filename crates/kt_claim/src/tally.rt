@@ -32,7 +32,8 @@ fn skip_reason(alloc: Global, reason: &[u8]) -> Result<Text, NoMemory>
     lossy(alloc, reason)
 }
 
-/// Returns the text of `reason` for a plan of no tests, or an empty text for any other plan.
+/// Returns the reason of a plan: for no tests, the text of `reason` or `No reason given`, and for
+/// any other plan an empty text.
 fn why(alloc: Global, tests: u64, reason: &[u8]) -> Result<Text, NoMemory>
     ensures { IfOk result (λ text. text ≡ why tests reason.now) }
 {

@@ -14,8 +14,8 @@ use Rattle.kt_claim.specs.declared.begun.Opening.TheVariants as opening
 use Rattle.kt_claim.specs.declared.begun.DirectivePurpose.{DirectivePurpose}
 use Rattle.kt_claim.specs.declared.begun.DirectivePurpose.TheVariants.{Excuse, Explain}
 
--- `Facts`: the facts of a line that affect the result of a stream. It may bail out, be a test, be a
--- failed test without a directive, and have a plan.
+-- `Facts`: the facts of a line that affect the result of a stream. A line may bail out, be a test,
+-- be a failed test without a directive, and have a plan.
 pub record Facts : Type 0 where
   pub bails : Bool
   pub tests : Bool
@@ -66,13 +66,14 @@ abbrev pub opened : Opening → Bool → List ℕ → Facts
 opened o false more = nothing
 opened o true more = after_opening o more
 
--- `directed purpose found`: the facts of a failed test (`Excuse`) or of a plan of no tests
--- (`Explain`) with the directive `found`, if any.
+-- `directed purpose found`: the facts of a line with the directive `found`, if any, by the purpose
+-- `purpose` of the search. The line is a failed test for `Excuse`, and a plan of no tests for
+-- `Explain`.
 abbrev pub directed : DirectivePurpose → Option Directive → Facts
 directed Excuse found = test_facts true (not (is_some found))
 directed Explain found = planning (Some (0, skip_reason (skips found)))
 
--- `lacking l`: the letters of a directive that are missing after the letters `l`.
+-- `lacking l`: the letters of a directive that are still missing after its first letters `l`.
 abbrev pub lacking : Letters → List ℕ
 lacking T = codes "odo"
 lacking To = codes "do"
@@ -145,19 +146,19 @@ pub record LineState : Type 0 where
   pub kept : List ℕ
   pub held : Bool
 
--- `IsStateAfter begun kept held came`: the state `begun`, `kept` and `held` gives the facts of a line of
--- which the bytes `came` were read, for any bytes that follow.
+-- `IsStateAfter begun kept held came`: `begun`, `kept` and `held` are the state after the bytes
+-- `came` of a line: they give the facts of the line for any bytes that follow.
 pub record IsStateAfter (begun : LineProgress) (kept : List ℕ) (held : Bool) (came : List ℕ) : Type 0 where
   pub keeps : KeepsFor begun kept
   pub tells : (more : List ℕ) → facts_of (without_return (came ++ more)) ≡ facts_with begun kept (without_return (with_held_return held more))
 
--- `IsStateMidLine begun kept came`: the state `begun` and `kept` gives the facts of a line of which the
--- bytes `came` were read, if more bytes follow. No carriage return is held back.
+-- `IsStateMidLine begun kept came`: `begun` and `kept` are the state after the bytes `came` of a
+-- line: they give the facts of the line if more bytes follow. No carriage return is held back.
 pub record IsStateMidLine (begun : LineProgress) (kept came : List ℕ) : Type 0 where
   pub keeps : KeepsFor begun kept
   pub tells : (b : ℕ) (more : List ℕ) → facts_of (without_return (came ++ b ∷ more)) ≡ facts_with begun kept (without_return (b ∷ more))
 
--- `next_letter l`: the letter of a directive that follows the letters `l`.
+-- `next_letter l`: the letter that follows the first letters `l` of a directive.
 abbrev pub next_letter : Letters → ℕ
 next_letter T = 111
 next_letter To = 100
@@ -166,8 +167,9 @@ next_letter S = 107
 next_letter Sk = 105
 next_letter Ski = 112
 
--- `with_letter purpose l more`: the facts of a line after the letters `l` and their next letter, if
--- the line ends after `more`.
+-- `with_letter purpose l more`: the facts of a line that ends with the letters `l` of a directive,
+-- the letter that follows them, and the bytes `more`. `purpose` is the purpose of the search for a
+-- directive.
 abbrev pub with_letter : DirectivePurpose → Letters → List ℕ → Facts
 with_letter purpose T more = directed purpose (option_or (directive_after_letters To more) (directive_in false more))
 with_letter purpose To more = directed purpose (option_or (directive_after_letters Tod more) (directive_in false more))

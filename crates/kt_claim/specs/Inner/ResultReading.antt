@@ -82,23 +82,24 @@ may_have_number ExpectedExit = true
 may_have_number ExpectedSignal = true
 may_have_number _ = false
 
--- `after_bracket w rest`: the claim of the keyword `w`, an opening bracket and `rest`.
+-- `after_bracket w rest`: the claim of a line of the keyword `w`, an opening bracket and `rest`.
 abbrev pub after_bracket : Word → List ℕ → Claim
 after_bracket w rest = if may_have_number w then with_number_in w (number_in rest) else claim.Malformed BadNumber
 
--- `plainly w rest`: the claim of the keyword `w` and `rest`, which begins with no bracket.
+-- `plainly w rest`: the claim of a line of the keyword `w` and `rest`, which begins with no
+-- bracket.
 abbrev pub plainly : Word → List ℕ → Claim
 plainly Passed [] = claim.Passed
 plainly Passed (_ ∷ _) = claim.Malformed UnexpectedReason
 plainly w rest = with_reason_in (claim_with w) (reason_in rest)
 
--- `claim_after w rest`: the claim of the keyword `w` and `rest`.
+-- `claim_after w rest`: the claim of a line of the keyword `w` and `rest`.
 abbrev pub claim_after : Word → List ℕ → Claim
 claim_after w [] = plainly w []
 claim_after w (b ∷ rest) = if b == 40 then after_bracket w rest else plainly w (b ∷ rest)
 
--- `claim_of_keyword w rest`: the claim of the keyword `w` and `rest`, or the error `UnknownWord` if
--- there is no keyword.
+-- `claim_of_keyword w rest`: the claim of a line of the keyword `w` and `rest`, or the error
+-- `UnknownWord` if `w` is `None`.
 abbrev pub claim_of_keyword : Option Word → List ℕ → Claim
 claim_of_keyword None rest = claim.Malformed UnknownWord
 claim_of_keyword (Some w) rest = claim_after w rest

@@ -23,7 +23,7 @@ has_second (x ∷ y ∷ xs) = true
 has_second _ = false
 
 -- `IsTally tally lines`: `tally` has the counts and plans of `lines` before the first bail out, and
--- the fact whether a line bails out.
+-- whether a line bails out.
 pub record IsTally (tally : Tally) (lines : List (List ℕ)) : Type 0 where
   pub bailed : tally.bailed ≡ list_any is_bail lines
   pub planned : tally.plan ≡ first (filter_map plan (heard lines))
