@@ -65,8 +65,8 @@ tap_fits (Invalid f) (Exited code) = row.tap_invalid f code
 tap_fits (SkipAll r) (Exited code) = row.tap_skipped r code
 tap_fits (Counted some all) (Exited code) = counted_fits (nat_lt 0 some) some all code refl
 
--- Row 7, for failed tests, is before the row `m`: if no test failed, the row `m` decides as without
--- row 7.
+-- Whether a test failed or not, a row `m` after the row for failed tests is not before the first
+-- row that fits.
 pub behind_failed : (t : Bool) (first m : ℕ) (x y v : Judged) → 7 < m → IsLeastRow first y m v → IsLeastRow (if t then 7 else first) (if t then x else y) m v
 behind_failed true first m x y v lt h = (omega arith, λ e. absurd (omega arith))
 behind_failed false first m x y v lt h = h

@@ -68,7 +68,8 @@ end_least body TimedOut = (omega arith, λ e. absurd (omega arith))
 end_least body (Signaled s core) = here _ _
 end_least body WaitFailed = here _ _
 
--- If the verdict on the body is bad, row 1 is before each row for good verdicts.
+-- Whether the verdict on the body is good or bad, a row after the row for bad verdicts is not
+-- before the first row that fits.
 pub if_good : (t : Bool) (first n : ℕ) (x body v : Judged) → 1 < n → IsLeastRow first x n v → IsLeastRow (if t then first else 1) (if t then x else body) n v
 if_good true first n x body v lt h = h
 if_good false first n x body v lt h = (omega arith, λ e. absurd (omega arith))

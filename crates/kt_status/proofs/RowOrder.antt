@@ -10,25 +10,25 @@ at_or_next t n m = if t then n else m
 
 -- ---- two rows and a test
 
--- If the row `n` fits in case `a` and `b` are equal, and the row `m` fits in any case, the row that
--- the test selects fits.
+-- The row that the test of `a` and `b` selects fits, if `n` fits when they are equal and `m` always
+-- fits.
 pub at_equal : (n m a b : ℕ) (x y : Judged) (P : ℕ → Judged → Type 0) → (a ≡ b → P n x) → P m y → P (at_or_next (nat_eq a b) n m) (if nat_eq a b then x else y)
 at_equal n m a b x y P here next = at_test (nat_eq a b) (λ e. here (eqb-true a b e)) next where
   at_test : (t : Bool) → (t ≡ true → P n x) → P m y → P (at_or_next t n m) (if t then x else y)
   at_test true here next = here refl
   at_test false here next = next
 
--- `IsLeastRow first verdict n v`: row `n` is not before the row `first`, and gives `verdict` if it is
--- that row.
+-- `IsLeastRow first verdict n v`: the row `n`, which gives the verdict `v`, is not before the row
+-- `first`. If it is the row `first`, `v` is `verdict`.
 abbrev pub IsLeastRow : ℕ → Judged → ℕ → Judged → Type 0
 IsLeastRow first verdict n v = (first ≤ n) × (n ≡ first → v ≡ verdict)
 
--- If `a` and `b` are equal, row `n`, which tests this, is the first row that fits.
+-- If `a` and `b` are equal, the row `n`, which requires this, is the first row that fits.
 pub passes : (n m a b : ℕ) (x y : Judged) → a ≡ b → IsLeastRow (at_or_next (nat_eq a b) n m) (if nat_eq a b then x else y) n x
 passes n m a b x y is = rw (eq-eqb a b is) (omega arith, λ e. refl)
 
--- Row `m`, after the row `n` that tests whether `a` and `b` are equal, is not before the first row
--- that fits.
+-- The row `m` is not before the first row that fits, if it is after the row `n`, which requires
+-- that `a` and `b` are equal.
 pub next : (n m a b : ℕ) (x y : Judged) → n < m → IsLeastRow (at_or_next (nat_eq a b) n m) (if nat_eq a b then x else y) m y
 next n m a b x y lt = at_test (nat_eq a b) n m x y lt where
   at_test : (t : Bool) (n m : ℕ) (x y : Judged) → n < m → IsLeastRow (at_or_next t n m) (if t then x else y) m y
@@ -41,7 +41,8 @@ here n v = (omega arith, λ e. refl)
 
 -- ---- from rows to verdicts
 
--- `IsOnly Row v`: `v` is the verdict of the first row that fits, and no other verdict is.
+-- `IsOnly Row v`: the first row of the table `Row` that fits gives the verdict `v` and no other
+-- verdict.
 abbrev pub IsOnly : (ℕ → Judged → Type 0) → Judged → Type 0
 IsOnly Row v = IsFirstRow Row v × ((other : Judged) → IsFirstRow Row other → v ≡ other)
 

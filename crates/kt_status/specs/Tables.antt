@@ -23,7 +23,8 @@ use Rattle.kt_claim.specs.declared.evidence.Evidence.TheVariants as evidence
 use Rattle.kt_status.specs.declared.cleanup_end.CleanupEnd.{CleanupEnd}
 use Rattle.kt_status.specs.declared.cleanup_end.CleanupEnd.TheVariants as cleanup
 
--- `claim_fault_text fault`: the text for the error `fault` in a result file, in a reason.
+-- `claim_fault_text fault`: the text that represents the error `fault` of a result file in a
+-- reason.
 abbrev pub claim_fault_text : ClaimFault → List ℕ
 claim_fault_text result.TooLong = codes "too long"
 claim_fault_text result.Empty = codes "empty"
@@ -34,7 +35,7 @@ claim_fault_text result.BadNumber = codes "bad number"
 claim_fault_text result.UnexpectedReason = codes "unexpected reason"
 claim_fault_text result.NoReason = codes "no reason"
 
--- `tap_fault_text fault`: the text for the error `fault` in TAP output, in a reason.
+-- `tap_fault_text fault`: the text that represents the error `fault` of TAP output in a reason.
 abbrev pub tap_fault_text : TapFault → List ℕ
 tap_fault_text stream.Unreadable = codes "output could not be read"
 tap_fault_text stream.TooLong = codes "output too long"
@@ -119,8 +120,8 @@ pub data CleanupRow : ℕ → Judged → CleanupEnd → Judged → Type 0 where
   cleanup_failed : (body : Judged) (ending : Outcome) → CleanupRow 4 body (cleanup.Ended ending) (verdict.broken (codes "Test case cleanup did not terminate successfully"))
   cleanup_not_started : (body : Judged) → CleanupRow 5 body cleanup.Refused (verdict.broken (codes "Test case cleanup could not be started"))
 
--- `IsFirstRow Row verdict`: `Row number verdict` holds for the least `number` of a row that fits, so
--- the first such row gives `verdict`.
+-- `IsFirstRow Row verdict`: the first row that fits gives `verdict`: `Row number verdict` holds for
+-- the least `number` of a row that fits.
 pub record IsFirstRow (Row : ℕ → Judged → Type 0) (verdict : Judged) : Type 0 where
   pub number : ℕ
   pub fits : Row number verdict

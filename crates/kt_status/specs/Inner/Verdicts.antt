@@ -24,7 +24,8 @@ exits_with n (Exited code) = nat_eq code n
 exits_with n _ = false
 
 -- `expected_exit due reason ending`: the verdict if the result file claims an expected exit for
--- `reason`, with the status `due` or with any status, and the outcome is `ending`.
+-- `reason`, and the outcome is `ending`. The claimed status is `due`, or any status if `due` is
+-- `None`.
 abbrev pub expected_exit : Option ℕ → List ℕ → Outcome → Judged
 expected_exit None reason (Exited _) = expected_failure reason
 expected_exit (Some due) reason (Exited code) =
@@ -32,7 +33,8 @@ expected_exit (Some due) reason (Exited code) =
 expected_exit _ _ ending = broken (codes "Expected clean exit but " ++ outcome_text ending)
 
 -- `expected_signal due reason ending`: the verdict if the result file claims an expected signal for
--- `reason`, the signal `due` or any signal, and the outcome is `ending`.
+-- `reason`, and the outcome is `ending`. The claimed signal is `due`, or any signal if `due` is
+-- `None`.
 abbrev pub expected_signal : Option ℕ → List ℕ → Outcome → Judged
 expected_signal None reason (Signaled _ _) = expected_failure reason
 expected_signal (Some due) reason (Signaled signal _) =
