@@ -23,7 +23,7 @@ says_of (Current runs) s has is = says_two s runs is
 says_of (Older runs) s has is = says_one s runs is
 says_of (Numbered n) s has is = is
 
--- `IsDue was fault`: attaching a database that was as `was` may fail with `fault`
+-- `IsDue was fault`: an attempt to attach a database in the state `was` may fail with `fault`
 abbrev pub IsDue : DatabaseBefore → StoreFault → Type 0
 IsDue (Numbered n) fault = ⊤
 IsDue _ fault = IsStoreFault fault

@@ -60,7 +60,7 @@ module _ (of : ℕ → Entry → List Row) where
 pub more_pairs : (from k : ℕ) (e : Entry) (runs : List Run) → AreNumbered from runs → k < length runs → IsPermutation (pair_rows (from + k) e ++ prop_rows runs) (prop_rows (with_entry (from + k) e runs))
 more_pairs = more pair_rows
 
--- `single run e`: the only row of entry `e` in the table `entries`
+-- `single run e`: the rows of entry `e` of run `run` in the table `entries`, which is one row
 abbrev single : ℕ → Entry → List Row
 single run e = entry_row run e ∷ []
 

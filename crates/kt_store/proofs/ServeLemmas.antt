@@ -11,7 +11,7 @@ survived old new change runs may s l clean trees h = elim (s.crash clean trees h
 ]
 
 -- `IsWrite LeavesOne call change`: a successful `call` changes runs by `change`, a failed one
--- changes nothing, and a crash leaves the runs that `SurvivesCrash` states
+-- changes nothing, and a crash leaves the runs that `SurvivesCrash LeavesOne` states
 pub record IsWrite {R : Type 0} (LeavesOne : R → List (List Run) → Type 0) {T : Type 0} (call : Result T StoreFault → StoreCall) (change : List Run → List Run) : Type 0 where
   pub done : (x : T) (runs : List Run) → runs_after (call (Ok x)) runs ≡ change runs
   pub refused : (e : StoreFault) (runs : List Run) → runs_after (call (Err e)) runs ≡ runs

@@ -21,22 +21,22 @@ IsOf (Current runs) s = StandsFor s runs
 IsOf (Older runs) s = RepresentsInSchema1 s runs
 IsOf (Numbered n) s = StoresSchemaNumber n s
 
--- `AttachSucceeds was old new`: attaching a database that was as `was` led from state `old` to
--- `new` and succeeded. The tables of `new` represent the runs of `was` (none if blank), and a crash
--- leaves only these runs. A crash during the call leaves what it left before or, if the call wrote,
--- these runs. For `Numbered`, the schema number is 1 or 2, and SQLite can prepare the queries of
--- this schema, unless the disk has returned wrong data.
+-- `AttachSucceeds was old new`: a database in the state `was` was attached, which took its
+-- connection from `old` to `new`. The tables of `new` represent the runs of `was` (none if blank),
+-- and a crash leaves only these runs. A crash during the call leaves what it left before or, if the
+-- call wrote, these runs. For `Numbered`, the schema number is 1 or 2, and SQLite can prepare the
+-- queries of this schema, unless the disk has returned wrong data.
 abbrev pub AttachSucceeds : DatabaseBefore → State → State → Type 0
 AttachSucceeds Blank old new = StandsFor new [] × Leaves new (Keeps []) × Survives old new (Keeps [])
 AttachSucceeds (Current runs) old new = StandsFor new runs × Leaves new (Keeps runs) × Survives old new (λ _. ⊥)
 AttachSucceeds (Older runs) old new = StandsFor new runs × Leaves new (Keeps runs) × Survives old new (Keeps runs)
 AttachSucceeds (Numbered n) old new = HasCleanDisk new → ((n ≡ pos 1) ⊎ (n ≡ pos 2)) × HasTables n old
 
--- `AttachFails was old new fault`: attaching a database that was as `was` led from state `old` to
--- `new` and failed with `fault`. The database is unchanged, and `fault` reports that memory ran out
--- or that the database failed. If the connection was open, a crash leaves the runs of `was`, in
--- schema 1 or 2 if they were in schema 1. For `Numbered`, nothing is stated about schema 1 and
--- about `fault`.
+-- `AttachFails was old new fault`: an attempt to attach a database in the state `was` took its
+-- connection from `old` to `new` and failed with `fault`. The database is unchanged, and `fault`
+-- reports that memory ran out or that the database failed. If the connection was open, a crash
+-- leaves the runs of `was`, in schema 1 or 2 if they were in schema 1. For `Numbered`, nothing is
+-- stated about schema 1 and about `fault`.
 abbrev pub AttachFails : DatabaseBefore → State → State → StoreFault → Type 0
 AttachFails Blank old new fault = IsEmpty new × Survives old new (Keeps []) × (HasCleanDisk new → IsStoreFault fault)
 AttachFails (Current runs) old new fault = StandsFor new runs × Survives old new (λ _. ⊥) × (HasCleanDisk new → IsStoreFault fault) × (IsTrue old.is_open → Leaves new (Keeps runs))

@@ -18,8 +18,8 @@ use Rattle.sqlite_store.specs.declared.catalog.Wanted.{Wanted}
 use Rattle.sqlite_wal.specs.PageSize.{IsPageSize}
 use Rattle.kt_store.specs.Types.{FileStore, HasCleanDisk, Held, HoldsDatabase, Image, IsClean, IsOpened, IsQuiet, PageMap, Recovers, Run, Trees, View, file_state, recovers, stored_size, view}
 
--- `HasTrees is_numbered trees image`: the two files recover to a sound file with `trees`; if
--- `is_numbered` is `true`, the trees are numbered
+-- `HasTrees is_numbered trees image`: the two files with the content `image` recover to a sound
+-- file with `trees`; if `is_numbered` is `true`, the trees are numbered
 pub record HasTrees (is_numbered : Bool) (trees : Trees) (image : Image) : Type 0 where
   pub size : ℕ
   pub pages : PageMap
@@ -29,8 +29,9 @@ pub record HasTrees (is_numbered : Bool) (trees : Trees) (image : Image) : Type 
   pub file : ∥ IsOurs size is_numbered wanted pages ∥₁
   pub reads : trees ≡ file_trees size wanted pages
 
--- `StaysNumbered old new`: a store that is open after a call was open before it, and its trees are
--- numbered as before
+-- `StaysNumbered old new`: `old` and `new` are the views of a store before and after a call; if
+-- `new` is open, `old` is open, and the trees are numbered in both or in neither, unless the disk
+-- has returned wrong data
 abbrev pub StaysNumbered : View → View → Type 0
 StaysNumbered old new = IsClean new → IsTrue new.is_open → IsTrue old.is_open × (new.is_numbered ≡ old.is_numbered)
 
@@ -42,8 +43,8 @@ largest_checked_size = 16777216
 abbrev pub shortest_log : ℕ
 shortest_log = 56
 
--- `MustBeChecked image`: the database is so small, or the log so long, that an open checks all pages
--- and trees
+-- `MustBeChecked image`: the database file of `image` is so small, or its log so long, that an open
+-- checks all pages and trees
 abbrev pub MustBeChecked : Image → Type 0
 MustBeChecked image = (length image.db ≤ largest_checked_size) ⊎ (shortest_log ≤ length image.log)
 
@@ -86,8 +87,8 @@ module _ {D : Type 0} {g : disk.Ghosts D} where
     pub whose : Lists image store ⊎ ((results : Held (FileStore D g)) × AreOfFile image results × Follows results store)
     pub numbered : IsClean (view store) → MustBeChecked image → IsTrue (view store).is_numbered
 
-  -- `Ends store`: `store` ended with two files, and the database file alone has the last commit,
-  -- also after a crash
+  -- `Ends store`: the close of `store` left two files, of which the database file alone has the
+  -- last commit, also after a crash
   pub record Ends (store : FileStore D g) : Type 0 where
     pub last : FileStore D g
     pub quiet : IsQuiet view faults recovers is_shielded store last

@@ -142,8 +142,8 @@ abbrev pub IsSchema2OfOne : List (List Run) → Trees → Type 0
 IsSchema2OfOne [] trees = ⊥
 IsSchema2OfOne (runs ∷ others) trees = Keeps runs trees ⊎ IsSchema2OfOne others trees
 
--- `new_run runs total started`: the run that is added after `runs`: with the next number,
--- unfinished, and without entries
+-- `new_run runs total started`: the run of `total` cases that is added after `runs`, at the
+-- timestamp `started`: with the next number, unfinished, and without entries
 abbrev pub new_run : List Run → ℕ → ℕ → Run
 new_run runs total started = record { number = suc (length runs); started = started; total = total; finished = false; entries = [] }
 
@@ -172,24 +172,24 @@ finish run (r ∷ runs) = if r.number == run then record r { finished = true } �
 abbrev pub has_position : ℕ → List Entry → Bool
 has_position position es = list_any (λ (e : Entry). e.position == position) es
 
--- `put_refusal_of r e`: the error of a put of entry `e` into run `r`, the first that applies, or
--- `None` if the run accepts the entry
+-- `put_refusal_of r e`: the first error that applies to a put of entry `e` into run `r`, or `None`
+-- if the run accepts the entry; `r` is `None` if there is no such run
 abbrev pub put_refusal_of : Option Run → Entry → Option StoreFault
 put_refusal_of None e = Some NoRun
 put_refusal_of (Some r) e = if r.finished then Some RunClosed else if nat_le r.total e.position then Some BadPosition else if has_position e.position r.entries then Some RepeatedPosition else None
 
--- `put_refusal runs run e`: the error of a put of entry `e` into run `run` of `runs`, the first
--- that applies, or `None` if the run accepts the entry
+-- `put_refusal runs run e`: the first error that applies to a put of entry `e` into run `run` of
+-- `runs`, or `None` if the run accepts the entry
 abbrev pub put_refusal : List Run → ℕ → Entry → Option StoreFault
 put_refusal runs run e = put_refusal_of (run_at runs run) e
 
--- `finish_refusal_of r`: the error of finishing run `r`, the first that applies, or `None` if the
--- run can be finished
+-- `finish_refusal_of r`: the first error that keeps run `r` from being finished, or `None` if it
+-- can be finished; `r` is `None` if there is no such run
 abbrev pub finish_refusal_of : Option Run → Option StoreFault
 finish_refusal_of None = Some NoRun
 finish_refusal_of (Some r) = if r.finished then Some RunClosed else if nat_lt (length r.entries) r.total then Some Incomplete else None
 
--- `finish_refusal runs run`: the error of finishing run `run` of `runs`, the first that applies, or
--- `None` if the run can be finished
+-- `finish_refusal runs run`: the first error that keeps run `run` of `runs` from being finished, or
+-- `None` if it can be finished
 abbrev pub finish_refusal : List Run → ℕ → Option StoreFault
 finish_refusal runs run = finish_refusal_of (run_at runs run)

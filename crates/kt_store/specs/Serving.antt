@@ -35,11 +35,11 @@ Agrees runs (Outputs number position (Ok outputs)) = (e : Entry) × (entry_at (r
 Agrees runs (Outputs number position (Err fault)) = IsStoreFault fault ⊎ ((fault ≡ NoRun) × (entry_at (run_at runs number) position ≡ None))
 
 module _ {R : Type 0} (LeavesOne : R → List (List Run) → Type 0) where
-  -- `SurvivesCrash LeavesOne call runs may old new`: which runs a crash may leave after `call` on a
-  -- store with `runs`, in state `old` before and `new` after the call. `LeavesOne s lists`: in
-  -- state `s`, a crash leaves one of `lists`. `may` are the outcomes possible before the call.
-  -- After a successful call that writes, only the changed runs are possible. A failed call adds the
-  -- changed runs to the outcomes. A call that reads adds nothing.
+  -- `SurvivesCrash LeavesOne call runs may old new`: a crash after `call` leaves permitted runs, if
+  -- `call` takes a store with `runs` from the state `old` to `new`. `LeavesOne s lists`: in state
+  -- `s`, a crash leaves one of `lists`. `may` are the outcomes possible before the call. After a
+  -- successful call that writes, only the changed runs are possible. A failed call adds the changed
+  -- runs to the outcomes. A call that reads adds nothing.
   abbrev pub SurvivesCrash : StoreCall → List Run → List (List Run) → R → R → Type 0
   SurvivesCrash (Began total moment (Ok number)) runs may old new = LeavesOne new ((runs ++ new_run runs total moment ∷ []) ∷ [])
   SurvivesCrash (Began total moment (Err fault)) runs may old new = LeavesOne old (runs ∷ may) → LeavesOne new (runs ∷ (runs ++ new_run runs total moment ∷ []) ∷ may)

@@ -32,7 +32,8 @@ abbrev pub StandsFor : State → List Run → Type 0
 StandsFor s runs = IsSettledWhileOpen (λ db. Tables db runs) s
 
 -- `HoldsForRuns g old new P`: `P` holds for the runs that the tables of connection `old`
--- represented before a call to `new`, unless the disk has returned wrong data
+-- represented before a call to `new`, unless the disk has returned wrong data. `g` is the
+-- specification of connections.
 abbrev pub HoldsForRuns : {S : Type 0} → Ghosts S → Held S → Held S → (List Run → Type 0) → Type 0
 HoldsForRuns g old new P = (runs : List Run) → StandsFor (state g old) runs → HasCleanDisk (state g new) → P runs
 

@@ -15,7 +15,8 @@ pub data StoreCall : Type 0 where
   Pairs : (number position : ℕ) (answer : Result (List Variable) StoreFault) → StoreCall
   Outputs : (number position : ℕ) (answer : Result CaseOutputs StoreFault) → StoreCall
 
--- `seen_as see result`: `result` with `see` applied to its value if it is a success
+-- `seen_as see result`: `result` if it is an error, else a success with the value that `see` gives
+-- for its value
 abbrev pub seen_as : {T U : Type 0} → (T → U) → Result T StoreFault → Result U StoreFault
 seen_as see (Ok x) = Ok (see x)
 seen_as see (Err fault) = Err fault

@@ -14,7 +14,7 @@ abbrev pub table_object : ℕ → List ℕ → List ℕ → Row
 table_object id name sql = Int (pos id) ∷ Text (codes "table") ∷ Text name ∷ Text name ∷ Text sql ∷ []
 
 -- `key_object id name table`: the row of index `name`, of the primary key of `table`, in SQLite's
--- schema list, without the root page; its text is NULL
+-- schema list, without the root page: rowid `id`, type, name, table name, and NULL as the text
 abbrev pub key_object : ℕ → List ℕ → List ℕ → Row
 key_object id name table = Int (pos id) ∷ Text (codes "index") ∷ Text name ∷ Text table ∷ Null ∷ []
 

@@ -94,8 +94,8 @@ fn head_numbered(heads: &[RunHead], number: u64) -> Option<&RunHead>
     heads.iter().find(|head| head.number == number)
 }
 
-/// Returns the first head with `number`. `None` requests the number of heads, which is the last
-/// run's number.
+/// Returns the first head with `number`, or the head of the last run if `number` is `None`. The
+/// number of the last run is the number of heads. Returns `None` if there is no such head.
 pub(crate) fn head_among(heads: &[RunHead], number: Option<u64>) -> Option<RunHead>
     ensures found { result ≡ find (λ (head : Head). head.number == unwrap_or number
         (length heads.now)) heads.now }

@@ -130,7 +130,7 @@ impl<S: Alter> Results<S> {
     ///
     /// # Errors
     ///
-    /// - `Store`: a statement failed, or the runs are not numbered from 1.
+    /// - `Store`: a statement failed, a row has a wrong value, or the runs are not numbered from 1.
     /// - `NoMemory`: memory ran out.
     pub fn runs(&mut self) -> Result<Vec<RunHead>, StoreFault>
         ensures reads { Reads (results S.Store) self.old self.new }

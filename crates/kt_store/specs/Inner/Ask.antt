@@ -12,8 +12,8 @@ abbrev pub width_of : Command → ℕ
 width_of (Select query names) = length names
 width_of _ = 0
 
--- `HasColumns width compiled`: the compiled query returns `width` columns, at least one; a failed
--- compilation never meets this
+-- `HasColumns width compiled`: `compiled` is a query that returns `width` columns, at least one; a
+-- failed compilation never meets this
 abbrev pub HasColumns : ℕ → Result Compiled CompileError → Type 0
 HasColumns width (Ok c) = (0 < width) × (width_of c.command ≡ width)
 HasColumns width (Err e) = ⊥
@@ -23,7 +23,8 @@ abbrev pub AreWide : ℕ → List Row → Type 0
 AreWide width rows = AllByRecursion (λ (row : Row). width ≤ length row) rows
 
 -- `QueriesRuns g runs sql params new rows`: the query `sql` with the values `params` returned
--- `rows` from tables with exactly `runs`, and left the connection as `new`
+-- `rows` from tables with exactly `runs`, and left the connection as `new`. `g` is the
+-- specification of connections.
 pub record QueriesRuns {S : Type 0} (g : Ghosts S) (runs : List Run) (sql : List ℕ) (params : Row) (new : Held S) (rows : List Row) : Type 0 where
   pub mid : Held S
   pub stored : IsStore (state g mid) runs
@@ -31,14 +32,15 @@ pub record QueriesRuns {S : Type 0} (g : Ghosts S) (runs : List Run) (sql : List
 
 module _ {S : Type 0} (g : Ghosts S) (sql : List ℕ) (params : Row) (old : Held S) where
   -- `Asked g sql params old new rows`: `sql` was prepared on connection `old`, executed with the
-  -- values `params`, and returned `rows`; the connection is then `new`
+  -- values `params`, and returned `rows`; the connection is then `new`. `g` is the specification of
+  -- connections.
   pub record Asked (new : Held S) (rows : List Row) : Type 0 where
     pub mid : Held S
     pub same : IsUnchanged (state g old) (state g mid)
     pub shown : Shown sql params (state g mid) (state g new) rows
 
   -- `Executed g sql params old new`: `sql` was prepared on connection `old` and executed with the
-  -- values `params`; the connection is then `new`
+  -- values `params`; the connection is then `new`. `g` is the specification of connections.
   pub record Executed (new : Held S) : Type 0 where
     pub mid : Held S
     pub same : IsUnchanged (state g old) (state g mid)
@@ -47,11 +49,11 @@ module _ {S : Type 0} (g : Ghosts S) (sql : List ℕ) (params : Row) (old : Held
 
   -- `MayShow g sql params old db`: `sql` is prepared on connection `old`, and its execution as a
   -- query with the values `params` may commit the B-trees `db`. Only a write with RETURNING
-  -- commits.
+  -- commits. `g` is the specification of connections.
   abbrev pub MayShow : Trees → Type 0
   MayShow db = (mid : Held S) × IsUnchanged (state g old) (state g mid) × CommitsShowing sql params (state g mid) db
 
   -- `MayExecute g sql params old db`: `sql` is prepared on connection `old`, and its execution with
-  -- the values `params` may commit the B-trees `db`
+  -- the values `params` may commit the B-trees `db`. `g` is the specification of connections.
   abbrev pub MayExecute : Trees → Type 0
   MayExecute db = (mid : Held S) × IsUnchanged (state g old) (state g mid) × CommitsBy sql params (state g mid) db

@@ -6,64 +6,71 @@ use Rattle.kt_store.specs.Runs.{Keeps}
 use Rattle.kt_store.specs.Stands.{StandsFor, StoresSchemaNumber, HasTables, Leaves}
 use Rattle.kt_store.specs.Types.{Ghosts, HasCleanDisk, Held, IsUnchanged, Run, Survives, state}
 
--- `HasNumber was`: the database had tables with a schema number
+-- `HasNumber was`: a database in the state `was` has tables with a schema number
 abbrev pub HasNumber : DatabaseBefore → Type 0
 HasNumber Blank = ⊥
 HasNumber _ = ⊤
 
 module _ {S : Type 0} (g : Ghosts S) (old new : Held S) where
   -- `WasClean g old new`: if the disk has returned no wrong data up to connection `new`, after a
-  -- call, it had returned none up to `old`, before the call
+  -- call, it had returned none up to `old`, before the call. `g` is the specification of
+  -- connections.
   abbrev pub WasClean : Type 0
   WasClean = HasCleanDisk (state g new) → HasCleanDisk (state g old)
 
   -- `CommitsNothing g old new`: after a call from connection `old` to `new`, a crash leaves only
-  -- what it left before
+  -- what it left before. `g` is the specification of connections.
   abbrev pub CommitsNothing : Type 0
   CommitsNothing = Survives (state g old) (state g new) (λ _. ⊥)
 
   -- `KeepsRuns g old new`: if the tables of connection `old` represent runs, those of connection
-  -- `new` represent the same runs
+  -- `new` represent the same runs. `g` is the specification of connections.
   abbrev pub KeepsRuns : Type 0
   KeepsRuns = (runs : List Run) → StandsFor (state g old) runs → StandsFor (state g new) runs
 
   -- `OnlyReads g old new`: if the tables of connection `old` represent runs, a crash after the call
-  -- that led to `new` leaves only what it left before the call
+  -- that led to `new` leaves only what it left before the call. `g` is the specification of
+  -- connections.
   abbrev pub OnlyReads : Type 0
   OnlyReads = (runs : List Run) → StandsFor (state g old) runs → CommitsNothing
 
   -- `OnlyReadsRuns g old new`: a call from connection `old` to `new` only reads. The tables
-  -- represent the same runs, and a crash leaves only what it left before the call.
+  -- represent the same runs, and a crash leaves only what it left before the call. `g` is the
+  -- specification of connections.
   pub record OnlyReadsRuns : Type 0 where
     pub stands : KeepsRuns
     pub crash : OnlyReads
 
   -- `AsksNumber g old new`: a call from connection `old` to `new` reads the schema number. If there
-  -- is a number, the call commits nothing and leaves the database unchanged or rolled back.
+  -- is a number, the call commits nothing and leaves the database unchanged or rolled back. `g` is
+  -- the specification of connections.
   pub record AsksNumber : Type 0 where
     pub earlier : WasClean
     pub rests : (n : ℤ) → StoresSchemaNumber n (state g old) → HasCleanDisk (state g new) → IsUnchangedOrRolledBack (state g old) (state g new)
     pub crash : (n : ℤ) → StoresSchemaNumber n (state g old) → CommitsNothing
 
   -- `LeavesSchema g old new`: if connection `old` has a schema number, a call to `new` leaves its
-  -- database unchanged, unless the disk has returned wrong data
+  -- database unchanged, unless the disk has returned wrong data. `g` is the specification of
+  -- connections.
   abbrev pub LeavesSchema : Type 0
   LeavesSchema = (n : ℤ) → StoresSchemaNumber n (state g old) → HasCleanDisk (state g new) → IsUnchanged (state g old) (state g new)
 
   -- `FindsTables g old new`: if connection `old` has a schema number, SQLite can prepare the
-  -- queries of this schema, unless the disk has returned wrong data up to `new`
+  -- queries of this schema, unless the disk has returned wrong data up to `new`. `g` is the
+  -- specification of connections.
   abbrev pub FindsTables : Type 0
   FindsTables = (n : ℤ) → StoresSchemaNumber n (state g old) → HasCleanDisk (state g new) → HasTables n (state g old)
 
   module _ (Allowed : List Run → Type 0) (change : List Run → List Run) where
     -- `Changes g old new Allowed change`: if the tables of connection `old` represent `runs` with
     -- `Allowed runs`, then those of connection `new` represent `change runs`, and a crash leaves
-    -- only these
+    -- only these. `g` is the specification of connections.
     pub record Changes : Type 0 where
       pub stands : (runs : List Run) → StandsFor (state g old) runs → (HasCleanDisk (state g old) → Allowed runs) → StandsFor (state g new) (change runs)
       pub lasts : (runs : List Run) → StandsFor (state g old) runs → (HasCleanDisk (state g old) → Allowed runs) → Leaves (state g new) (Keeps (change runs))
 
     -- `MayChange g old new Allowed change`: if the tables of connection `old` represent `runs` with
-    -- `Allowed runs`, a crash after the call to `new` leaves what it left before, or `change runs`
+    -- `Allowed runs`, a crash after the call to `new` leaves what it left before, or `change runs`.
+    -- `g` is the specification of connections.
     abbrev pub MayChange : Type 0
     MayChange = (runs : List Run) → StandsFor (state g old) runs → (HasCleanDisk (state g old) → Allowed runs) → Survives (state g old) (state g new) (Keeps (change runs))

@@ -61,44 +61,48 @@ pub record IsUndone (old new : State) : Type 0 where
 
 module _ {S : Type 0} (g : Ghosts S) where
   -- `ExecutesStatement g s old new`: statement `s` was executed in the transaction of connection
-  -- `old`, which led to `new`, and the texts of `s` are representable in UTF-8
+  -- `old`, which led to `new`, and the texts of `s` are representable in UTF-8. `g` is the
+  -- specification of connections.
   abbrev pub ExecutesStatement : Statement → Held S → Held S → Type 0
   ExecutesStatement s old new = (count : ℕ) × ExecutesInside 0 s.0 s.1 (state g old) (state g new) (Ok count) × AllByRecursion IsText s.2
 
   -- `ExecutesInOrder g statements old new`: `statements` were executed in this order in the
-  -- transaction of connection `old`, which led to `new`
+  -- transaction of connection `old`, which led to `new`. `g` is the specification of connections.
   abbrev pub ExecutesInOrder : List Statement → Held S → Held S → Type 0
   ExecutesInOrder [] old new = new ≡ old
   ExecutesInOrder (s ∷ others) old new = (mid : Held S) × ExecutesStatement s old mid × ExecutesInOrder others mid new
 
   -- `ExecutesOne g s old new`: if a transaction is open on connection `old`, statement `s` was
-  -- executed in it and led to `new`, unless the disk has returned wrong data
+  -- executed in it and led to `new`, unless the disk has returned wrong data. `g` is the
+  -- specification of connections.
   abbrev pub ExecutesOne : Statement → Held S → Held S → Type 0
   ExecutesOne s old new = HasCleanDisk (state g new) → IsTrue (state g old).in_transaction → ExecutesStatement s old new
 
   -- `ExecutesAll g statements old new`: if a transaction is open on `old`, `statements` were
-  -- executed in it in order and led to `new`, unless the disk has returned wrong data
+  -- executed in it in order and led to `new`, unless the disk has returned wrong data. `g` is the
+  -- specification of connections.
   abbrev pub ExecutesAll : List Statement → Held S → Held S → Type 0
   ExecutesAll statements old new = HasCleanDisk (state g new) → IsTrue (state g old).in_transaction → ExecutesInOrder statements old new
 
   -- `CommitsNothingYet g old new`: from connection `old` to `new` nothing was committed, unless the
-  -- disk has returned wrong data. A crash leaves only what it left before.
+  -- disk has returned wrong data. A crash leaves only what it left before. `g` is the specification
+  -- of connections.
   pub record CommitsNothingYet (old new : Held S) : Type 0 where
     pub keeps : HasCleanDisk (state g new) → KeepsCommit (state g old) (state g new)
     pub survives : CommitsNothing g old new
 
   module _ (statements : List Statement) (old : Held S) where
     -- `Commits g statements old new`: `statements` were executed in order in a new transaction of
-    -- connection `old`, and its commit led to `new`
+    -- connection `old`, and its commit led to `new`. `g` is the specification of connections.
     abbrev pub Commits : Held S → Type 0
     Commits new = (left : Held S) × ExecutesInOrder statements (begun old) left × Shows (state g left) (state g new) (state g left).now (state g left).now false
 
     -- `MayCommit g statements old trees`: `trees` are the B-trees after `statements` were executed
-    -- in order in a new transaction of connection `old`
+    -- in order in a new transaction of connection `old`. `g` is the specification of connections.
     abbrev pub MayCommit : Trees → Type 0
     MayCommit trees = (left : Held S) × ExecutesInOrder statements (begun old) left × (trees ≡ (state g left).now.trees)
 
   -- `RollsBack g old new`: connection `new` is `old`, or everything that `old` had not committed is
-  -- undone
+  -- undone. `g` is the specification of connections.
   abbrev pub RollsBack : Held S → Held S → Type 0
   RollsBack old new = (new ≡ old) ⊎ IsUndone (state g old) (state g new)
