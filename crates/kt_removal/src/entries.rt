@@ -44,7 +44,7 @@ fn answer(status: i32) -> io::Result<()> {
 
 // Only these methods remove or move files, so their clauses bound what a removal may touch.
 impl Removals {
-    /// Removes an entry that isn't a directory.
+    /// Removes the file or link at `path`. Fails for a directory.
     pub(crate) fn remove_file<R: Files>(&self, rt: &R, path: &[u8]) -> io::Result<()>
         requires { MayRemove self.now path.now }
     {
@@ -54,7 +54,7 @@ impl Removals {
         }
     }
 
-    /// Removes an entry that is an empty directory.
+    /// Removes the empty directory at `path`. Fails for a file, and for a directory with entries.
     pub(crate) fn remove_empty<R: Files>(&self, rt: &R, path: &[u8]) -> io::Result<()>
         requires { MayRemove self.now path.now }
     {

@@ -45,11 +45,12 @@ impl Removals {
         }
     }
 
-    /// Removes the directory of a case if it contains only outputs, a result file and an empty work
-    /// directory. Returns `true` if the directory was removed.
+    /// Removes the outputs, the result file and the empty work directory of a case, and then its
+    /// directory if it is empty. Returns `true` if the directory was removed.
     ///
-    /// The names in the directory are not read. A link at its path is not followed, and a mounted
-    /// file system is left as it is.
+    /// The names in the directory are not read. If the work directory is missing or has entries,
+    /// only the body's outputs are removed. A link at the path of `directory` is not followed, and
+    /// a mounted file system is left as it is.
     pub(crate) fn remove_known_files<R: Files + AllocGlobal>(
         &self,
         rt: &R,

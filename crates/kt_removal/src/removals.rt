@@ -17,7 +17,7 @@ use std::{fs, io, thread};
 /// The size of the buffer for the names of entries, in bytes.
 const NAMES_BYTES: usize = 1_024;
 
-/// Returns the path of the directory with this number in the queue directory `place`.
+/// Returns the path of the directory with the number `number` in the queue directory `place`.
 fn queued_path(alloc: Global, place: &Text, number: u64) -> Result<Text, NoMemory>
     ensures { IfOk result (λ path. path ≡ queued_dir place.now number) }
 {
@@ -25,8 +25,8 @@ fn queued_path(alloc: Global, place: &Text, number: u64) -> Result<Text, NoMemor
     Ok(path)
 }
 
-/// Splits off the first of several names that each end with byte 0. Returns the name and the rest,
-/// or `None` if there is no byte 0.
+/// Splits off the first name of `names`, in which each name ends with byte 0. Returns the name and
+/// the rest, or `None` if there is no byte 0.
 fn split_name(names: &[u8]) -> Option<(&[u8], &[u8])>
     ensures { IfSome result (λ parts. names.now ≡ parts.0.now ++ 0 ∷ parts.1.now) }
 {
@@ -125,7 +125,7 @@ impl Removals {
     }
 
     /// Moves the directory `path` into the queue. Returns `true` on success. If the move fails, its
-    /// number is skipped.
+    /// number is skipped, unless an allocation fails.
     fn take<R: Files + AllocGlobal>(&mut self, rt: &R, path: &[u8]) -> bool
         requires { MayRemove self.old path.now }
         ensures stays { KeepsQueue self.old self.new }
@@ -250,8 +250,8 @@ impl Removals {
     /// Removes the entries of a directory until its end is reached or the bound is over. An entry
     /// that has entries itself is moved into the queue.
     ///
-    /// Returns `true` if the end was reached, or if the directory can't be opened. The names of the
-    /// first read are removed even if the bound is over.
+    /// Returns `true` if the end was reached, or if the directory can't be opened or read. The
+    /// names of the first read are removed even if the bound is over.
     fn empty<R: Files + Clock + AllocGlobal>(
         &mut self,
         rt: &R,
@@ -276,10 +276,10 @@ impl Removals {
     }
 
     /// Empties the next directory of the queue. Returns `true` if the end of the directory was
-    /// reached.
+    /// reached, or if the directory can't be opened or read.
     ///
-    /// Otherwise the next call starts this directory again. If nothing could be removed from it,
-    /// the directory is skipped.
+    /// Otherwise the next call begins again with this directory. If nothing could be removed from
+    /// it, the directory is skipped.
     fn empty_next<R: Files + Clock + AllocGlobal>(
         &mut self,
         rt: &R,
@@ -412,8 +412,8 @@ impl Removals {
         }
     }
 
-    /// Empties and removes the directory of a case, or moves it into the queue if entries are left
-    /// at the end of the bound. Returns `true` if the path no longer exists.
+    /// Empties and removes the directory of a case, or moves it into the queue if it can't be
+    /// removed within the bound. Returns `true` if the path no longer exists.
     fn walk<R: Files + Clock + AllocGlobal>(
         &mut self,
         rt: &R,

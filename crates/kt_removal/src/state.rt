@@ -5,7 +5,8 @@ use kt_base::Text;
 ///
 /// A subdirectory with entries is moved into the queue directory, and renamed to `0`, `1` and so on
 /// there. So is the directory of a case that takes too long to empty. The directories of the queue
-/// are emptied in this order. So each path stays short, even for deeply nested directories.
+/// are emptied in the order of their numbers. Each path stays short in this way, even for deeply
+/// nested directories.
 ///
 /// If the root was removed or replaced by another directory, nothing is removed. If the queue
 /// directory was removed or replaced, no directory is moved into it, and its entries are left. The

@@ -6,8 +6,8 @@ use Rattle.kt_base.specs.Digits.{is_digit}
 use Rattle.kt_base.specs.Utf8.{utf8}
 use Rattle.kt_removal.specs.declared.state.Removals.{Removals}
 
--- `queued_dir place number`: the path of the directory with this number in the queue directory
--- `place`.
+-- `queued_dir place number`: the path of the directory with the number `number` in the queue
+-- directory `place`.
 abbrev pub queued_dir : List ℕ → ℕ → List ℕ
 queued_dir place number = place ++ codes "/" ++ decimal number
 
