@@ -47,8 +47,8 @@ fn parse_listing(alloc: Global, text: &str) -> Result<Listing> {
     ended(ending, unescaped(alloc, list))
 }
 
-/// Appends a case on a new line: its name, the properties that differ from the defaults, and its
-/// fault.
+/// Appends a case on a new line: its name, the properties that differ from the defaults, and the
+/// reason of its fault, if any.
 fn push_case(out: &mut ExampleOutput, case: CaseDef) -> Result<()> {
     let CaseDef { name, props, fault } = case;
     out.line(name.as_str());

@@ -96,8 +96,9 @@ fn entry_of(
     })
 }
 
-/// Creates an entry that a store accepts: its start time and its duration are at most
-/// `LATEST_MOMENT_MILLIS`. The entry has the position `at`, and `lines` describe it.
+/// Creates the entry at position `at` with the verdict `verdict` from the lines that describe the
+/// entry. A start time or a duration above `LATEST_MOMENT_MILLIS` is reduced to that value, so that
+/// a store accepts the entry.
 ///
 /// # Errors
 ///

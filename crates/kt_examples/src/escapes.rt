@@ -21,7 +21,7 @@ fn hex(b: Option<u8>) -> Result<u32> {
     due(digit, "\\x without two hexadecimal digits")
 }
 
-/// Appends `times` copies of `piece`, of at most 32 MiB together.
+/// Appends `times` copies of `piece`. Fails if they have more than 32 MiB together.
 fn push_times(text: &mut Vec<u8>, piece: &[u8], times: usize) -> Result<()> {
     if piece.len().saturating_mul(times) > LIMIT {
         return Err(ExampleFault::InvalidExample("a text past 32 MiB"));

@@ -45,8 +45,8 @@ fn push_input_line<'a>(rows: &mut Vec<Example<'a>>, line: &'a str) -> Result<()>
     }
 }
 
-/// Parses one line of a `.rows` file, and adds it to the examples. Comments are skipped, and input
-/// after expected output begins an example.
+/// Parses one line of a `.rows` file, and adds it to the examples. Empty lines and comments are
+/// skipped, and input after expected output begins an example.
 fn take<'a>(alloc: Global, rows: &mut Vec<Example<'a>>, line: u64, text: &'a str) -> Result<()> {
     if text.is_empty() || text.starts_with('#') {
         return Ok(());

@@ -92,7 +92,8 @@ fn push_tap(out: &mut ExampleOutput, tap: Result<Tap, NoMemory>) {
     }
 }
 
-/// Returns the output for `bytes` that are read at once.
+/// Returns the output for `bytes` that are read at once: as a TAP stream if `word` is `tap`, and as
+/// a result file otherwise.
 fn whole_text(alloc: Global, word: &str, bytes: &[u8]) -> Result<String> {
     let mut out = ExampleOutput::new(alloc);
     match word {
@@ -169,8 +170,9 @@ fn push_pieces(out: &mut ExampleOutput, row: &Example<'_>, word: &str) -> Result
     Ok(())
 }
 
-/// Appends the claim of a result file (`file TEXT`) or the result of a TAP stream (`tap TEXT`).
-/// Without such a line, the input consists of the pieces in the lines `piece TEXT`.
+/// Appends the claim of a result file (`file TEXT`) or the result of a TAP stream (`tap TEXT`). The
+/// input is also read in pieces, and the first output that differs is appended instead. An example
+/// without these lines has the input in the lines `piece TEXT`.
 ///
 /// # Errors
 ///
