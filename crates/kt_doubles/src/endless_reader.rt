@@ -1,7 +1,7 @@
 use std::io;
 use std::io::{ErrorKind, Read};
 
-/// A `Read` that never reaches an end, and whose reads fail after a set number of reads.
+/// A `Read` that never reaches an end, and whose reads fail after the first `reads` of them.
 #[derive(Drop)]
 pub struct EndlessReader {
     /// The maximum number of bytes that a read returns.

@@ -13,7 +13,8 @@ fn times_at(lines: &[&str], at: usize, length: usize) -> usize {
 }
 
 /// Returns the length of the shortest block at index `at` that repeats, and the number of its
-/// copies. A single line must occur at least twice, a longer block three times.
+/// copies. A single line must occur at least twice, a longer block three times. Without such a
+/// block, the result is 1 line and 1 copy.
 fn block_at(lines: &[&str], at: usize) -> (usize, usize) {
     for length in 1..MAX_BLOCK_LINES {
         let times = times_at(lines, at, length);

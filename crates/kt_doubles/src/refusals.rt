@@ -9,7 +9,7 @@ use std::alloc::Global;
 pub struct FailingCalls {
     /// The number of calls so far.
     calls: u64,
-    /// The numbers of the first and the last call that fail, counted from 1.
+    /// The numbers of the first and the last call that fail, counted from 1, or 0 and 0 for none.
     refused: (u64, u64),
     /// The error of the calls that a line `refused` makes fail.
     failed: FailedStatement,

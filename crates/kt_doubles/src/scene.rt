@@ -2,7 +2,7 @@ use kt_base::NoMemory;
 use kt_child::Polled;
 use std::alloc::Global;
 
-/// A script of a child: the number of polls that find it running, and how it then ends.
+/// A script of a child: the number of polls that find it running, and its end.
 #[derive(Clone, Copy)]
 pub struct ChildScript {
     /// The number of polls that find the child running.
@@ -37,8 +37,8 @@ pub struct SceneFile {
 pub struct Scene {
     /// The allocator of the scene and of the test doubles that follow it.
     pub alloc: Global,
-    /// The scripts of the children, in the order of their starts. The last is that of all later
-    /// children, too.
+    /// The scripts of the children, in the order of their starts. Later children have the last
+    /// script, too.
     pub lives: Vec<ChildScript>,
     /// The files that can be read.
     pub files: Vec<SceneFile>,

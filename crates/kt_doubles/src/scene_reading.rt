@@ -78,8 +78,8 @@ fn add_path(scene: &mut Scene, line: &ExampleLine<'_>) -> Result<()> {
     push_made(&mut scene.paths, both(word, path))
 }
 
-/// Parses the calls that fail: `N` for one call, or `N M` for the calls from `N` to `M`. Returns
-/// the first number, and the last number plus 1. Allocates nothing.
+/// Parses the range of the calls that fail, counted from 0: `N` for one call, or `N M` for the
+/// calls from `N` to `M`. Returns the first number, and the last number plus 1. Allocates nothing.
 ///
 /// # Errors
 ///

@@ -78,7 +78,8 @@ fn note(log: &mut ExampleOutput, word: &str, position: u32, role: Role) {
 }
 
 impl<'a> ScriptedLauncher<'a> {
-    /// Creates a launcher without running children and pending cleanups.
+    /// Creates a launcher without running children and pending cleanups. `letters`, `ends` and
+    /// `moments` are its fields of the same names.
     #[tactic(auto, using(crate::proofs::EmptyPlaces::idle))]
     pub fn new(
         alloc: Global,

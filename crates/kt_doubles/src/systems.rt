@@ -97,8 +97,8 @@ fn push_leftovers(out: &mut ExampleOutput, log: &str) {
 }
 
 /// Appends the part of a run that `word` selects. `calls`, `words` and `watching` select calls, and
-/// `spawns` and `spawned` the started programs. `left` and `totals` select numbers, and other words
-/// parts of the entries.
+/// `spawns` and `spawned` the started programs. `left` and `totals` select numbers, and any other
+/// word selects a part of the entries.
 fn push_run_part(
     out: &mut ExampleOutput,
     word: &str,
@@ -175,8 +175,8 @@ fn run_plan<'a>(row: &Example<'_>, scene: &'a Scene) -> Result<DriverRun<Scripte
     Ok(drive(alloc, os, plan, width, &base, source, sink))
 }
 
-/// Executes the plan of an example once. Appends what `show WORDS` selects, by default the entries,
-/// and the error that ended the run early.
+/// Executes the plan of an example once. Appends the parts that `show WORDS` selects, by default
+/// the entries, and the error that ended the run early.
 fn push_run(out: &mut ExampleOutput, row: &Example<'_>, scene: &Scene) -> Result<()> {
     let run = run_plan(row, scene)?;
     for word in row.text("show").unwrap_or("entries").split_whitespace() {
@@ -273,9 +273,9 @@ fn list(out: &mut ExampleOutput, row: &Example<'_>, scene: &Scene) -> Result<()>
     Ok(())
 }
 
-/// Returns the number of bytes that are read of an endless file, and `true` if more bytes follow.
-/// With `limit`, `read_front` reads the file as an output. Without it, `read_start` reads the file
-/// as a Kyuafile. Returns `None` if the read fails.
+/// Returns the number of bytes that are read of an endless file, and `true` if more bytes are known
+/// to follow. With `limit`, `read_front` reads the file as an output. Without it, `read_start`
+/// reads the file as a Kyuafile. Returns `None` if the read fails.
 fn front(alloc: Global, file: &mut EndlessReader, limit: Option<u64>) -> Option<(usize, bool)> {
     let Some(limit) = limit else {
         let bytes = read_start(alloc, file, SCRIPT_READ_BYTES).ok()?;
