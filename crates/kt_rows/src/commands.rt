@@ -113,8 +113,8 @@ fn push_closed(out: &mut ExampleOutput, played: &mut CommandsRun<RefusingStore>)
     }
 }
 
-/// Appends the outputs, the exit statuses, and what `show WORDS` selects: `runs` of the store, or
-/// the calls on the `system`.
+/// Appends the outputs, the exit statuses, and the parts that `show WORDS` selects: `runs` of the
+/// store, or the calls on the `system`.
 fn push_result_and_state(
     out: &mut ExampleOutput,
     row: &Example<'_>,
@@ -131,8 +131,9 @@ fn push_result_and_state(
     Ok(())
 }
 
-/// Returns what is wrong after a failed write: the output isn't a proper prefix, the last exit
-/// status isn't 2, or the runs differ. Returns `None` if all is right.
+/// Checks `cut`, the state after a failed write: the output is a proper prefix of that of `whole`,
+/// the last exit status is 2, and the runs are those of `whole`. Returns a message if one of these
+/// facts is false, else `None`.
 fn wrong(
     alloc: Global,
     whole: &mut CommandsRun<RefusingStore>,

@@ -36,7 +36,7 @@ struct TestResult {
     spawned: bool,
 }
 
-/// An execution on a disk that fails, and what a crash after it leaves.
+/// An execution on a disk that fails, and the content of the files after a crash.
 #[derive(Drop)]
 struct Attempt {
     /// The outcome, or `None` if the results tables couldn't be attached.
@@ -169,8 +169,8 @@ impl DiskTrial<'_> {
         Ok((tested, played.into_results()?))
     }
 
-    /// Executes the command lines on `files`, and returns the outcome and what a crash leaves.
-    /// Returns `None` if the files can't be opened.
+    /// Executes the command lines on `files`, and returns the outcome and the content after a
+    /// crash. Returns `None` if the files can't be opened.
     fn tried(self, files: Files<Fuse<Memory>>) -> Result<Option<Attempt>> {
         let (alloc, frames) = (self.scene.alloc, self.frames);
         let Some((tested, files)) = run_on_files(alloc, files, frames, self)? else {
@@ -206,9 +206,9 @@ impl DiskTrial<'_> {
     }
 
     /// Executes the command lines with each call of the disk failing in turn, and appends the store
-    /// calls that stopped them, each only once. The trial ends if no call stopped a command, or if
-    /// something is wrong. If the output or the runs are wrong, appends them without and with the
-    /// failure.
+    /// calls that stopped them. Consecutive executions that stop in the same call are appended
+    /// once. The trial ends if no call stopped a command, or if something is wrong. If the output
+    /// or the runs are wrong, appends them without and with the failure.
     fn push_stops(self, out: &mut ExampleOutput, whole: &SoundRun) -> Result<()> {
         out.push("stopped in");
         let mut last = String::new(self.scene.alloc);

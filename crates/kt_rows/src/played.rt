@@ -90,7 +90,7 @@ impl<R: ResultStore + Drop> CommandsRun<R> {
     ///
     /// # Errors
     ///
-    /// - `InvalidExample`: an argument has an invalid escape.
+    /// - `InvalidExample`: an argument has an invalid escape or isn't UTF-8.
     /// - `NoMemory`: an allocation outside the command failed.
     pub fn play(&mut self, lines: &[ExampleLine<'_>], scene: &Scene) -> Result<()> {
         let alloc = self.log.alloc;

@@ -37,8 +37,9 @@ fn print_whole(pieces: &[Vec<u8>], to_lines: bool, out: &mut ScriptedWriter) -> 
     }
 }
 
-/// Returns what is wrong with a writer after one of its writes failed, or `None`. The failure must
-/// be reported, no write may follow it, and the written bytes must be a proper prefix of `whole`.
+/// Checks a writer after one of its writes failed: the failure was reported, no write followed it,
+/// and the written bytes are a proper prefix of `whole`. Returns a message if one of these facts is
+/// false, else `None`.
 fn wrong(whole: &[u8], cut: &ScriptedWriter, well: bool) -> Result<Option<&'static str>, NoMemory> {
     let kept = cut.kept()?;
     if well {
@@ -53,9 +54,9 @@ fn wrong(whole: &[u8], cut: &ScriptedWriter, well: bool) -> Result<Option<&'stat
     Ok(None)
 }
 
-/// Prints pieces into writers that accept `at_most` bytes per write, and appends what is wrong.
-/// Without a failure, a writer must get the text `whole`. If one of the first 100 writes fails, it
-/// must get a proper prefix.
+/// Prints pieces into writers that accept `at_most` bytes per write, and appends a line for each
+/// error. Without a failure, a writer must get the text `whole`. If one of the first 100 writes
+/// fails, it must get a proper prefix.
 fn push_wrong(
     out: &mut ExampleOutput,
     pieces: &[Vec<u8>],
@@ -85,8 +86,8 @@ fn push_wrong(
 }
 
 /// Prints pieces into several writers, and appends the text after a line for each error. The
-/// writers accept all bytes, 7 bytes or 1 byte per write, and may fail at one of the first writes.
-/// If `to_lines` is set, a line buffer precedes each writer.
+/// writers accept all bytes, 7 bytes or 1 byte per write, and may fail at one of the first 100
+/// writes. If `to_lines` is set, a line buffer precedes each writer.
 ///
 /// # Errors
 ///

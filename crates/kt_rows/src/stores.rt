@@ -151,7 +151,7 @@ fn is_short(answer: &str) -> bool {
 }
 
 /// Appends the common output of both ways, or both outputs if they differ. If one output reports a
-/// failed allocation, only that output is appended, because the other one must differ.
+/// failed allocation, only that output is appended, because the other way didn't have that failure.
 fn push_both(out: &mut ExampleOutput, by_sql: &str, of_trees: &str) {
     if by_sql == of_trees || is_short(by_sql) {
         out.push(by_sql);
