@@ -4,7 +4,8 @@ use Rattle.kt_base.proofs.Common.{IsScalar, IsUtf8, IsValidUpTo, is_utf8, chars,
 use Rattle.std.proofs.Math.Utf8.{scalars}
 use Rattle.std.proofs.Math.Seq.{drop-append_seam, take-append_seam, take-add}
 
--- `front` is nothing if there are fewer than `n` bytes or the first `n` bytes are not UTF-8
+-- `front bytes n` is nothing if `bytes` has fewer than `n` bytes, or if its first `n` bytes are not
+-- UTF-8
 front_none : (n : ℕ) (bytes : List ℕ) → (n ≤ length bytes → IsUtf8 (take n bytes) → ⊥) → front bytes n ≡ None
 front_none n bytes bad = by_length (nat_le n (length bytes)) refl
   where
@@ -62,7 +63,7 @@ skips (suc n) (b ∷ bytes) = skips n bytes
 one_less : (n : ℕ) → suc n - 1 ≡ n
 one_less n = omega arith
 
--- bytes that begin with a character decode to that character and the text of the rest
+-- bytes that begin with a character's encoding decode to that character and the text of the rest
 past_first : (s rest : List ℕ) → 0 < length s → first (s ++ rest) ≡ Some s → lossy (s ++ rest) ≡ chars s ++ lossy rest
 unfolding lossy_from
 past_first [] rest some is = absurd (omega (arith, some))
@@ -71,7 +72,7 @@ past_first (b ∷ s) rest some is =
     ∙ ap (λ (n : ℕ). chars (b ∷ s) ++ lossy_from n (s ++ rest)) (one_less (length s))
     ∙ ap (λ (xs : List ℕ). chars (b ∷ s) ++ xs) (skips (length s) (s ++ rest) ∙ ap lossy (drop-append_seam s rest))
 
--- bytes that begin with a UTF-8 text decode to that text and the text of the rest
+-- bytes that begin with the encoding of a text decode to that text and the text of the rest
 past_text : (cs rest : List ℕ) → scalars cs ≡ true → lossy (encode_utf8_all cs ++ rest) ≡ cs ++ lossy rest
 past_text [] rest s = refl
 past_text (c ∷ cs) rest s =
@@ -89,7 +90,8 @@ unfolding lossy_from first
 past_byte b bytes bad =
     rw (front_none 1 (b ∷ bytes) (bad 1 (omega arith)), front_none 2 (b ∷ bytes) (bad 2 (omega arith)), front_none 3 (b ∷ bytes) (bad 3 (omega arith)), front_none 4 (b ∷ bytes) (bad 4 (omega arith))) refl
 
--- bytes that are valid up to byte `n` decode to that text, U+FFFD, and the text after byte `n`
+-- bytes whose first `n` bytes are valid and whose byte `n` is not decode to the text of the first
+-- `n` bytes, U+FFFD, and the text of the bytes after byte `n`
 pub past_fault : (bytes : List ℕ) (n : ℕ) → IsValidUpTo bytes n → lossy bytes ≡ chars (take n bytes) ++ 65533 ∷ lossy (drop (suc n) bytes)
 past_fault bytes n valid =
     let u = valid.front in
@@ -101,7 +103,7 @@ past_fault bytes n valid =
     ap lossy (sym (take-append-drop n bytes)) ∙ (λ i. lossy (sym u.1.1 i ++ after i)) ∙ past_text u.0 _ u.1.0
     ∙ (λ i. chars_from_encodes u.0 (take n bytes) u u.1.1 i ++ past_byte b (drop (suc n) bytes) none i)
 
--- decoding the next bytes, valid bytes or up to an invalid byte, preserves the final text
+-- the final text is preserved if the next bytes, valid ones or up to an invalid byte, are decoded
 pub all_text : (old new bytes : List ℕ) → IsUtf8 bytes → new ≡ old ++ chars bytes → new ++ lossy [] ≡ old ++ lossy bytes
 unfolding lossy_from
 all_text old new bytes u pushed =
@@ -113,7 +115,7 @@ pub one_fault : (old middle new bytes : List ℕ) (n : ℕ) → IsValidUpTo byte
 one_fault old middle new bytes n valid first last =
     rw (last, first, add-one n, append_assoc, append_assoc) (ap (λ (xs : List ℕ). old ++ xs) (sym (past_fault bytes n valid)))
 
--- the decoded text is complete if no bytes remain
+-- the decoded text is the text of all bytes if no bytes remain
 pub ends : (text rest all : List ℕ) → text ++ lossy rest ≡ all → true ≡ (length rest == 0) → text ≡ all
 unfolding lossy_from
 ends text [] all so_far none = sym (append-nil text) ∙ so_far

@@ -13,7 +13,7 @@ drop-one n b rest = let e : 1 + n ≡ suc n = omega arith in rw e refl
 pub same_number : (n : ℕ) → (n == n) ≡ true
 same_number n = grind (arith, nat_tests)
 
--- a property that holds of `Err fault` holds of a result that is this error, as after `?`
+-- a property of `Err fault` is a property of each result that is this error, as after `?`
 pub error_is : {T E : Type 0} (P : Result T E → Type 0) (r : Result T E) (fault : E) → IsErrAnd r (λ x. x ≡ fault) → P (Err fault) → P r
 error_is P (Ok done) fault is p = absurd is
 error_is {T} {E} P (Err other) fault is p = subst (λ (f : E). P (Err f)) (sym is) p

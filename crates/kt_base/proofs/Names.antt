@@ -33,14 +33,15 @@ pub unwrap-or : (a b : Option (List ℕ)) (value : List ℕ) → unwrap_or (opti
 unwrap-or None b value = refl
 unwrap-or (Some v) b value = refl
 
--- the value of a name in two joined lists is its value in the second, or else in the first
+-- the value of a name in two joined lists is its value in the second list, or in the first list if
+-- the second list does not have the name
 pub value_of-append : (name : List ℕ) (xs ys : List Variable) → value_of name (xs ++ ys) ≡ option_or (value_of name ys) (value_of name xs)
 value_of-append name [] ys = sym (or-none (value_of name ys))
 value_of-append name (x ∷ xs) ys =
     ap (λ (o : Option (List ℕ)). option_or o (if is_named name x then Some x.value else None)) (value_of-append name xs ys)
     ∙ sym (or-or (value_of name ys) (value_of name xs) (if is_named name x then Some x.value else None))
 
--- a name has no value after its pairs were removed
+-- a name has no value in a list from which all pairs of that name are removed
 without-same-next : (name : List ℕ) (x : Variable) (xs : List Variable) → value_of name (without name xs) ≡ None → (b : Bool) → is_named name x ≡ b → value_of name (without name (x ∷ xs)) ≡ None
 without-same-next name x xs h true e = rw e h
 without-same-next name x xs h false e = rw (e, h, e) refl

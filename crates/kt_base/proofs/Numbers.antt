@@ -12,7 +12,7 @@ not_up_to greatest n lt = grind (arith, nat_tests)
 too_large : (greatest v : ℕ) (cs : List ℕ) → greatest < v → up_to greatest (decimal_from v cs) ≡ None
 too_large greatest v cs lt = rw (not_up_to greatest (decimal_from v cs) (omega (arith, decimal_from-grows v cs))) refl
 
--- a number is above `greatest` if its first digits are a number above `greatest`
+-- a number is above `greatest` if its first digits alone represent a number above `greatest`
 pub overflows : (greatest v c : ℕ) (rest after digits : List ℕ) → rest ≡ c ∷ after → decimal_from v rest ≡ decimal_from 0 digits
     → greatest < 10 * v + (c - 48) → None ≡ up_to greatest (decimal_from 0 digits)
 overflows greatest v c rest after digits parts so_far lt =

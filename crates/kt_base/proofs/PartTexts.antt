@@ -15,11 +15,11 @@ one_number_text head lead first tail = rw chars-nil refl
 pub two_numbers_text : (head first between second tail : List ℕ) → head ++ (chars [] ++ (first ++ (between ++ (second ++ tail)))) ≡ head ++ (first ++ (between ++ (second ++ tail)))
 two_numbers_text head first between second tail = rw chars-nil refl
 
--- a text that is the message of a phrase without outcome and numbers is the phrase's text
+-- a text that consists of a phrase's message alone is the text of the phrase
 pub phrase_alone : (text head : List ℕ) (phrase : Phrase) → text ≡ chars head → head ≡ phrase_text phrase → text ≡ phrase_text phrase
 phrase_alone text head phrase e h = rw (e, h) (chars-phrase phrase)
 
--- the concatenated parts of a phrase with an exit status or a signal are its text
+-- the text of a phrase with an exit status or a signal is the concatenation of its parts
 pub exited_text : (text head : List ℕ) (phrase : Phrase) (ending : Outcome) (code : ℕ) → text ≡ chars head ++ (chars (codes "exited with code ") ++ (decimal code ++ chars []))
     → head ≡ phrase_text phrase → ending ≡ Exited code → text ≡ phrase_text phrase ++ outcome_text ending
 unfolding chars
@@ -40,7 +40,7 @@ unended_text text head phrase (Exited code) e h n m = absurd (n code refl)
 unended_text text head phrase (Signaled signal core) e h n m = absurd (m signal core refl)
 unended_text text head phrase ending e h n m = phrase_alone text head phrase e h ∙ sym (append-nil (phrase_text phrase))
 
--- the concatenated parts of a phrase with its numbers are its text
+-- the text of a phrase with its numbers is the concatenation of its parts
 pub exit_codes_text : (text : List ℕ) (phrase : Phrase) (m n : ℕ) → text ≡ chars (codes "Expected exit code ") ++ (decimal m ++ (chars (codes " but got ") ++ (decimal n ++ chars []))) → phrase ≡ OtherExitCode → text ≡ counted_text phrase m n
 unfolding chars
 exit_codes_text text phrase m n e is = rw (e, is) (simp (append_assoc, append-nil))
@@ -75,11 +75,11 @@ pub count_text : (text head : List ℕ) (phrase : Phrase) (m n : ℕ) → text �
 unfolding chars
 count_text text head phrase m n is h a b c d e = rw (is, h, chars-phrase phrase, append-nil (decimal m)) (sym (plain_count phrase m n a b c d e))
 
--- the bytes of the whole text are the bytes of its parts, as they are written
+-- the bytes of a text of six parts are the bytes of its four pieces, in the order of their writes
 pub parts_bytes : (a l f b s t : List ℕ) → utf8 (a ++ (l ++ (f ++ (b ++ (s ++ t))))) ≡ utf8 a ++ (utf8 (l ++ f) ++ (utf8 (b ++ s) ++ utf8 t))
 parts_bytes a l f b s t = simp (encodes-append, append_assoc)
 
--- a text with each part appended in turn is the text followed by all parts
+-- a text to which six parts are appended one by one is the text followed by all six parts
 pub appended : (start a l f b s t after1 after2 after3 after4 after5 after6 : List ℕ) → after1 ≡ start ++ a → after2 ≡ after1 ++ l → after3 ≡ after2 ++ f
     → after4 ≡ after3 ++ b → after5 ≡ after4 ++ s → after6 ≡ after5 ++ t → after6 ≡ start ++ (a ++ (l ++ (f ++ (b ++ (s ++ t)))))
 appended start a l f b s t after1 after2 after3 after4 after5 after6 e1 e2 e3 e4 e5 e6 = rw (e6, e5, e4, e3, e2, e1) (simp append_assoc)

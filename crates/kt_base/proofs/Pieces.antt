@@ -31,7 +31,7 @@ onto_part sign (x ∷ xs) ys part parts lacks e =
     slice_split-cons_no (λ b. b == sign) x (xs ++ ys) (grind (arith, nat_tests))
     ∙ ap (onto_first x) (onto_part sign xs ys part parts (λ i l. lacks (suc i) (omega arith)) e)
 
--- splitting the characters of a text gives the characters of the parts of its bytes
+-- the parts of a text's characters are the characters of the parts of its bytes
 pub split-chars : (sign : ℕ) (cs : List ℕ) → sign < 128 → scalars cs ≡ true → map chars (slice_split (λ b. b == sign) (encode_utf8_all cs)) ≡ slice_split (λ c. c == sign) cs
 split-chars sign [] small s = ap (λ (part : List ℕ). part ∷ []) chars-nil
 split-chars sign (c ∷ cs) small s = let each = and_parts (scalar c) (scalars cs) s in by (c == sign) refl each.0 (split-chars sign cs small each.1)

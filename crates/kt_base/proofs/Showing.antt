@@ -37,11 +37,11 @@ both : (a b d : Option (List ℕ)) (failed : Bool) (xs ys : List ℕ) → Append
 both a b d false xs ys p q = appends_both a b d xs ys p q
 both a b d true xs ys p q = (xs ++ q.0, q.1, q.2, ap (λ (z : List ℕ). xs ++ z) q.3 ∙ sym (append_assoc xs q.0 (q.2 ∷ q.1)), appends_both a b d xs q.0 p q.4)
 
--- writing a text and then another text writes the joined text
+-- writing a text and then another text has the effect of writing the two texts joined
 pub shows_both : {a b d : Option (List ℕ)} {failed : Bool} {xs ys : List ℕ} → Shows a b false xs → Shows b d failed ys → Shows a d failed (xs ++ ys)
 shows_both {a} {b} {d} {failed} {xs} {ys} p q = record { holds = both a b d failed xs ys p.holds q.holds }
 
--- a text that was not written whole is a proper prefix of a longer text, too
+-- a failed write of a text has also the effect of a failed write of a longer text
 pub shows_more : {a b : Option (List ℕ)} {xs : List ℕ} (ys : List ℕ) → Shows a b true xs → Shows a b true (xs ++ ys)
 shows_more {a} {b} {xs} ys p = let h = p.holds in record { holds = (h.0, h.1 ++ ys, h.2, ap (λ (z : List ℕ). z ++ ys) h.3 ∙ append_assoc h.0 (h.2 ∷ h.1) ys, h.4) }
 
@@ -57,7 +57,7 @@ shows_nothing {a} x xs = record { holds = ([], xs, x, refl, appends_none a) }
 pub shows_as : {a b : Option (List ℕ)} {failed : Bool} {xs ys : List ℕ} → xs ≡ ys → Shows a b failed xs → Shows a b failed ys
 shows_as {a} {b} {failed} e p = subst (λ (zs : List ℕ). Shows a b failed zs) e p
 
--- `Shows` with a flag implies `Shows` with an equal flag
+-- `Shows` with one flag for a failure implies `Shows` with an equal flag
 pub shows_of : {a b : Option (List ℕ)} {failed failed' : Bool} {xs : List ℕ} → failed ≡ failed' → Shows a b failed xs → Shows a b failed' xs
 shows_of {a} {b} {xs = xs} e p = subst (λ (f : Bool). Shows a b f xs) e p
 
@@ -65,7 +65,7 @@ cut_at : (k : ℕ) (xs rest : List ℕ) → drop k xs ≡ rest → k < length xs
 cut_at k xs [] e few = absurd (let d = length-drop k xs in let l : length (drop k xs) ≡ 0 = ap length e in omega (arith, d, l, few))
 cut_at k xs (b ∷ rest) e few = (rest, b, sym (take-append-drop k xs) ∙ ap (λ (z : List ℕ). take k xs ++ z) e)
 
--- fewer bytes than the whole text are a proper prefix, as after a failed write
+-- a writer that got fewer bytes than the whole text has the contents after a failed write
 pub shows_cut : (a b : Option (List ℕ)) (k : ℕ) (xs : List ℕ) → k < length xs → Appends a b (take k xs) → Shows a b true xs
 shows_cut a b k xs few p = let cut = cut_at k xs (drop k xs) refl few in record { holds = (take k xs, cut.0, cut.1, cut.2, p) }
 

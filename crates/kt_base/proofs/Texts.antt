@@ -13,7 +13,7 @@ pub bytes_eq-chars : (a b : List ℕ) → IsUtf8 a → IsUtf8 b → bytes_eq a b
 bytes_eq-chars a b u v =
     same_from_decides (bytes_eq a b) (bytes_eq (chars a) (chars b)) (Decides-like (bytes_eq a b) (λ e. ap chars e) (λ e. from_chars a b u v e) (bytes_eq-Decides a b)) (bytes_eq-Decides (chars a) (chars b))
 
--- equality with a string's bytes is equality with its characters
+-- bytes are equal to a string's bytes exactly if their characters are equal to the string's
 pub key-chars : {Z : Type 0} (q : List ℕ) → IsUtf8 q → (k : String Z) → bytes_eq q (string_bytes k) ≡ bytes_eq (chars q) (chars (string_bytes k))
 key-chars q u k = bytes_eq-chars q (string_bytes k) u (IsUtf8-string_bytes k)
 
@@ -29,7 +29,8 @@ pub is_empty-chars : (bs : List ℕ) → IsUtf8 bs → is_empty (chars bs) ≡ (
 is_empty-chars [] u = ap is_empty chars-nil
 is_empty-chars (b ∷ bs) u = some_bytes b bs (chars (b ∷ bs)) (encodes-chars (b ∷ bs) u) ∙ not_zero (length bs)
 
--- without `sign`, `before` is the whole text; otherwise `before` and `after` are its two sides
+-- in a text without `sign`, `before` is the whole text; with `sign`, `before` and `after` are the
+-- texts on its two sides
 uncut : (sign : ℕ) (cs : List ℕ) → NonePass (λ d. d == sign) cs → (before sign cs ≡ cs) × (after sign cs ≡ None)
 uncut sign [] none = (refl, refl)
 uncut sign (c ∷ cs) none = let e = uncut sign cs none.1 in rw (none.0, e.0, e.1) (refl, refl)
@@ -38,7 +39,8 @@ cut : (sign : ℕ) (cs rest : List ℕ) → NonePass (λ d. d == sign) cs → (b
 cut sign [] rest none = rw (eq-eqb sign sign refl) (refl, refl)
 cut sign (c ∷ cs) rest none = let e = cut sign cs rest none.1 in rw (none.0, e.0, e.1) (refl, refl)
 
--- the two parts that `split_once` returns are `before` and `after`
+-- `before` and `after` are the texts that `split_once` returns, if it finds no `sign` and if it
+-- finds one
 pub not_found : (sign : ℕ) (s : List ℕ) → IsUtf8 s → FindsChar sign s None → (chars s ≡ before sign (chars s)) × (None ≡ after sign (chars s))
 not_found sign s u f =
     let whole = chars_from_encodes f.0 s u f.1 in

@@ -3,7 +3,7 @@ use Rattle.std.specs.Prelude.{ℕ, Bool, true, false, List, codes}
 use Rattle.kt_base.specs.declared.verdict.Kind.{Kind}
 use Rattle.kt_base.specs.declared.verdict.Kind.TheVariants.{Passed, Skipped, ExpectedFailure, Failed, Broken}
 
--- `good kind`: `kind` counts as a success.
+-- `good kind`: a verdict of the kind `kind` counts as a success.
 abbrev pub good : Kind → Bool
 good Passed = true
 good Skipped = true
@@ -11,7 +11,7 @@ good ExpectedFailure = true
 good Failed = false
 good Broken = false
 
--- `word kind`: the keyword of `kind` in reports.
+-- `word kind`: the keyword by which reports print the kind `kind`.
 abbrev pub word : Kind → List ℕ
 word Passed = codes "passed"
 word Skipped = codes "skipped"

@@ -5,12 +5,12 @@ use Rattle.std.specs.Option.{option_or}
 use Rattle.std.specs.Str.{bytes_eq}
 use Rattle.kt_base.specs.declared.variable.Variable.{Variable}
 
--- `is_named name pair`: `pair` has the name `name`.
+-- `is_named name pair`: the name of the pair `pair` is `name`.
 abbrev pub is_named : List ℕ → Variable → Bool
 is_named name pair = bytes_eq name pair.name
 
--- `value_of name pairs`: the value of the last pair named `name` in `pairs`, or nothing without
--- such a pair.
+-- `value_of name pairs`: the value of the last pair named `name` in `pairs`, or nothing if no pair
+-- has this name.
 abbrev pub value_of : List ℕ → List Variable → Option (List ℕ)
 value_of name [] = None
 value_of name (pair ∷ pairs) = option_or (value_of name pairs) (if is_named name pair then Some pair.value else None)
@@ -19,8 +19,8 @@ value_of name (pair ∷ pairs) = option_or (value_of name pairs) (if is_named na
 abbrev pub without : List ℕ → List Variable → List Variable
 without name pairs = filter (λ pair. not (is_named name pair)) pairs
 
--- `last_values pairs`: each name of `pairs` once, in the order of first occurrence, with its last
--- value.
+-- `last_values pairs`: one pair for each name in `pairs`, with the last value of that name. The
+-- names are in the order of their first occurrences.
 abbrev pub last_values : List Variable → List Variable
 last_values [] = []
 last_values (pair ∷ pairs) = record { name = pair.name; value = unwrap_or (value_of pair.name pairs) pair.value } ∷ without pair.name (last_values pairs)

@@ -9,7 +9,7 @@ largest_width = 256
 abbrev pub longest_timeout_seconds : ℕ
 longest_timeout_seconds = 1000000
 
--- `last_run`: the greatest number of a run. Runs are numbered from 1.
+-- `last_run`: the greatest number that a run can have. Runs are numbered from 1.
 abbrev pub last_run : ℕ
 last_run = 1000000
 

@@ -3,34 +3,36 @@ use Rattle.std.specs.Prelude.{ℕ, zero, suc, ◌-◌, ◌&&◌, nat_le, if◌th
 use Rattle.std.specs.Option.{option_or}
 use Rattle.std.specs.Str.{chars, is_utf8}
 
--- `front bytes n`: the first `n` of `bytes`, or nothing if they are fewer or not UTF-8.
+-- `front bytes n`: the first `n` bytes of `bytes`, or nothing if `bytes` has fewer bytes or if
+-- these `n` bytes are not valid UTF-8.
 abbrev pub front : List ℕ → ℕ → Option (List ℕ)
 front bytes n = if nat_le n (length bytes) && is_utf8 (take n bytes) then Some (take n bytes) else None
 
--- `first bytes`: the encoding of the character at the beginning of `bytes`: their shortest prefix
--- of 1 to 4 bytes that is UTF-8. Nothing if no character begins there.
+-- `first bytes`: the encoding of the character at the beginning of `bytes`: the shortest prefix of
+-- 1 to 4 bytes that is valid UTF-8. Nothing if no character begins there.
 unfoldable pub first : List ℕ → Option (List ℕ)
 first bytes = option_or (front bytes 1) (option_or (front bytes 2) (option_or (front bytes 3) (front bytes 4)))
 
--- `character found`: the character that the bytes `found` encode, or U+FFFD without bytes.
+-- `character found`: the text of one character: the one that the bytes `found` encode, or U+FFFD if
+-- `found` is absent.
 abbrev pub character : Option (List ℕ) → List ℕ
 character None = 65533 ∷ []
 character (Some bytes) = chars bytes
 
--- `further found`: the number of bytes in the encoding `found` after its first byte, or 0 without
--- an encoding.
+-- `further found`: the number of bytes after the first byte in a character's encoding `found`, or 0
+-- if `found` is absent.
 abbrev pub further : Option (List ℕ) → ℕ
 further None = 0
 further (Some bytes) = length bytes - 1
 
--- `lossy_from n bytes`: the decoded text of `bytes` after their first `n` bytes. These belong to a
+-- `lossy_from n bytes`: the decoded text of `bytes` without the first `n` bytes, which belong to a
 -- character that began before `bytes`.
 unfoldable pub lossy_from : ℕ → List ℕ → List ℕ
 lossy_from n [] = []
 lossy_from zero (b ∷ bytes) = character (first (b ∷ bytes)) ++ lossy_from (further (first (b ∷ bytes))) bytes
 lossy_from (suc n) (b ∷ bytes) = lossy_from n bytes
 
--- `lossy bytes`: the text of `bytes`, decoded from the left: each well-formed character, and U+FFFD
--- for each byte where no character begins.
+-- `lossy bytes`: the text that `bytes` are decoded to, from left to right: each well-formed
+-- character, and U+FFFD for each byte where no character begins.
 abbrev pub lossy : List ℕ → List ℕ
 lossy bytes = lossy_from 0 bytes

@@ -8,8 +8,8 @@ use Rattle.kt_base.specs.Limits.{latest_moment_millis}
 abbrev pub IsMoment : ℕ → Type 0
 IsMoment moment = moment ≤ latest_moment_millis
 
--- `IsStorable entry`: the start time and the duration of `entry` are at most `latest_moment_millis`, so a
--- store accepts them.
+-- `IsStorable entry`: a store accepts the times of `entry`: its start time and its duration are at
+-- most `latest_moment_millis`.
 pub record IsStorable (entry : Entry) : Type 0 where
   pub started : IsMoment entry.started
   pub millis : IsMoment entry.millis

@@ -11,21 +11,21 @@ use Rattle.kt_base.specs.declared.failed_start.Refused.{Refused}
 use Rattle.kt_base.specs.declared.failed_start.Refused.TheVariants.{Directory, Output, Spawn, Memory}
 use Rattle.kt_base.specs.Phrases.{phrase_text}
 
--- `core_dump_text core`: the text that follows the number of a signal: a remark on the core dump if
--- `core` is true, otherwise nothing.
+-- `core_dump_text core`: the text after the number of a signal: a remark on the core dump if `core`
+-- is true, otherwise an empty text.
 abbrev pub core_dump_text : Bool → List ℕ
 core_dump_text false = []
 core_dump_text true = codes " (core dumped)"
 
--- `outcome_text outcome`: the text for the exit status or the signal of `outcome`. It is empty for
--- another outcome.
+-- `outcome_text outcome`: the text of the exit status or signal of the process with the outcome
+-- `outcome`. It is empty for a timeout and for a failed wait.
 abbrev pub outcome_text : Outcome → List ℕ
 outcome_text (Exited code) = codes "exited with code " ++ decimal code
 outcome_text (Signaled signal core) = codes "received signal " ++ decimal signal ++ core_dump_text core
 outcome_text _ = []
 
--- `counted_text phrase m n`: the message of `phrase` with the numbers `m` and `n`. Most phrases end
--- with `m` and do not use `n`.
+-- `counted_text phrase m n`: the message of `phrase` with `m` as its first number and `n` as its
+-- second. A phrase with one number ends with `m` and ignores `n`.
 abbrev pub counted_text : Phrase → ℕ → ℕ → List ℕ
 counted_text OtherExitCode due got = codes "Expected exit code " ++ decimal due ++ codes " but got " ++ decimal got
 counted_text OtherSignal due got = codes "Expected signal " ++ decimal due ++ codes " but got " ++ decimal got
@@ -42,7 +42,8 @@ reason_text (Ended phrase ending) = phrase_text phrase ++ outcome_text ending
 reason_text (Counted phrase m n) = counted_text phrase m n
 reason_text (Owned text) = text
 
--- `refused_reason cause`: the reason of the verdict on a case whose start failed with `cause`.
+-- `refused_reason cause`: the reason of the verdict on a case whose child process could not be
+-- started, because of `cause`.
 abbrev pub refused_reason : Refused → Reason
 refused_reason Directory = Fixed NoDirectory
 refused_reason Output = Fixed NoOutput

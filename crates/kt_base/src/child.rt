@@ -12,7 +12,7 @@ pub enum Interface {
 /// A part of a test case that a child process runs.
 #[derive(Clone, Copy, PartialEq, Eq, Hash)]
 pub enum Role {
-    /// The body.
+    /// The body, which performs the test.
     Body,
     /// The cleanup, which an ATF case can declare, see atf-test-case(4).
     Cleanup,
@@ -23,10 +23,10 @@ pub enum Role {
 pub enum Outcome {
     /// The process exited by itself, with this exit status.
     Exited(u8),
-    /// This signal killed the process. The flag is `true` if the process left a core dump.
+    /// The signal with this number killed the process. The flag is `true` if it left a core dump.
     Signaled(u8, bool),
     /// The runner killed the process at its time limit.
     TimedOut,
-    /// The system failed to report the outcome.
+    /// The system failed to report how the process ended.
     WaitFailed,
 }

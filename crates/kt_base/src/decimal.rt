@@ -27,7 +27,7 @@ impl Model for Decimal {
 }
 
 impl Decimal {
-    /// Creates the decimal digits of `n`, without leading zeros. Allocates nothing.
+    /// Creates the decimal digits of the number `n`, without leading zeros. Allocates nothing.
     pub fn new(n: u64) -> Decimal
         ensures value { result ≡ decimal n }
         ensures ascii { utf8 (decimal n) ≡ decimal n }
@@ -35,7 +35,9 @@ impl Decimal {
         Decimal::wide(u128::from(n))
     }
 
-    /// Creates the decimal digits of a 128-bit number, without leading zeros. Allocates nothing.
+    /// Creates the decimal digits of the 128-bit number `n`, without leading zeros.
+    ///
+    /// Allocates nothing.
     pub fn wide(n: u128) -> Decimal
         ensures value { result ≡ decimal n }
         ensures ascii { utf8 (decimal n) ≡ decimal n }

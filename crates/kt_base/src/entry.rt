@@ -28,7 +28,7 @@ pub struct Entry {
     pub started: u64,
     /// The time from the start of the body to the end of the case, in milliseconds.
     ///
-    /// The time is 0 if the body was not started or the clock went back.
+    /// The time is 0 if the body was not started, or if the clock was set back to before its start.
     pub millis: u64,
     /// The output of the body. Empty if the body was not started.
     pub body: Output,
@@ -38,7 +38,7 @@ pub struct Entry {
     pub meta: Variables,
 }
 
-/// Not derived, so that the prover handles a drop as one call.
+/// A manual impl, so that the prover handles each drop as one call.
 impl Drop for Entry {
     fn drop(self) {
         let Entry {

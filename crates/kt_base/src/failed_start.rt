@@ -17,7 +17,7 @@ impl Refused {
     ghost use Rattle.std.specs.Prelude.{◌≡◌};
     ghost use Rattle.kt_base.specs.Common.{refused_reason};
 
-    /// Returns the reason of a `broken` verdict: a child process failed to start for this cause.
+    /// Returns the reason of the verdict `broken` on a case whose start failed for this cause.
     pub fn reason(self) -> Reason
         ensures { result ≡ refused_reason self }
     {

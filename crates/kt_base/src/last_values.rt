@@ -1,9 +1,11 @@
 ghost use Rattle.std.specs.Prelude.{◌≡◌, ℕ, List, [], ◌∷◌, ◌++◌, None, IsSome};
 ghost use Rattle.kt_base.specs.Common.{Variable, value_of, last_values, IsReplaced};
 
-/// Theorem: `last_values`, which keeps the last value of each name, can be updated pair by pair.
+/// Theorem: a list of last values is updated if each new pair replaces the pair of its name, or is
+/// appended.
 ///
-/// Proofs use these facts for code that replaces a value in place or appends a pair.
+/// Proofs use these facts for code that replaces a value in place or appends a pair. `last_values`
+/// returns the list of each name's last value.
 pub fn theorem_of_last_values()
     ensures value { (name : List ℕ) → (pairs : List Variable)
         → value_of name (last_values pairs) ≡ value_of name pairs }

@@ -24,7 +24,7 @@ impl NoMemory {
     ghost use Rattle.std.specs.Prelude.{◌≡◌, is_some, true};
     ghost use Rattle.kt_base.specs.Common.{error_kind};
 
-    /// Returns `NoMemory` if `error` has the kind `OutOfMemory`, or `None` if it has another kind.
+    /// Returns `NoMemory` if the kind of `error` is `OutOfMemory`, otherwise `None`.
     pub fn in_error(error: &io::Error) -> Option<NoMemory>
         ensures told { error_kind error.now ≡ ErrorKind.OutOfMemory → is_some result ≡ true }
         ensures only { is_some result ≡ true → error_kind error.now ≡ ErrorKind.OutOfMemory }

@@ -79,7 +79,7 @@ impl Parts<'_> {
         }
     }
 
-    /// Appends the parts to `text`.
+    /// Appends the parts to `text`, with numbers in decimal.
     ///
     /// # Errors
     ///
@@ -95,7 +95,7 @@ impl Parts<'_> {
         text.push_str(self.tail)
     }
 
-    /// Writes the parts to `out`. Allocates nothing.
+    /// Writes the parts to `out` as UTF-8, with numbers in decimal. Allocates nothing.
     ///
     /// # Errors
     ///
@@ -123,7 +123,7 @@ fn push_digits(n: u64, text: &mut Text) -> Result<(), NoMemory>
     text.push_str(digits.as_str())
 }
 
-/// Appends the decimal digits of `number` to `text`. `None` appends nothing.
+/// Appends the decimal digits of `number` to `text`, or nothing if `number` is `None`.
 fn push_number(number: Option<u64>, text: &mut Text) -> Result<(), NoMemory>
     ensures { OnOk result (text.new ≡ text.old ++ number_text number) }
 {
@@ -133,7 +133,7 @@ fn push_number(number: Option<u64>, text: &mut Text) -> Result<(), NoMemory>
     }
 }
 
-/// Writes `words` to `out`.
+/// Writes the text `words` to `out` as UTF-8.
 fn print_words<W: Write>(words: &str, out: &mut W) -> Result<(), OutputFault>
     ensures { Shows (W.contents out.old) (W.contents out.new) (is_err result)
         (utf8 (chars words.now)) }
@@ -141,7 +141,7 @@ fn print_words<W: Write>(words: &str, out: &mut W) -> Result<(), OutputFault>
     emit(words.as_bytes(), out)
 }
 
-/// Writes `number` to `out` in decimal. `None` writes nothing.
+/// Writes `number` to `out` in decimal, or nothing if `number` is `None`.
 fn print_number<W: Write>(number: Option<u64>, out: &mut W) -> Result<(), OutputFault>
     ensures { Shows (W.contents out.old) (W.contents out.new) (is_err result)
         (utf8 (number_text number)) }
@@ -152,7 +152,7 @@ fn print_number<W: Write>(number: Option<u64>, out: &mut W) -> Result<(), Output
     }
 }
 
-/// Writes `words`, then `number` in decimal, to `out`.
+/// Writes the text `words` and then `number` in decimal to `out`. `None` writes no number.
 fn print_text_and_number<W: Write>(
     words: &str,
     number: Option<u64>,
@@ -165,7 +165,7 @@ fn print_text_and_number<W: Write>(
     print_number(number, out)
 }
 
-/// Returns ` (core dumped)` if `core` is `true`, or an empty text.
+/// Returns ` (core dumped)` if `core` is `true`, otherwise an empty text.
 fn core_dump_text(core: bool) -> &'static str
     ensures { chars result.now ≡ core_dump_text core }
 {

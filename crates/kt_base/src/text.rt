@@ -19,7 +19,7 @@ pub struct Text {
     string: String,
 }
 
-/// Not derived, so that the prover handles a drop as one call.
+/// A manual impl, so that the prover handles each drop as one call.
 impl Drop for Text {
     fn drop(self) {
         let Text { string: _ } = self;
@@ -187,7 +187,7 @@ impl Text {
         Ok(())
     }
 
-    /// Appends `more`.
+    /// Appends the text `more`.
     ///
     /// # Errors
     ///

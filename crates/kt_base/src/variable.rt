@@ -3,16 +3,16 @@ use crate::{NoMemory, Text};
 /// A name with its value, such as a variable of a test suite.
 #[derive(Drop)]
 pub struct Variable {
-    /// The name.
+    /// The name of the variable or property.
     pub name: Text,
-    /// The value of the name.
+    /// The value of the variable or property, as a text.
     pub value: Text,
 }
 
 impl Variable {
     ghost use Rattle.std.specs.Prelude.{◌≡◌, IfOk};
 
-    /// Copies the name and the value into new allocations.
+    /// Copies the pair, its name and its value, into new allocations.
     ///
     /// # Errors
     ///

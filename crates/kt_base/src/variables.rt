@@ -17,7 +17,7 @@ pub struct Variables {
     shared: Option<Rc<Vec<Variable>>>,
 }
 
-/// Not derived, so that the prover handles a drop as one call.
+/// A manual impl, so that the prover handles each drop as one call.
 impl Drop for Variables {
     fn drop(self) {
         let Variables { own: _, shared: _ } = self;

@@ -16,7 +16,7 @@ pub enum Reason {
     Owned(Text),
 }
 
-/// Not derived, so that the prover handles a drop as one call.
+/// A manual impl, so that the prover handles each drop as one call.
 impl Drop for Reason {
     fn drop(self) {
         match self {
@@ -52,11 +52,11 @@ impl Reason {
 pub enum Kind {
     /// The case succeeded.
     Passed,
-    /// The case did not apply on this host.
+    /// The case was skipped: a requirement was not met, or the case itself reported this.
     Skipped,
     /// The case failed in the way that it had announced.
     ExpectedFailure,
-    /// The case failed.
+    /// The case reported a failure, for example by its exit status.
     Failed,
     /// The case could not be run or judged.
     Broken,
@@ -163,7 +163,7 @@ impl Verdict {
         }
     }
 
-    /// Creates a verdict of `kind` with `reason`. Drops `reason` if the kind is `Passed`.
+    /// Creates a verdict of `kind` with the reason `reason`. A `Passed` verdict drops the reason.
     pub fn of(kind: Kind, reason: Text) -> Verdict
         ensures { (kind ≡ Passed → reason ≡ []) → result ≡ record { kind = kind; reason = reason } }
     {
@@ -212,15 +212,22 @@ impl Verdict {
     }
 }
 
-/// A reason's text in parts, which can be written without an allocation.
+/// The parts of a reason's text, which can be written without an allocation.
 ///
-/// The text is the concatenation of the fields in their order. `None` adds nothing.
+/// The text is the concatenation of the fields in their order, with numbers in decimal. `None` adds
+/// nothing.
 #[derive(Clone, Copy)]
 pub struct Parts<'a> {
+    /// The beginning of the text.
     pub head: &'a str,
+    /// The text between the beginning and the first number.
     pub lead: &'static str,
+    /// The first number, if the text has one.
     pub first: Option<u64>,
+    /// The text between the two numbers.
     pub between: &'static str,
+    /// The second number, if the text has one.
     pub second: Option<u64>,
+    /// The end of the text.
     pub tail: &'static str,
 }

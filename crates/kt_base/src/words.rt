@@ -3,7 +3,7 @@ ghost use Rattle.kt_base.specs.Common.{byte_keyword_row, named, keyword_row};
 
 use crate::Text;
 
-/// Looks up the text `word` in `table`: returns the value of the first row with this keyword.
+/// Returns the value of the first row of `table` whose keyword is the text `word`.
 ///
 /// Returns `None` if no row has the keyword.
 pub fn named<T: Copy>(word: &Text, table: &[(&str, T)]) -> Option<T>
@@ -17,7 +17,7 @@ pub fn named<T: Copy>(word: &Text, table: &[(&str, T)]) -> Option<T>
     None
 }
 
-/// Looks up the bytes `word` in `table`: returns the value of the first row with this keyword.
+/// Returns the value of the first row of `table` whose keyword has the bytes `word`.
 ///
 /// Returns `None` if no row has the keyword.
 pub fn named_bytes<T: Copy>(word: &[u8], table: &[(&str, T)]) -> Option<T>

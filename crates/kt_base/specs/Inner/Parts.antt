@@ -4,7 +4,8 @@ use Rattle.std.specs.Str.{chars}
 use Rattle.std.specs.Fmt.{decimal}
 use Rattle.kt_base.specs.declared.verdict.Parts.{Parts}
 
--- `number_text number`: `number` in decimal, or an empty text without a number.
+-- `number_text number`: the text of the optional `number`: its decimal digits, or an empty text if
+-- it is absent.
 abbrev pub number_text : Option ℕ → List ℕ
 number_text None = []
 number_text (Some n) = decimal n
