@@ -6,7 +6,7 @@ use Rattle.kt_script.specs.declared.syntax.Arg.TheVariants as arg
 use Rattle.kt_script.specs.Grammar as grammar
 use Rattle.std.proofs.lemmas.Option.{same_Some}
 
--- `walk s ks`: the step after the tokens `ks` of a statement, from the step `s`
+-- `walk s ks`: the step to which the tokens `ks` lead from the step `s` within a statement
 abbrev pub walk : Step → List TokenKind → Option Step
 walk s [] = Some s
 walk (To q) (k ∷ ks) = option_and_then (λ s. walk s ks) (step q k)
@@ -18,7 +18,7 @@ value_of-token_of v = refl
 
 -- ---- tables
 
--- `with_pairs t pairs`: the table `t` with its pairs followed by `pairs`
+-- `with_pairs t pairs`: the table `t` with the pairs `pairs` appended
 abbrev with_pairs : Table → List Pair → Table
 with_pairs t pairs = record t { pairs = t.pairs ++ pairs }
 
@@ -59,7 +59,8 @@ first_part_walks words parts are n v = refl
 
 -- ---- statements
 
--- `Walks words a`: `words` are a name and tokens that complete the statement with the action `a`
+-- `Walks words a`: the tokens `words` are a name and tokens that complete its statement, whose
+-- action is `a`
 pub record Walks (words : List TokenKind) (a : Action) : Type 0 where
   pub name : List ℕ
   pub rest : List TokenKind
@@ -82,7 +83,8 @@ statement_walks words a (assign {words = w} {parts = ps} n more v) =
 
 -- ---- tokens
 
--- `joined front end`: the position and statements `end` with the statements `front` prepended
+-- `joined front end`: the position in `end` and its statements, with the statements `front`
+-- prepended
 abbrev pub joined : List Stmt → ScriptState × List Stmt → ScriptState × List Stmt
 joined front end = (end.0, front ++ end.1)
 
@@ -101,11 +103,12 @@ joined_none : (o : Option (ScriptState × List Stmt)) → option_map (joined [])
 joined_none None = refl
 joined_none (Some end) = refl
 
--- `reached line s`: the position after the step `s`, and the statements that it completes
+-- `reached line s`: the position after the step `s` in the statement on the line `line`, and a list
+-- of that statement if the step completes it
 abbrev pub reached : ℕ → Step → ScriptState × List Stmt
 reached line s = ((landed line s).0, option_to_list (landed line s).1)
 
--- `run` over the tokens of a statement's rest reaches the step of `walk`
+-- `run` over the tokens after a statement's name reaches the step that `walk` reaches
 steps_run : (ts : List Token) (line : ℕ) (s r : Step) → walk s (kinds ts) ≡ Some r
     → option_map (joined (option_to_list (landed line s).1)) (run (landed line s).0 ts) ≡ Some (reached line r)
 steps_run [] line (To q) r e = ap (λ (s : Step). Some (reached line s)) (same_Some (To q) r e)
@@ -133,7 +136,7 @@ name_from_resting Start t n r e = rw e refl
 name_from_resting Whole t n r e = rw e refl
 name_from_resting (Within line q) t n r e = elim r [ ]
 
--- `run` over a statement's name and the tokens after it reaches the step of `walk`
+-- `run` over a statement's name and the tokens after it reaches the step that `walk` reaches
 pub named_runs : (t : Token) (ts : List Token) (p : ScriptState) (n : List ℕ) (s : Step) → IsBetweenStatements p → t.kind ≡ Name n
     → walk (To (Named n)) (kinds ts) ≡ Some s
     → run p (t ∷ ts) ≡ Some (reached t.line s)
@@ -147,7 +150,8 @@ phrase_runs (t ∷ ts) p a r st =
     let others : kinds ts ≡ w.rest = cc in
     named_runs t ts p w.name (Ends a) r (cc) (ap (walk (To (Named w.name))) others ∙ w.ends)
 
--- `Rests p ts stmts`: the script `ts` leads from `p` to a position between statements, with `stmts`
+-- `Rests p ts stmts`: the tokens `ts` lead from the position `p` to a position between statements,
+-- and complete the statements `stmts`
 pub record Rests (p : ScriptState) (ts : List Token) (stmts : List Stmt) : Type 0 where
   pub place : ScriptState
   pub rests : IsBetweenStatements place

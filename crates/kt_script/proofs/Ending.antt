@@ -16,12 +16,14 @@ walk-append (k ∷ xs) ys (Ends a) r e = absurd cc
 
 -- ---- tables
 
--- `parens b`: the tokens after the brace that closes a table, in parentheses if `b`
+-- `parens b`: the tokens of a call after the brace that closes its table, which is in parentheses
+-- if `b`
 abbrev parens : Bool → List TokenKind
 parens true = CloseParen ∷ []
 parens false = []
 
--- `EndsTable t words a`: `words` complete the table `t` and its statement, with the action `a`
+-- `EndsTable t words a`: the tokens `words` complete the table `t` and its statement, whose action
+-- is `a`
 data EndsTable (t : Table) : List TokenKind → Action → Type 0 where
   table_ends : {words : List TokenKind} {pairs : List Pair} → grammar.Pairs words pairs
       → EndsTable t (words ++ CloseBrace ∷ parens t.in_parens) (Call t.name (arg.Table (t.pairs ++ pairs)))
@@ -88,7 +90,8 @@ table_is t _ a e = absurd cc
 
 -- ---- paths
 
--- `EndsPath path words a`: `words` complete the path and its assignment, with the action `a`
+-- `EndsPath path words a`: the tokens `words` complete the path `path` and its assignment, whose
+-- action is `a`
 data EndsPath (path : List (List ℕ)) : List TokenKind → Action → Type 0 where
   path_ends : {words : List TokenKind} {parts : List (List ℕ)} (v : Literal) → Parts words parts → EndsPath path (words ++ Equals ∷ token_of v ∷ []) (Assign (path ++ parts) v)
 
@@ -120,7 +123,7 @@ path_is path _ a e = absurd cc
 
 -- ---- statements
 
--- tokens that are a statement with the action `b` are one with an equal action `a`
+-- tokens that are a statement with the action `b` are a statement with the equal action `a`
 ended : (w : List TokenKind) (b a : Action) → Some (Ends b) ≡ Some (Ends a) → Statement w b → Statement w a
 ended w b a e st = let same : b ≡ a = cc in rw (← same) st
 

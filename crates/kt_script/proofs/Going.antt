@@ -5,8 +5,8 @@ use Rattle.kt_script.specs.Inner.Automaton.{IsWithin}
 use Rattle.kt_script.proofs.Sound.{accepted, misfit, unfinished}
 use Rattle.kt_script.proofs.PieceTokens.{tokens-piece, tokens-end}
 
--- `GoesOn place parser line rest text`: `parser`, at `place`, has read `text` up to its end `rest`,
--- which begins on `line`
+-- `GoesOn place parser line rest text`: `parser` has read `text` up to its suffix `rest`, which
+-- begins on the line `line`, and is at the position `place`
 pub record GoesOn (place : ScriptState) (parser : Parser) (line : ℕ) (rest text : List ℕ) : Type 0 where
   pub read : List Token
   pub has_read : HasRead place parser read

@@ -33,7 +33,7 @@ one_answer text (Ok x) (Err g) p q = absurd (not_both text x g p q)
 one_answer text (Err f) (Ok y) p q = absurd (not_both text y f q p)
 one_answer text (Err f) (Err g) p q = ap Err (two_due text f g p q)
 
--- `spelled d r`: the statements of the result `r`, or `d` for a fault
+-- `spelled d r`: the statements of the result `r`, or the statements `d` if `r` is a fault
 abbrev spelled : List Stmt → Result (List Stmt) ScriptFault → List Stmt
 spelled d (Ok stmts) = stmts
 spelled d (Err fault) = d
@@ -43,7 +43,8 @@ two_spelled text a b s t = ap (spelled a) (one_answer text (Ok a) (Ok b) s t)
 
 -- ---- at least one result
 
--- `TokensGive ts r`: the result `r` is the statements of the tokens `ts`, or their fault
+-- `TokensGive ts r`: the result `r` consists of the statements of the tokens `ts`, or is their
+-- fault
 pub TokensGive : List Token → Result (List Stmt) ScriptFault → Type 0
 TokensGive ts (Ok stmts) = Script ts stmts
 TokensGive ts (Err fault) = IsFaultOf ts fault

@@ -6,7 +6,7 @@ use Rattle.kt_script.proofs.Standing.{Script-append, one_stmt, begins_from, kind
 
 -- ---- a token that the grammar does not allow
 
--- two positions in a list are equal, or one is before the other
+-- two splits of a list at a token are equal, or the token of one is before that of the other
 splits : (xs ys : List Token) (s t : Token) (xr yr : List Token) → xs ++ s ∷ xr ≡ ys ++ t ∷ yr
     → ((xs ≡ ys) × (s ≡ t)) ⊎ (((m : List Token) × (ys ≡ xs ++ s ∷ m)) ⊎ ((m : List Token) × (xs ≡ ys ++ t ∷ m)))
 splits [] [] s t xr yr e = inl (refl, cc)
@@ -26,7 +26,7 @@ begins_less front t m b =
     let e : (front ++ t ∷ m) ++ b.0 ≡ (front ++ t ∷ []) ++ (m ++ b.0) = simp append_assoc in
     (m ++ b.0, b.1, subst (λ (xs : List Token). Script xs b.1) e b.2)
 
--- no script begins with the tokens up to and including the token of a `UnexpectedToken`
+-- no script begins with the tokens up to and including an unexpected token
 no_further : (ts : List Token) (f : ScriptFault) (m : UnexpectedToken ts f) (more : List Token) → Begins (m.front ++ m.token ∷ more) → ⊥
 no_further ts f m more b = m.unfit (begins_less m.front m.token more b)
 
@@ -56,7 +56,8 @@ walk_front (x ∷ xs) k ys (To q) r e =
 walk_front [] k ys (Ends a) r e = absurd cc
 walk_front (x ∷ xs) k ys (Ends a) r e = absurd cc
 
--- `Leads ts line`: the tokens `ts` lead to a state within the statement on `line`
+-- `Leads ts line`: the tokens `ts` lead to a state within the statement that begins on the line
+-- `line`
 pub record Leads (ts : List Token) (line : ℕ) : Type 0 where
   pub state : State
   pub done : List Stmt

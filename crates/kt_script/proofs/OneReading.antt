@@ -5,7 +5,8 @@ use Rattle.kt_script.proofs.PieceTokens.{tokens-end, tokens-piece}
 use Rattle.kt_script.proofs.ReadWords.{at_strange, every_mark, name_is, digits_are, number_is, large_is, lettered_is}
 use Rattle.kt_script.proofs.ReadStrings.{string_is, endless_is, bad_escape_is, long_is, endless_comment_is, leveled_is, line_is, dash_is}
 
--- `IsRead bytes after kind`: the lexer reads `bytes`, followed by `after`, as one lexeme of `kind`
+-- `IsRead bytes after kind`: the lexer reads the bytes `bytes`, which `after` follows, as one
+-- lexeme of the kind `kind`
 pub record IsRead (bytes after : List ℕ) (kind : Option TokenKind) : Type 0 where
   pub piece : lexeme_at (bytes ++ after) ≡ record { length = length bytes; kind = kind }
   pub some : 0 < length bytes

@@ -10,7 +10,7 @@ use Rattle.kt_script.proofs.ReadStrings.{long_is, line_is}
 use Rattle.kt_script.proofs.ReadWords.{each_run, quote_range, stops_digits}
 use Rattle.kt_script.proofs.SomeReading.{something_first}
 
--- `IsCut text n`: the first `n` bytes of `text`, at least one, end at a character boundary
+-- `IsCut text n`: `n` is at least 1, and the first `n` bytes of `text` end at a character boundary
 pub record IsCut (text : List ℕ) (n : ℕ) : Type 0 where
   pub some : 0 < n
   pub boundary : IsCharBoundary text n

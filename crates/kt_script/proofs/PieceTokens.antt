@@ -2,7 +2,8 @@
 use Rattle.std.proofs.Common.{◌≡◌, ℕ, zero, suc, ◌-◌, ◌<◌, ◌≤◌, List, [], ◌∷◌, ◌++◌, length, take, drop, refl, ap, sym, ◌∙◌, arith}
 use Rattle.kt_script.proofs.Common.{Lexeme, Token, lexeme_at, tokens, tokens_in, line_after, line_past}
 
--- `tokens` skips the remaining `n` bytes of a lexeme: the tokens are those of the text after them
+-- `tokens` skips the remaining `n` bytes of a lexeme: its tokens are those of the text after these
+-- bytes
 past_piece : (n line : ℕ) (cs : List ℕ) → n ≤ length cs → tokens line n cs ≡ tokens (line_past line (take n cs)) 0 (drop n cs)
 unfolding tokens
 past_piece zero line cs le = refl

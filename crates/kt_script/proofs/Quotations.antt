@@ -6,7 +6,8 @@ use Rattle.kt_script.proofs.StringRuns.{with_front_twice, with_front_none, plain
 
 -- ---- the reading of a string
 
--- `ReadsOn quote string rest text`: the bytes of `text` before `rest` are the characters `string`
+-- `ReadsOn quote string rest text`: in a string that `quote` closes, the bytes of `text` before its
+-- suffix `rest` represent the characters `string`
 pub record ReadsOn (quote : ℕ) (string rest text : List ℕ) : Type 0 where
   pub front : List ℕ
   pub utf8 : IsUtf8 front
@@ -87,7 +88,9 @@ plain_stops quote small c e = grind (arith, nat_tests, e)
 pub plain_cut : (quote n : ℕ) (rest bytes : List ℕ) → quote < 128 → n ≡ prefix_len (is_plain quote) bytes → bytes ≡ rest → IsCharBoundary rest n
 plain_cut quote n rest bytes small n_is same = stopping_cut_at (is_plain quote) (plain_stops quote small) rest bytes n n_is same
 
--- `Stops quote string after text stop`: `string` was read up to `after`, which begins with `stop`
+-- `Stops quote string after text stop`: in a string that `quote` closes, the bytes of `text` before
+-- its suffix `after` represent the characters `string`, and `after` begins with the end `stop` of
+-- plain bytes
 pub record Stops (quote : ℕ) (string after text : List ℕ) (stop : StringEnd) : Type 0 where
   pub reads : ReadsOn quote string after text
   pub none : prefix_len (is_plain quote) after ≡ 0

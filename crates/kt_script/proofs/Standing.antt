@@ -23,7 +23,8 @@ kinds-append xs ys = map-append (λ (t : Token). t.kind) xs ys
 
 -- ---- the meaning of a position
 
--- `Begun to done ts`: `ts` are a script of `done`, a name, and tokens that lead to the step `to`
+-- `Begun to done ts`: the tokens `ts` are a script of the statements `done`, a name, and tokens
+-- that lead from that name to the step `to`
 pub record Begun (to : Step) (done : List Stmt) (ts : List Token) : Type 0 where
   pub before : List Token
   pub first : Token
@@ -34,7 +35,8 @@ pub record Begun (to : Step) (done : List Stmt) (ts : List Token) : Type 0 where
   pub named : first.kind ≡ Name name
   pub leads : walk (To (Named name)) (kinds others) ≡ Some to
 
--- `WholeAt done ts`: the tokens `ts` end with a complete statement, the last of `done`
+-- `WholeAt done ts`: the tokens `ts` are a script of the statements `done`, and end with the last
+-- of these statements
 pub record WholeAt (done : List Stmt) (ts : List Token) : Type 0 where
   pub action : Action
   pub earlier : List Stmt

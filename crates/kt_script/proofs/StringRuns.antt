@@ -45,7 +45,8 @@ no_more p (c ∷ cs) =
 
 -- ---- the stop after plain bytes
 
--- `after_stop quote text stop`: the string from `stop` on, at the beginning of `text`
+-- `after_stop quote text stop`: the result of reading the string that `text` continues up to
+-- `quote`, if `text` begins with the end `stop` of plain bytes
 abbrev pub after_stop : ℕ → List ℕ → StringEnd → Result (List ℕ × ℕ) Flaw
 after_stop quote text Quote = Ok ([], 1)
 after_stop quote text (Flawed flaw) = Err flaw

@@ -21,7 +21,8 @@ pub record WordFirst (text : List ℕ) : Type 0 where
   pub kind : TokenKind
   pub is : IsToken front rest kind
 
--- `Run p text`: `text` is a run of bytes that satisfy `p`, followed by the rest
+-- `Run p text`: `text` is split into its longest prefix of bytes that satisfy the test `p`, and the
+-- rest
 pub record Run (p : ℕ → Bool) (text : List ℕ) : Type 0 where
   pub front : List ℕ
   pub rest : List ℕ
@@ -67,7 +68,8 @@ number_then c cs front rest parts each stop =
 
 -- ---- strings
 
--- `Quotation quote text`: `text` continues a string to its last quote or to its flaw
+-- `Quotation quote text`: `text` continues a string up to the byte `quote` that closes it, or up to
+-- a flaw
 pub data Quotation (quote : ℕ) : List ℕ → Type 0 where
   ends : {words bytes : List ℕ} (after : List ℕ) → IsStringContent quote words bytes → Quotation quote (words ++ quote ∷ after)
   meets_line : {words bytes : List ℕ} (after : List ℕ) → IsStringContent quote words bytes → StopsAt is_not_newline after → Quotation quote (words ++ after)

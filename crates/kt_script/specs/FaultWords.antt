@@ -2,7 +2,7 @@
 use Rattle.std.specs.Prelude.{ℕ, List, codes}
 use Rattle.kt_script.specs.Types.{BadToken, NoMemory, NotLiteral, NotUtf8, ScriptFault, TooLong, Unclosed}
 
--- `script_message fault`: the message of `fault`, without its line number.
+-- `script_message fault`: the message that is printed for the fault `fault`, without a line number.
 abbrev pub script_message : ScriptFault → List ℕ
 script_message (NoMemory refusal) = codes "out of memory"
 script_message NotUtf8 = codes "not UTF-8"

@@ -3,8 +3,8 @@ use Rattle.std.specs.Prelude.{◌≡◌, ℕ, ◌-◌, length, take, slice_get, 
 use Rattle.kt_script.specs.Types.{Action, Bad, BadToken, Broken, CloseBrace, CloseBracket, CloseParen, Endless, TokenKind, NoMemory, NotLiteral, OpenBrace, OpenBracket, OpenParen, ScriptFault, Stmt, Token, Unclosed}
 use Rattle.kt_script.specs.Grammar.{Statement, Script, kinds, first_line}
 
--- `IfFault result P`: if `result` is a fault other than a failed allocation, `P` holds of the
--- fault.
+-- `IfFault result P`: if `result` is a fault and not a failed allocation, the fault has the
+-- property `P`.
 abbrev pub IfFault : {T : Type 0} → Result T ScriptFault → (ScriptFault → Type 0) → Type 0
 IfFault (Ok x) P = Unit {0}
 IfFault (Err (NoMemory refusal)) P = Unit {0}
@@ -14,13 +14,14 @@ IfFault (Err fault) P = P fault
 abbrev pub Begins : List Token → Type 0
 Begins ts = (more : List Token) × (stmts : List Stmt) × Script (ts ++ more) stmts
 
--- `token_kind_fault line kind`: the fault of a token of `kind` on `line` that no script allows.
+-- `token_kind_fault line kind`: the fault of a script that has a token of the kind `kind` on the
+-- line `line`, where the grammar does not allow the token.
 abbrev pub token_kind_fault : ℕ → TokenKind → ScriptFault
 token_kind_fault line (Broken Bad) = BadToken line
 token_kind_fault line (Broken Endless) = Unclosed line
 token_kind_fault line _ = NotLiteral line
 
--- `fault_of t`: the fault of the token `t` if no script allows it.
+-- `fault_of t`: the fault of a script that has the token `t` where the grammar does not allow it.
 abbrev pub fault_of : Token → ScriptFault
 fault_of t = token_kind_fault t.line t.kind
 
@@ -43,8 +44,8 @@ last lines = slice_get lines (length lines - 1)
 abbrev pub without_last : List ℕ → List ℕ
 without_last lines = take (length lines - 1) lines
 
--- `after_bracket lines line kind`: the lines of the open brackets after a token of `kind` on
--- `line`, if they were `lines` before the token.
+-- `after_bracket lines line kind`: the lines of the open brackets after a token of the kind `kind`
+-- on the line `line`. `lines` are the lines of the open brackets before the token.
 abbrev pub after_bracket : List ℕ → ℕ → TokenKind → List ℕ
 after_bracket lines line OpenParen = lines ++ line ∷ []
 after_bracket lines line OpenBrace = lines ++ line ∷ []
@@ -54,19 +55,20 @@ after_bracket lines line CloseBrace = without_last lines
 after_bracket lines line CloseBracket = without_last lines
 after_bracket lines line _ = lines
 
--- `open_lines lines ts`: the lines of the open brackets after the tokens `ts`, if they were `lines`
--- before the tokens.
+-- `open_lines lines ts`: the lines of the open brackets after the tokens `ts`. `lines` are the
+-- lines of the open brackets before these tokens.
 abbrev pub open_lines : List ℕ → List Token → List ℕ
 open_lines lines [] = lines
 open_lines lines (t ∷ ts) = open_lines (after_bracket lines t.line t.kind) ts
 
--- `end_fault bracket line`: the fault of tokens that end within the statement on `line`. `bracket`
--- is the line of the innermost open bracket, or nothing.
+-- `end_fault bracket line`: the fault of a script that ends within the statement on the line
+-- `line`. `bracket` is the line of the innermost open bracket, or nothing if no bracket is open.
 abbrev pub end_fault : Option ℕ → ℕ → ScriptFault
 end_fault None line = NotLiteral line
 end_fault (Some bracket) line = Unclosed bracket
 
--- `Unfinished ts fault`: the tokens `ts` end within a statement, and `fault` is their fault.
+-- `Unfinished ts fault`: the tokens `ts` end within a statement, and `fault` is the fault for such
+-- an end.
 pub record Unfinished (ts : List Token) (fault : ScriptFault) : Type 0 where
   pub whole : List Token
   pub begun : List Token
@@ -78,7 +80,8 @@ pub record Unfinished (ts : List Token) (fault : ScriptFault) : Type 0 where
   pub statement : Statement (kinds (begun ++ more)) action
   pub is : fault ≡ end_fault (last (open_lines [] ts)) (first_line begun)
 
--- `IsFaultOf ts fault`: the tokens `ts` are not a script, and `fault` is their fault.
+-- `IsFaultOf ts fault`: the tokens `ts` are not a script, and `fault` is the fault of the first
+-- token that the grammar does not allow, or of an end within a statement.
 pub record IsFaultOf (ts : List Token) (fault : ScriptFault) : Type 0 where
   pub no_script : (stmts : List Stmt) → Script ts stmts → ⊥
   pub is : UnexpectedToken ts fault ⊎ Unfinished ts fault

@@ -21,13 +21,14 @@ pub data Key : List TokenKind → List ℕ → Type 0 where
 abbrev pub pair : List ℕ → Literal → Pair
 pair key v = record { name = key; value = v }
 
--- `Separator kind`: a token of `kind` can separate two pairs of a table.
+-- `Separator kind`: a token of the kind `kind` can separate two pairs of a table.
 -- separator = "," | ";"
 pub data Separator : TokenKind → Type 0 where
   comma : Separator Comma
   semicolon : Separator Semicolon
 
--- `Pairs words pairs`: the tokens `words` between the braces of a table represent `pairs`.
+-- `Pairs words pairs`: the tokens `words` between the braces of a table represent the pairs
+-- `pairs`.
 -- pairs = [ pair { ("," | ";") pair } [ "," | ";" ] ], pair = (name | "[" string "]") "=" value
 pub data Pairs : List TokenKind → List Pair → Type 0 where
   no_pairs : Pairs [] []
@@ -35,15 +36,15 @@ pub data Pairs : List TokenKind → List Pair → Type 0 where
   pair_and : {words rest : List TokenKind} {key : List ℕ} {s : TokenKind} {pairs : List Pair} → Key words key → (v : Literal) → Separator s → Pairs rest pairs
       → Pairs (words ++ Equals ∷ token_of v ∷ s ∷ rest) (pair key v ∷ pairs)
 
--- `Parts words parts`: the tokens `words` after the first name of a path represent the other parts
--- of the path, `parts`.
+-- `Parts words parts`: the tokens `words`, which follow the first name of a path, represent
+-- `parts`, the other parts of the path.
 -- parts = { "." name | "[" string "]" }
 pub data Parts : List TokenKind → List (List ℕ) → Type 0 where
   no_parts : Parts [] []
   named_part : {words : List TokenKind} {parts : List (List ℕ)} (n : List ℕ) → Parts words parts → Parts (Dot ∷ Name n ∷ words) (n ∷ parts)
   quoted_part : {words : List TokenKind} {parts : List (List ℕ)} (t : List ℕ) → Parts words parts → Parts (OpenBracket ∷ Quoted t ∷ CloseBracket ∷ words) (t ∷ parts)
 
--- `Statement words action`: the tokens `words` are a statement with this `action`.
+-- `Statement words action`: the tokens `words` are a statement with the action `action`.
 -- stmt = name "(" (value | table) ")" | name string | name table | path "=" value
 pub data Statement : List TokenKind → Action → Type 0 where
   call : (n : List ℕ) (v : Literal) → Statement (Name n ∷ OpenParen ∷ token_of v ∷ CloseParen ∷ []) (Call n (Value v))
@@ -64,12 +65,12 @@ abbrev pub first_line : List Token → ℕ
 first_line [] = 0
 first_line (t ∷ ts) = t.line
 
--- `placed phrase a`: the statement with the action `a` on the line of the first of the tokens
--- `phrase`.
+-- `placed phrase a`: the statement whose tokens are `phrase` and whose action is `a`. Its line is
+-- that of its first token.
 abbrev pub placed : List Token → Action → Stmt
 placed phrase a = record { line = first_line phrase; action = a }
 
--- `Script ts stmts`: the tokens `ts` are a script that consists of the statements `stmts`.
+-- `Script ts stmts`: the tokens `ts` are a script, which consists of the statements `stmts`.
 -- script = { stmt [";"] }
 pub data Script : List Token → List Stmt → Type 0 where
   no_stmts : Script [] []

@@ -9,7 +9,9 @@ use crate::words::{is_letter, is_space, name};
 use kt_base::{NoMemory, decimal_up_to, digits_length, is_digit, line_length};
 use std::alloc::Global;
 
-/// Returns the number of bytes in `text` up to the end of its first `]]`, or `None` without `]]`.
+/// Returns the number of bytes in `text` up to and including its first `]]`.
+///
+/// Returns `None` if `text` does not contain `]]`.
 fn closes(text: &[u8]) -> Option<usize>
     ensures value { result ≡ long_comment_end text.now }
     ensures within { IfSome result (λ end. end ≤ length text.now) }
@@ -71,7 +73,7 @@ fn space_length(text: &[u8]) -> usize
     text.iter().take_while(|c| is_space(**c)).count()
 }
 
-/// Returns the punctuation token of the byte `c`, or `None` for another byte.
+/// Returns the kind of the punctuation token that the byte `c` is, or `None` for another byte.
 fn mark(c: u8) -> Option<TokenKind>
     ensures { result ≡ mark_of c }
 {
@@ -92,7 +94,7 @@ fn mark(c: u8) -> Option<TokenKind>
 
 /// Returns the token of the decimal number at the beginning of `text`.
 ///
-/// A number that is above 2^64 - 1 or followed by a letter is a broken token.
+/// A number that is above 2^64 - 1, or that a letter or underscore follows, is a broken token.
 fn number(text: &[u8]) -> Lexeme
     ensures { result ≡ number_at text.now }
 {

@@ -10,7 +10,7 @@ use crate::{ScriptFault, Stmt};
 use kt_base::{Items, NoMemory};
 use std::alloc::Global;
 
-/// Updates `brackets`, the lines of the open brackets, for a token of `kind` on `line`.
+/// Updates `brackets`, the lines of the open brackets, after a token of the kind `kind` on `line`.
 ///
 /// An opening bracket appends its line. A closing bracket removes the last line.
 fn follow(brackets: &mut Vec<u32>, line: u32, kind: &TokenKind) -> Result<(), NoMemory>
@@ -52,9 +52,10 @@ impl Parser {
         }
     }
 
-    /// Reads a token of `kind` on `line`, at the position `place`. Returns the position after it.
+    /// Reads a token of the kind `kind` on `line`, and returns the position after the token.
     ///
-    /// If `kind` is `None`, the call changes nothing and returns `place`.
+    /// `place` is the position before the token. If `kind` is `None`, the call changes nothing and
+    /// returns `place`.
     ///
     /// # Errors
     ///
@@ -83,7 +84,7 @@ impl Parser {
         }
     }
 
-    /// Returns the statements that were read, at the end of the script.
+    /// Returns the statements of the script, after its last token. `place` is the position there.
     ///
     /// # Errors
     ///

@@ -7,7 +7,9 @@ use crate::token::{Flaw, Lexeme, StringEnd, TokenKind};
 use kt_base::{NoMemory, Text};
 use std::alloc::Global;
 
-/// Returns the character that a backslash and `c` represent, or `None` for another byte.
+/// Returns the character that a backslash and the byte `c` represent in a string.
+///
+/// Returns `None` if they are not an escape of this profile.
 fn escape(c: u8) -> Option<char>
     ensures { result ≡ escape_of c }
 {
@@ -29,9 +31,9 @@ fn plain_length(quote: u8, text: &[u8]) -> usize
         .count()
 }
 
-/// Returns the kind of end that a string's plain bytes have: the last quote, an escape or a flaw.
+/// Returns the end of a string's plain bytes: the closing quote, an escape or a flaw.
 ///
-/// `text` is the text after the plain bytes, and `quote` the byte that closes the string.
+/// `text` is the text after the plain bytes, and `quote` is the byte that closes the string.
 fn string_end(quote: u8, text: &[u8]) -> StringEnd
     ensures { result ≡ string_end_at quote text.now }
 {
@@ -50,7 +52,7 @@ fn string_end(quote: u8, text: &[u8]) -> StringEnd
     }
 }
 
-/// Decodes the string literal that `text` continues after the first quote.
+/// Decodes a string literal. `text` is the text after its first quote, which is the byte `quote`.
 ///
 /// Returns the characters of the string, and its length in `text` in bytes, including the last
 /// quote. Returns the flaw if the string is not closed or has an unknown escape.
@@ -75,7 +77,7 @@ fn string(alloc: Global, quote: u8, text: &str) -> Result<Result<(Text, usize), 
     }
 }
 
-/// Returns the token of the string literal at the beginning of `text`, which begins with `quote`.
+/// Returns the token of the string literal at the beginning of `text`, whose first byte is `quote`.
 ///
 /// A string that is not closed or has an unknown escape is a broken token.
 ///

@@ -13,7 +13,7 @@ use std::alloc::Global;
 /// The maximum length of a script, in bytes.
 const MAX_SCRIPT_BYTES: usize = 1_048_576;
 
-/// Returns the number of the line on which `text` ends, if `text` begins on line `from`.
+/// Returns the line number at the end of `text`, which begins on the line `from`.
 fn line_past(from: u32, text: &[u8]) -> u32
     requires { from + length text.now < 2 ^ 32 }
     ensures value { result ≡ line_past from text.now }
@@ -80,7 +80,7 @@ pub fn parse(alloc: Global, text: &[u8]) -> Result<Items<Stmt>, ScriptFault>
     statements(alloc, text)
 }
 
-/// Theorem: the rules give each text exactly one result, its statements or its fault.
+/// Theorem: by the rules, each text has exactly one result: its statements or its fault.
 pub fn theorem_of_one_result(text: &[u8])
     ensures some { (answer : Result (List Stmt) ScriptFault) × IsResultOf text.now answer }
     ensures one { (a b : Result (List Stmt) ScriptFault) → IsResultOf text.now a → IsResultOf text.now b
@@ -89,7 +89,7 @@ pub fn theorem_of_one_result(text: &[u8])
     let _ = text;
 }
 
-/// Theorem: the rules for tokens split each text into exactly one list of tokens.
+/// Theorem: by the rules for tokens, each text consists of exactly one list of tokens.
 pub fn theorem_of_one_token_list(text: &[u8])
     ensures some { (tokens : List Token) × IsTokens 1 text.now tokens }
     ensures one { (a b : List Token) → IsTokens 1 text.now a → IsTokens 1 text.now b → a ≡ b }

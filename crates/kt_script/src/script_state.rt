@@ -15,11 +15,11 @@ pub enum ScriptState {
     Start,
     /// After a statement. A `;` may follow.
     Whole,
-    /// Within the statement that begins on this line.
+    /// Within a statement. The fields are the line on which it begins, and the state within it.
     Within(u32, State),
 }
 
-/// Not derived, so that the prover handles a drop as one call.
+/// A manual impl, so that the prover handles each drop as one call.
 impl Drop for ScriptState {
     fn drop(self) {
         match self {
@@ -29,7 +29,7 @@ impl Drop for ScriptState {
     }
 }
 
-/// Returns the position after a statement's first token, which is of this `kind` on this `line`.
+/// Returns the position after a statement's first token, of the kind `kind` on the line `line`.
 ///
 /// Returns `None` if the token is not a name.
 fn begin(line: u32, kind: TokenKind) -> Option<ScriptState>

@@ -55,14 +55,14 @@ pub enum State {
 /// A transition of the parser within a statement: to another state, or to the statement's end.
 #[derive(Drop)]
 pub enum Step {
-    /// The statement continues. This is the state after the token.
+    /// The token does not complete the statement. The field is the state after the token.
     To(State),
-    /// The token completes the statement, which has this action.
+    /// The token completes the statement. The field is the action of the statement.
     Ends(Action),
 }
 
 impl State {
-    /// Returns the transition from this state for a token of `kind`.
+    /// Returns the transition from this state for a token of the kind `kind`.
     ///
     /// Returns `None` if the grammar does not allow the token in this state.
     ///
@@ -140,7 +140,8 @@ impl State {
     }
 }
 
-/// Converts a token of `kind` to a literal value, or returns `None` for another kind of token.
+/// Returns the literal that a token of the kind `kind` represents, or `None` if it is not a
+/// literal.
 fn value(kind: TokenKind) -> Option<Literal>
     ensures { result ≡ value_of kind }
 {
@@ -162,7 +163,9 @@ fn single(alloc: Global, name: Text) -> Result<Items<Text>, NoMemory>
 }
 
 impl Table {
-    /// Creates a table without pairs, the argument of a call of the function `name`.
+    /// Creates a table without pairs, as the argument of a call of the function `name`.
+    ///
+    /// `in_parens` is `true` if the table is in parentheses.
     fn new(alloc: Global, name: Text, in_parens: bool) -> Table
         ensures { result ≡ record { name = name; in_parens = in_parens; pairs = [] } }
     {
@@ -175,7 +178,7 @@ impl Table {
 
     /// Returns the transition for the `}` that closes the table.
     ///
-    /// A table in parentheses must be followed by `)`. Another table completes its statement.
+    /// After a table in parentheses, a `)` must follow. Another table completes its statement.
     fn close(self) -> Step
         ensures { result ≡ closed self }
     {

@@ -17,7 +17,7 @@ pub enum Flaw {
 /// A kind of token, with its value.
 #[derive(Drop)]
 pub enum TokenKind {
-    /// A name.
+    /// A name: ASCII letters, digits and underscores, of which the first is not a digit.
     Name(Text),
     /// A string, with its escapes replaced.
     Quoted(Text),
@@ -44,14 +44,14 @@ pub enum TokenKind {
 pub struct Token {
     /// The line on which the token begins, counted from 1.
     pub line: u32,
-    /// The kind of the token.
+    /// The kind of the token, with its value.
     pub kind: TokenKind,
 }
 
 impl Token {
     ghost use Rattle.kt_script.specs.Faults.{fault_of};
 
-    /// Returns the fault of a script in which the grammar does not allow the token.
+    /// Returns the fault of a script that has the token where the grammar does not allow it.
     pub fn fault(&self) -> ScriptFault
         ensures { result ≡ fault_of self.now }
     {
@@ -66,7 +66,7 @@ impl Token {
 /// A lexeme of a script: white space, a comment or a token.
 #[derive(Drop)]
 pub struct Lexeme {
-    /// The length in bytes.
+    /// The length of the lexeme in bytes.
     pub length: usize,
     /// The kind of a token, or `None` for white space and comments.
     pub kind: Option<TokenKind>,
@@ -82,7 +82,7 @@ impl Lexeme {
         Lexeme { length, kind: None }
     }
 
-    /// Creates a lexeme of `length` bytes that is a token of `kind`.
+    /// Creates a lexeme of `length` bytes that is a token of the kind `kind`.
     pub fn token(length: usize, kind: TokenKind) -> Lexeme
         ensures { result ≡ token length kind }
     {
@@ -92,7 +92,7 @@ impl Lexeme {
         }
     }
 
-    /// Creates a broken token with this `flaw`, which extends to the end of `text`.
+    /// Creates a broken token that consists of all bytes of `text`, with the reason `flaw`.
     pub fn broken(text: &[u8], flaw: Flaw) -> Lexeme
         ensures { result ≡ broken text.now flaw }
     {
@@ -100,13 +100,14 @@ impl Lexeme {
     }
 }
 
-/// A kind of end that a run of plain bytes has in a string literal.
+/// The end of a run of plain bytes, which represent themselves, in a string literal.
 #[derive(Drop)]
 pub(crate) enum StringEnd {
     /// The string's last quote.
     Quote,
-    /// A backslash and the byte after it, which represent this character.
+    /// An escape: a backslash and the byte after it. The field is the character that they
+    /// represent.
     Escape(char),
-    /// The end of a string that is not closed, or an unknown escape.
+    /// A flaw: the string is not closed, or its escape is unknown.
     Flawed(Flaw),
 }

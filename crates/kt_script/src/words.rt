@@ -28,7 +28,7 @@ fn is_word(c: u8) -> bool
     is_letter(c) || is_digit(c)
 }
 
-/// Returns the number of letters, underscores and digits at the beginning of `text`.
+/// Returns the number of ASCII letters, underscores and digits at the beginning of `text`.
 fn word_length(text: &[u8]) -> usize
     ensures value { result ≡ prefix_len is_word text.now }
     ensures within { result ≤ length text.now }
@@ -36,7 +36,7 @@ fn word_length(text: &[u8]) -> usize
     text.iter().take_while(|c| is_word(**c)).count()
 }
 
-/// Returns the kind of the token `letters`: a truth value for `true` and `false`, else a name.
+/// Returns the kind of the token `letters`: a truth value for `true` and `false`, otherwise a name.
 fn word(alloc: Global, letters: &str) -> Result<TokenKind, NoMemory>
     ensures { IfOk result (λ kind. kind ≡ word letters.now) }
 {

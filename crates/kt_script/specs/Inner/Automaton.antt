@@ -11,25 +11,25 @@ use Rattle.kt_script.specs.declared.state.State.TheVariants.{Named, Opened, Clos
 use Rattle.kt_script.specs.declared.state.Step.{Step}
 use Rattle.kt_script.specs.declared.state.Step.TheVariants.{To, Ends}
 
--- `value_of kind`: the literal that a token of `kind` represents, or nothing if the token is not a
--- literal.
+-- `value_of kind`: the literal that a token of the kind `kind` represents, or nothing if such a
+-- token is not a literal.
 abbrev pub value_of : TokenKind → Option Literal
 value_of (Quoted t) = Some (literal.Text t)
 value_of (Number n) = Some (literal.Number n)
 value_of (Truth b) = Some (literal.Truth b)
 value_of _ = None
 
--- `closed t`: the transition of the `}` that closes the table `t`. If the table is in parentheses,
+-- `closed t`: the transition for the `}` that closes the table `t`. If the table is in parentheses,
 -- a `)` must follow. Otherwise, the statement is complete.
 abbrev pub closed : Table → Step
 closed t = if t.in_parens then To (Closing (Call t.name (arg.Table t.pairs))) else Ends (Call t.name (arg.Table t.pairs))
 
--- `with_pair t key v`: the table `t` with the pair of `key` and `v` appended.
+-- `with_pair t key v`: the table `t` with a pair of the key `key` and the value `v` appended.
 abbrev pub with_pair : Table → List ℕ → Literal → Table
 with_pair t key v = record t { pairs = t.pairs ++ pair key v ∷ [] }
 
--- `step q kind`: the transition of a token of `kind` in the state `q`, or nothing if the grammar
--- does not allow the token there.
+-- `step q kind`: the transition from the state `q` for a token of the kind `kind`, or nothing if
+-- the grammar does not allow such a token in `q`.
 abbrev pub step : State → TokenKind → Option Step
 step (Named n) (Quoted t) = Some (Ends (Call n (arg.Value (literal.Text t))))
 step (Named n) OpenParen = Some (To (Opened n))
@@ -61,47 +61,49 @@ step (Path path) Equals = Some (To (PathEquals path))
 step (PathEquals path) k = option_map (λ v. Ends (Assign path v)) (value_of k)
 step _ _ = None
 
--- `begin line kind`: the transition of a token of `kind` on `line` before a statement: the next
--- position, and no statement. Nothing if the token is not a name.
+-- `begin line kind`: the transition for a statement's first token, of the kind `kind` on the line
+-- `line`: the next position, and no completed statement. Nothing if the token is not a name.
 abbrev pub begin : ℕ → TokenKind → Option (ScriptState × Option Stmt)
 begin line (Name n) = Some (Within line (Named n), None)
 begin line _ = None
 
--- `go_on line kind`: the transition of a token of `kind` on `line` after a statement, where a
--- semicolon is allowed.
+-- `go_on line kind`: the transition for a token of the kind `kind` on the line `line` after a
+-- complete statement: a semicolon, or the next statement's first token.
 abbrev pub go_on : ℕ → TokenKind → Option (ScriptState × Option Stmt)
 go_on line Semicolon = Some (Start, None)
 go_on line kind = begin line kind
 
--- `landed line s`: the position after the step `s` in the statement that begins on `line`, and the
--- statement if the step completes it.
+-- `landed line s`: the position after the step `s` in the statement that begins on the line `line`,
+-- and that statement if the step completes it.
 abbrev pub landed : ℕ → Step → ScriptState × Option Stmt
 landed line (To q) = (Within line q, None)
 landed line (Ends a) = (Whole, Some (record { line = line; action = a }))
 
--- `next p t`: the transition of the token `t` at the position `p`: the position after `t`, and the
--- statement that `t` completes. Nothing if the grammar does not allow `t` there.
+-- `next p t`: the transition from the position `p` for the token `t`: the position after `t`, and
+-- the statement that `t` completes, if any. Nothing if the grammar does not allow `t` at `p`.
 abbrev pub next : ScriptState → Token → Option (ScriptState × Option Stmt)
 next Start t = begin t.line t.kind
 next Whole t = go_on t.line t.kind
 next (Within line q) t = option_map (landed line) (step q t.kind)
 
--- `position_after to`: the position after the transition `to`, or nothing without a transition.
+-- `position_after to`: the position to which the transition `to` leads, or nothing if `to` is
+-- absent.
 abbrev pub position_after : Option (ScriptState × Option Stmt) → Option ScriptState
 position_after to = option_map (λ x. x.0) to
 
--- `completed_statements to`: a list of the statement that the transition `to` completes, or of no statement.
+-- `completed_statements to`: a list of the statement that the transition `to` completes. It is
+-- empty if `to` completes none or is absent.
 abbrev pub completed_statements : Option (ScriptState × Option Stmt) → List Stmt
 completed_statements None = []
 completed_statements (Some to) = option_to_list to.1
 
--- `run p ts`: the position after the tokens `ts` from the position `p`, and the statements that
--- they complete. Nothing if the grammar does not allow a token.
+-- `run p ts`: the position to which the tokens `ts` lead from the position `p`, and the statements
+-- that they complete. Nothing if the grammar does not allow one of the tokens.
 abbrev pub run : ScriptState → List Token → Option (ScriptState × List Stmt)
 run p [] = Some (p, [])
 run p (t ∷ ts) = option_and_then (λ to. option_map (λ end. (end.0, option_to_list to.1 ++ end.1)) (run to.0 ts)) (next p t)
 
--- `IsWithin p line`: the position `p` is within the statement that begins on `line`.
+-- `IsWithin p line`: the position `p` is within a statement that begins on the line `line`.
 abbrev pub IsWithin : ScriptState → ℕ → Type 0
 IsWithin (Within line q) n = line ≡ n
 IsWithin _ n = ⊥

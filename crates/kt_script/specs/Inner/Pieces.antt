@@ -6,10 +6,10 @@ use Rattle.kt_script.specs.Types.{Broken, Flaw, TokenKind, Lexeme}
 abbrev pub blank : ℕ → Lexeme
 blank n = record { length = n; kind = None }
 
--- `token n kind`: a lexeme of `n` bytes that is a token of this `kind`.
+-- `token n kind`: a lexeme of `n` bytes that is a token of the kind `kind`.
 abbrev pub token : ℕ → TokenKind → Lexeme
 token n kind = record { length = n; kind = Some kind }
 
--- `broken text flaw`: a broken token with this `flaw`, which extends to the end of `text`.
+-- `broken text flaw`: a broken token that consists of all bytes of `text`, with the reason `flaw`.
 abbrev pub broken : List ℕ → Flaw → Lexeme
 broken text flaw = token (length text) (Broken flaw)

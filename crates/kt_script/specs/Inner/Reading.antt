@@ -5,14 +5,14 @@ use Rattle.kt_script.specs.declared.parser.Parser.{Parser}
 use Rattle.kt_script.specs.Inner.Automaton.{run, next}
 use Rattle.kt_script.specs.Faults.{open_lines, token_kind_fault}
 
--- `HasRead place parser tokens`: `parser` has read `tokens` from the start of a script up to the
--- position `place`. It has their statements and the lines of their open brackets.
+-- `HasRead place parser tokens`: `parser` has read `tokens` from the start of a script, which leads
+-- to the position `place`. It contains their statements and the lines of their open brackets.
 pub record HasRead (place : ScriptState) (parser : Parser) (tokens : List Token) : Type 0 where
   pub runs : run Start tokens ≡ Some (place, parser.statements)
   pub brackets : parser.brackets.items ≡ open_lines [] tokens
 
--- `IsUnexpectedToken place line kind fault`: the grammar does not allow a token of `kind` at `place`, and
--- `fault` is the token's fault.
+-- `IsUnexpectedToken place line kind fault`: the grammar does not allow a token of the kind `kind`
+-- at the position `place`, and `fault` is the fault of such a token on the line `line`.
 abbrev pub IsUnexpectedToken : ScriptState → ℕ → Option TokenKind → ScriptFault → Type 0
 IsUnexpectedToken place line None fault = ⊥
 IsUnexpectedToken place line (Some kind) fault = (fault ≡ token_kind_fault line kind) × (next place (record { line = line; kind = kind }) ≡ None)

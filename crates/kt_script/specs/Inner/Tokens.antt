@@ -11,8 +11,8 @@ use Rattle.kt_script.specs.Inner.Words.{name_at, number_at}
 use Rattle.kt_script.specs.Inner.Strings.{quoted_at}
 use Rattle.kt_script.specs.Inner.Comments.{comment_at}
 
--- `marked text kind`: a punctuation token of `kind`, which has one byte. Without `kind`, a broken
--- token that is all of `text`.
+-- `marked text kind`: the token at the beginning of `text`: a punctuation token of the kind `kind`
+-- and of one byte, or a broken token if `kind` is absent.
 abbrev pub marked : List ℕ → Option TokenKind → Lexeme
 marked text None = broken text Bad
 marked text (Some kind) = token 1 kind
@@ -29,13 +29,14 @@ lexeme_at (c ∷ cs) =
     else if c == 45 then comment_at (c ∷ cs)
     else marked (c ∷ cs) (mark_of c)
 
--- `tokens_in line kind`: a list of the token of `kind` on `line`, or of no token without `kind`.
+-- `tokens_in line kind`: a list of one token, of the kind `kind` on the line `line`, or an empty
+-- list if `kind` is absent.
 abbrev pub tokens_in : ℕ → Option TokenKind → List Token
 tokens_in line None = []
 tokens_in line (Some kind) = record { line = line; kind = kind } ∷ []
 
--- `tokens line n text`: the tokens of `text`, which begins on `line`, after its first `n` bytes.
--- These bytes belong to a lexeme that began before `text`.
+-- `tokens line n text`: the tokens of `text`, which begins on the line `line`, after its first `n`
+-- bytes. These `n` bytes belong to a lexeme that began before `text`.
 unfoldable pub tokens : ℕ → ℕ → List ℕ → List Token
 tokens line n [] = []
 tokens line zero (c ∷ cs) = let piece = lexeme_at (c ∷ cs) in tokens_in line piece.kind ++ tokens (line_after line c) (piece.length - 1) cs

@@ -7,8 +7,8 @@ use Rattle.kt_base.specs.Digits.{is_digit, decimal_from, fits}
 use Rattle.kt_script.specs.TokenRules.{word}
 use Rattle.kt_script.specs.Inner.Pieces.{token, broken}
 
--- `name_at text`: the token of the longest name at the beginning of `text`. It is a truth value if
--- the name is `true` or `false`.
+-- `name_at text`: the token of the longest name at the beginning of `text`. The token is a truth
+-- value if the name is `true` or `false`.
 abbrev pub name_at : List ℕ → Lexeme
 name_at text = token (prefix_len is_word text) (word (take (prefix_len is_word text) text))
 
@@ -17,13 +17,13 @@ abbrev pub begins_with_letter : List ℕ → Bool
 begins_with_letter [] = false
 begins_with_letter (c ∷ cs) = is_letter c
 
--- `number text n lettered v`: the token of the number `v`, which is the first `n` bytes of `text`.
--- A broken token if `lettered`, so that a letter follows, or without `v`.
+-- `number text n lettered v`: the token of the number `v`, whose digits are the first `n` bytes of
+-- `text`. A broken token if `v` is absent, or if `lettered`: a letter or underscore follows.
 abbrev pub number : List ℕ → ℕ → Bool → Option ℕ → Lexeme
 number text n false (Some v) = token n (Number v)
 number text n lettered v = broken text Bad
 
 -- `number_at text`: the token of the longest number at the beginning of `text`. A broken token if a
--- letter follows or the number does not fit in 64 bits.
+-- letter or underscore follows, or if the number does not fit in 64 bits.
 abbrev pub number_at : List ℕ → Lexeme
 number_at text = let n = prefix_len is_digit text in number text n (begins_with_letter (drop n text)) (fits (decimal_from 0 (take n text)))
