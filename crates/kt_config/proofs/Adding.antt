@@ -13,7 +13,7 @@ or-or : {A : Type 0} (a b c : Option A) → option_or (option_or a b) c ≡ opti
 or-or None b c = refl
 or-or (Some x) b c = refl
 
--- an appended definition replaces the last value if it sets the variable, otherwise it keeps it
+-- an appended definition that sets a variable replaces its last value; another one keeps that value
 last_value_by-push : {A : Type 0} (given : Definition → Option A) (xs : List Definition) (d : Definition) → last_value_by given (xs ++ d ∷ []) ≡ option_or (given d) (last_value_by given xs)
 last_value_by-push given [] d = sym (or-none (given d))
 last_value_by-push given (x ∷ xs) d = ap (λ o. option_or o (given x)) (last_value_by-push given xs d) ∙ or-or (given d) (last_value_by given xs) (given x)
@@ -28,12 +28,13 @@ unwrap-or : {A : Type 0} (a b : Option A) (x : A) → unwrap_or a (unwrap_or b x
 unwrap-or None b x = refl
 unwrap-or (Some y) b x = refl
 
--- `AddsToEach d old new`: each suite of `new` has its variables of `old` with those of `d` added
+-- `AddsToEach d old new`: each suite has in `new` its variables in `old`, with the variable that
+-- `d` sets in that suite added
 abbrev pub AddsToEach : Definition → List SuiteValues → List SuiteValues → Type 0
 AddsToEach d old new = (suite : List ℕ) → (before : List Definition) → variables_of suite old ≡ non_empty_list (last_values (variables_set_for suite before))
     → variables_of suite new ≡ non_empty_list (last_values (variables_set_for suite (before ++ d ∷ [])))
 
--- values and suites that are updated by `d` are the old configuration with `d` added
+-- if `d` updates each value and each suite of `old`, the result `new` is `old` with `d` added
 pub adds : (d : Definition) (old new : Values) → new.architecture ≡ option_or (architecture_in d) old.architecture → new.platform ≡ option_or (platform_in d) old.platform
     → new.parallelism ≡ unwrap_or (parallelism_in d) old.parallelism → AddsToEach d old.suites new.suites → Adds d old new
 adds d old new a p w s = λ before h. record {
@@ -44,7 +45,7 @@ adds d old new a p w s = λ before h. record {
   suites = λ suite. s suite before (h.suites suite);
 }
 
--- a definition without a suite's variable leaves each suite unchanged
+-- a definition that does not set a suite's variable leaves each suite unchanged
 pub adds-none : (d : Definition) (old new : List SuiteValues) → new ≡ old → ((suite : List ℕ) → variable_for suite d ≡ []) → AddsToEach d old new
 adds-none d old new e none = λ suite before h.
     ap (variables_of suite) e ∙ h

@@ -15,7 +15,8 @@ abbrev pub behind : List Definition → Outcome → Outcome
 behind before (Ok definitions) = Ok (before ++ definitions)
 behind before (Err fault) = Err fault
 
--- `HasRead config stmts rest`: `config` has the values of the statements of `stmts` before `rest`
+-- `HasRead config stmts rest`: `config` has the values that the statements of `stmts` before its
+-- suffix `rest` set
 pub record HasRead (config : Values) (stmts rest : List Stmt) : Type 0 where
   pub before : List Definition
   pub holds : Holds config before
@@ -61,7 +62,7 @@ fault_read config stmts rest after stmt fault r parts m =
     ∙ ap (λ (meaning : DefinitionResult). behind r.before (prepend_meaning meaning (definitions_in after))) m in
     subst (λ (o : Outcome). IsOutcome (Err fault) o) (sym e) refl
 
--- at the end, the configuration has the values of all statements
+-- if no statement remains, the configuration has the values that all statements set
 pub all_read : (config : Values) (stmts rest : List Stmt) → HasRead config stmts rest → rest ≡ [] → IsOutcome (Ok config) (definitions_in stmts)
 all_read config stmts rest r end =
     let e : definitions_in stmts ≡ Ok r.before
@@ -91,12 +92,13 @@ refuses_same NotAssignment fault e = e
 same_err : {a b : ConfigFault} → a ≡ b → ◌≡◌ {A = Outcome} (Err a) (Err b)
 same_err e = ap (λ (x : ConfigFault). Err x) e
 
--- `definitions_or outcome d`: the definitions in `outcome`, or `d` for a fault
+-- `definitions_or outcome d`: the definitions in `outcome`, or the definitions `d` if `outcome` is
+-- a fault
 abbrev definitions_or : Outcome → List Definition → List Definition
 definitions_or (Ok ds) d = ds
 definitions_or (Err fault) d = d
 
--- `fault_or outcome d`: the fault in `outcome`, or `d` for definitions
+-- `fault_or outcome d`: the fault in `outcome`, or the fault `d` if `outcome` has definitions
 abbrev fault_or : Outcome → ConfigFault → ConfigFault
 fault_or (Ok ds) d = d
 fault_or (Err fault) d = fault

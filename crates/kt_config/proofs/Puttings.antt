@@ -3,12 +3,14 @@ use Rattle.std.proofs.Common.{◌≡◌, ℕ, Bool, true, false, List, [], ◌�
 use Rattle.kt_config.proofs.Common.{bytes_eq, Variable, is_named, value_of, without, last_values, same, same-flip, or-none, or-some, value_of-append, last_values-without}
 use Rattle.kt_base.proofs.LastValueLaws.{first_of, overlaid, without-further, first-further, twice}
 
--- `put pairs pair`: `pairs` after `pair` replaced the value of its name or was appended
+-- `put pairs pair`: `pairs` with `pair` in place of the first pair of its name, or appended if
+-- there is none
 abbrev pub put : List Variable → Variable → List Variable
 put [] pair = pair ∷ []
 put (first ∷ rest) pair = if is_named pair.name first then record { name = first.name; value = pair.value } ∷ rest else first ∷ put rest pair
 
--- `first_value name pairs`: the value of the first of `pairs` named `name`, or nothing
+-- `first_value name pairs`: the value of the first pair named `name` in `pairs`, or nothing if no
+-- pair has this name
 abbrev pub first_value : List ℕ → List Variable → Option (List ℕ)
 first_value name [] = None
 first_value name (first ∷ rest) = if is_named name first then Some first.value else first_value name rest
@@ -58,7 +60,7 @@ settled-put old new p settled e =
 pub put-twice : (xs : List Variable) (p : Variable) → last_values (last_values xs ++ p ∷ []) ≡ last_values (xs ++ p ∷ [])
 put-twice xs p = overlaid xs (p ∷ [])
 
--- among last values, the first value of a name is its value
+-- in a list of last values, the first value of a name is its only value
 first-other-next : (m n : List ℕ) (y : Variable) (ys : List Variable) → bytes_eq m n ≡ false → first_value m (without n ys) ≡ first_value m ys
     → (d : Bool) → is_named n y ≡ d → first_value m (without n (y ∷ ys)) ≡ first_value m (y ∷ ys)
 first-other-next m n y ys other h true f =

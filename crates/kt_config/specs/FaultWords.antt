@@ -4,7 +4,7 @@ use Rattle.kt_script.specs.FaultWords.{script_message}
 use Rattle.kt_config.specs.declared.fault.ConfigFault.{ConfigFault}
 use Rattle.kt_config.specs.declared.fault.ConfigFault.TheVariants.{NoMemory, UnknownVariable, BadValue, Script, NoSyntax, NotAssignment}
 
--- `config_message fault`: the message of `fault`.
+-- `config_message fault`: the message that is printed for the fault `fault`, without a line number.
 abbrev pub config_message : ConfigFault → List ℕ
 config_message (NoMemory refusal) = codes "out of memory"
 config_message UnknownVariable = codes "unknown variable"

@@ -6,16 +6,16 @@ use Rattle.kt_base.specs.Limits.{largest_width}
 use Rattle.kt_base.specs.Texts.{is_empty}
 use Rattle.kt_base.specs.Utf8.{utf8}
 
--- `is_no_digit c`: `c` is not a decimal digit.
+-- `is_no_digit c`: the byte `c` is not a decimal digit.
 abbrev pub is_no_digit : ℕ → Bool
 is_no_digit c = not (is_digit c)
 
--- `is_zero c`: `c` is the zero byte.
+-- `is_zero c`: the byte `c` is 0.
 abbrev pub is_zero : ℕ → Bool
 is_zero c = c == 0
 
--- `is_invalid_name_byte c`: the byte `c` cannot be in a variable's name: it is not an ASCII letter, a digit,
--- `_` or `-`.
+-- `is_invalid_name_byte c`: the byte `c` cannot be in a variable's name: it is not an ASCII letter,
+-- a digit, `_` or `-`.
 abbrev pub is_invalid_name_byte : ℕ → Bool
 is_invalid_name_byte c = not ((nat_le 97 c && nat_le c 122) || (nat_le 65 c && nat_le c 90) || is_digit c || c == 95 || c == 45)
 
@@ -23,19 +23,21 @@ is_invalid_name_byte c = not ((nat_le 97 c && nat_le c 122) || (nat_le 65 c && n
 abbrev pub has_zero : List ℕ → Bool
 has_zero value = list_any is_zero (utf8 value)
 
--- `is_variable_name name`: `name` can name a suite's variable: one or more letters, digits, `_` and `-`.
+-- `is_variable_name name`: the text `name` can be the name of a suite's variable: it consists of
+-- one or more ASCII letters, digits, `_` and `-`.
 abbrev pub is_variable_name : List ℕ → Bool
 is_variable_name name = not (is_empty name) && not (list_any is_invalid_name_byte (utf8 name))
 
--- `width_in_range n`: the number `n`, or nothing if it is not 1 to 256.
+-- `width_in_range n`: the number `n` as a width, or nothing if `n` is not 1 to 256.
 abbrev pub width_in_range : ℕ → Option ℕ
 width_in_range n = if nat_le 1 n && nat_le n largest_width then Some n else None
 
--- `width_in bytes`: the width that `bytes` represent in decimal, or nothing. Leading zeros are
--- allowed.
+-- `width_in bytes`: the width, 1 to 256, whose decimal digits are the bytes `bytes`, or nothing if
+-- there is no such width. Leading zeros are allowed.
 abbrev pub width_in : List ℕ → Option ℕ
 width_in bytes = if list_any is_no_digit bytes then None else width_in_range (decimal_from 0 bytes)
 
--- `width_of value`: the width, 1 to 256, that the text `value` represents in decimal, or nothing.
+-- `width_of value`: the width, 1 to 256, whose decimal digits are the text `value`, or nothing if
+-- there is no such width.
 abbrev pub width_of : List ℕ → Option ℕ
 width_of value = width_in (utf8 value)

@@ -7,7 +7,8 @@ use Rattle.kt_config.specs.declared.meaning.Definition.{Definition}
 use Rattle.kt_config.specs.declared.meaning.Definition.TheVariants.{Architecture, Platform, Parallelism, UnprivilegedUser, SuiteVariable}
 use Rattle.kt_config.specs.Values.{Values, variables_of}
 
--- `architecture_in definition`: the architecture that `definition` sets, or nothing.
+-- `architecture_in definition`: the architecture that `definition` sets, or nothing if it sets
+-- another variable.
 abbrev pub architecture_in : Definition → Option (List ℕ)
 architecture_in (Architecture value) = Some value
 architecture_in (Platform value) = None
@@ -15,7 +16,8 @@ architecture_in (Parallelism width) = None
 architecture_in UnprivilegedUser = None
 architecture_in (SuiteVariable suite variable) = None
 
--- `platform_in definition`: the platform that `definition` sets, or nothing.
+-- `platform_in definition`: the platform that `definition` sets, or nothing if it sets another
+-- variable.
 abbrev pub platform_in : Definition → Option (List ℕ)
 platform_in (Architecture value) = None
 platform_in (Platform value) = Some value
@@ -23,7 +25,8 @@ platform_in (Parallelism width) = None
 platform_in UnprivilegedUser = None
 platform_in (SuiteVariable suite variable) = None
 
--- `parallelism_in definition`: the width that `definition` sets, or nothing.
+-- `parallelism_in definition`: the width that `definition` sets, or nothing if it sets another
+-- variable.
 abbrev pub parallelism_in : Definition → Option ℕ
 parallelism_in (Architecture value) = None
 parallelism_in (Platform value) = None
@@ -31,7 +34,8 @@ parallelism_in (Parallelism width) = Some width
 parallelism_in UnprivilegedUser = None
 parallelism_in (SuiteVariable suite variable) = None
 
--- `variable_for suite definition`: the variable of `suite` that `definition` sets, or no variable.
+-- `variable_for suite definition`: a list of the variable that `definition` sets in the test suite
+-- `suite`. It is empty if `definition` sets none there.
 abbrev pub variable_for : List ℕ → Definition → List Variable
 variable_for suite (Architecture value) = []
 variable_for suite (Platform value) = []
@@ -39,31 +43,32 @@ variable_for suite (Parallelism width) = []
 variable_for suite UnprivilegedUser = []
 variable_for suite (SuiteVariable owner variable) = if bytes_eq suite owner then variable ∷ [] else []
 
--- `last_value_by given definitions`: the last value that `given` returns for one of `definitions`, in
--- their order. Nothing if `given` returns no value.
+-- `last_value_by given definitions`: the value that the function `given` returns for the last of
+-- `definitions` for which it returns one. Nothing if there is no such definition.
 abbrev pub last_value_by : {A : Type 0} → (Definition → Option A) → List Definition → Option A
 last_value_by given [] = None
 last_value_by given (definition ∷ definitions) = option_or (last_value_by given definitions) (given definition)
 
--- `variables_set_for suite definitions`: the variables of `suite` that `definitions` set, in order.
+-- `variables_set_for suite definitions`: the variables that `definitions` set in the test suite
+-- `suite`, in the order of the definitions.
 abbrev pub variables_set_for : List ℕ → List Definition → List Variable
 variables_set_for suite [] = []
 variables_set_for suite (definition ∷ definitions) = variable_for suite definition ++ variables_set_for suite definitions
 
--- `non_empty_list variables`: `variables`, or nothing if the list is empty.
+-- `non_empty_list variables`: the list `variables`, or nothing if it is empty.
 abbrev pub non_empty_list : List Variable → Option (List Variable)
 non_empty_list [] = None
 non_empty_list (variable ∷ variables) = Some (variable ∷ variables)
 
--- `Holds config definitions`: `config` has the values that `definitions` set: each variable has its
--- last value. A suite's variables occur once, in the order of their first definitions.
+-- `Holds config definitions`: the values `config` are those that `definitions` set: each variable
+-- has its last value. A suite's variables occur once, in the order of their first definitions.
 pub record Holds (config : Values) (definitions : List Definition) : Type 0 where
   pub architecture : config.architecture ≡ last_value_by architecture_in definitions
   pub platform : config.platform ≡ last_value_by platform_in definitions
   pub parallelism : config.parallelism ≡ unwrap_or (last_value_by parallelism_in definitions) 1
   pub suites : (suite : List ℕ) → variables_of suite config.suites ≡ non_empty_list (last_values (variables_set_for suite definitions))
 
--- `Adds definition old new`: if some definitions have the values `old`, these definitions with
--- `definition` appended have the values `new`.
+-- `Adds definition old new`: the values `new` are the values `old` after another definition,
+-- `definition`. If definitions set `old`, the same definitions followed by `definition` set `new`.
 abbrev pub Adds : Definition → Values → Values → Type 0
 Adds definition old new = (before : List Definition) → Holds old before → Holds new (before ++ definition ∷ [])

@@ -12,22 +12,22 @@ use Rattle.kt_config.specs.Values.{SuiteValues, Values, variables_of}
 use Rattle.kt_config.specs.Holding.{Holds}
 use Rattle.kt_config.specs.Reading.{Outcome}
 
--- `SetsSuiteVariable suite variable old new`: the list of suites `new` is `old` with `variable` set in
--- `suite`. The variables of other suites are unchanged.
+-- `SetsSuiteVariable suite variable old new`: the list of suites `new` is the list `old` with the
+-- variable `variable` set in the suite `suite`. The variables of other suites are unchanged.
 pub record SetsSuiteVariable (suite : List ℕ) (variable : Variable) (old new : List SuiteValues) : Type 0 where
   pub own : variables_of suite new ≡ Some (last_values (unwrap_or (variables_of suite old) [] ++ variable ∷ []))
   pub others : (other : List ℕ) → bytes_eq other suite ≡ false → variables_of other new ≡ variables_of other old
 
--- `IsOutcome result outcome`: `result` is what the outcome of a file requires: a configuration with the
--- values of the definitions in `outcome`, or the fault in `outcome`.
+-- `IsOutcome result outcome`: `result` corresponds to `outcome`, the outcome of a file: both are
+-- the same fault, or `result` has the values of the definitions in `outcome`.
 abbrev pub IsOutcome : Result Values ConfigFault → Outcome → Type 0
 IsOutcome (Ok config) (Ok definitions) = Holds config definitions
 IsOutcome (Ok config) (Err fault) = ⊥
 IsOutcome (Err found) (Ok definitions) = ⊥
 IsOutcome (Err found) (Err fault) = found ≡ fault
 
--- `fault_of_script fault`: the fault of a configuration file that, as a script, has the fault
--- `fault`. A failed allocation stays `NoMemory`.
+-- `fault_of_script fault`: the fault of a configuration file that is not a script, because of the
+-- script's fault `fault`. A failed allocation remains `NoMemory`.
 abbrev pub fault_of_script : ScriptFault → ConfigFault
 fault_of_script (script.NoMemory refusal) = NoMemory refusal
 fault_of_script script.NotUtf8 = Script script.NotUtf8
@@ -36,6 +36,7 @@ fault_of_script (script.NotLiteral line) = Script (script.NotLiteral line)
 fault_of_script (script.Unclosed line) = Script (script.Unclosed line)
 fault_of_script script.TooLong = Script script.TooLong
 
--- `suite_in entry`: the suite with its variables that `entry` of a map represents.
+-- `suite_in entry`: the suite that the map entry `entry` represents: its name is the key, and its
+-- variables are the value.
 abbrev pub suite_in : {Z : Type 0} → String Z × List Variable → SuiteValues
 suite_in entry = record { suite = chars (string_bytes entry.0); variables = entry.1 }

@@ -23,13 +23,13 @@ is_syntax_version (Value (Text t)) = false
 is_syntax_version (Value (Truth b)) = false
 is_syntax_version (Table pairs) = false
 
--- `is_syntax_call action`: `action` is the call `syntax(2)`.
+-- `is_syntax_call action`: the action `action` of a statement is the call `syntax(2)`.
 abbrev pub is_syntax_call : Action → Bool
 is_syntax_call (Call name arg) = bytes_eq name (codes "syntax") && is_syntax_version arg
 is_syntax_call (Assign parts value) = false
 
--- `definition_in action`: the definition in a statement with this `action`, or the statement's fault.
--- The statement is not the first of a file.
+-- `definition_in action`: the definition in a statement with the action `action`, or the
+-- statement's fault. The statement is not the first of a file.
 abbrev pub definition_in : Action → DefinitionResult
 definition_in (Call name arg) = Err NotAssignment
 definition_in (Assign parts value) = definition_of parts (text_of value)
@@ -38,65 +38,67 @@ definition_in (Assign parts value) = definition_of parts (text_of value)
 abbrev pub Outcome : Type 0
 Outcome = Result (List Definition) ConfigFault
 
--- `with_first definition outcome`: `outcome` with `definition` before its definitions. A fault is
--- kept.
+-- `with_first definition outcome`: the outcome `outcome` with `definition` prepended to its
+-- definitions. A fault is unchanged.
 abbrev pub with_first : Definition → Outcome → Outcome
 with_first definition (Ok definitions) = Ok (definition ∷ definitions)
 with_first definition (Err fault) = Err fault
 
--- `prepend_meaning meaning rest`: the outcome of a statement, with this `meaning`, and the statements
--- after it, with the outcome `rest`. A fault of the statement comes first.
+-- `prepend_meaning meaning rest`: the outcome of several statements: `meaning` is the definition or
+-- fault of the first, and `rest` is the outcome of the others. The first statement's fault precedes
+-- a fault of the others.
 abbrev pub prepend_meaning : DefinitionResult → Outcome → Outcome
 prepend_meaning (Ok definition) rest = with_first definition rest
 prepend_meaning (Err fault) rest = Err fault
 
--- `definitions_in stmts`: the definitions in the statements `stmts`, which follow the first
--- statement of a file, or their first fault.
+-- `definitions_in stmts`: the outcome of the statements `stmts`, which follow the first statement
+-- of a file: their definitions, or their first fault.
 abbrev pub definitions_in : List Stmt → Outcome
 definitions_in [] = Ok []
 definitions_in (stmt ∷ stmts) = prepend_meaning (definition_in stmt.action) (definitions_in stmts)
 
--- `outcome_of stmts`: the definitions in a file of the statements `stmts`, or its first fault. The
--- first statement must be `syntax(2)`.
+-- `outcome_of stmts`: the outcome of a file with the statements `stmts`: its definitions, or its
+-- first fault. The first statement must be `syntax(2)`.
 abbrev pub outcome_of : List Stmt → Outcome
 outcome_of [] = Err NoSyntax
 outcome_of (stmt ∷ stmts) = if is_syntax_call stmt.action then definitions_in stmts else Err NoSyntax
 
--- `IsDue text fault`: `text` is not a configuration file, and `fault` is the reason: its fault as a
--- script, or else the first fault of its statements.
+-- `IsDue text fault`: the bytes `text` are not a configuration file, because of `fault`: the fault
+-- that `text` has as a script, or the first fault of its statements.
 abbrev pub IsDue : List ℕ → ConfigFault → Type 0
 IsDue text fault =
     ((cause : ScriptFault) × IsScriptDue text cause × (fault ≡ Script cause))
     ⊎ ((stmts : List Stmt) × Spells text stmts × (outcome_of stmts ≡ Err fault))
 
--- `IsRead text config`: `text` is a configuration file with the values `config`.
+-- `IsRead text config`: the bytes `text` are a configuration file, which sets the values `config`.
 abbrev pub IsRead : List ℕ → Values → Type 0
 IsRead text config =
     (stmts : List Stmt) × (definitions : List Definition)
     × Spells text stmts × (outcome_of stmts ≡ Ok definitions) × Holds config definitions
 
--- `IfFault result P`: if `result` is a fault other than a failed allocation, `P` holds of the
--- fault.
+-- `IfFault result P`: if `result` is a fault and not a failed allocation, the fault has the
+-- property `P`.
 abbrev pub IfFault : {T : Type 0} → Result T ConfigFault → (ConfigFault → Type 0) → Type 0
 IfFault (Ok x) P = Unit {0}
 IfFault (Err (NoMemory refusal)) P = Unit {0}
 IfFault (Err fault) P = P fault
 
--- `SucceedsWith result definitions`: `result` has the values of `definitions`, unless an allocation
--- failed.
+-- `SucceedsWith result definitions`: the result `result` of a call has the values that
+-- `definitions` set, or is a failed allocation.
 abbrev pub SucceedsWith : Result Values ConfigFault → List Definition → Type 0
 SucceedsWith (Ok config) definitions = Holds config definitions
 SucceedsWith (Err (NoMemory refusal)) definitions = Unit {0}
 SucceedsWith (Err fault) definitions = ⊥
 
--- `FailsWith result fault`: `result` is the fault `fault`, unless an allocation failed.
+-- `FailsWith result fault`: the result `result` of a call is the fault `fault` or a failed
+-- allocation.
 abbrev pub FailsWith : {T : Type 0} → Result T ConfigFault → ConfigFault → Type 0
 FailsWith (Ok x) fault = ⊥
 FailsWith (Err (NoMemory refusal)) fault = Unit {0}
 FailsWith (Err found) fault = found ≡ fault
 
--- `AddsMeaning old new meaning`: `meaning` is a definition, not a fault, and the values `new` are `old`
--- with the definition added.
+-- `AddsMeaning old new meaning`: `meaning` is a definition and not a fault, and the values `new`
+-- are the values `old` after that definition.
 abbrev pub AddsMeaning : Values → Values → DefinitionResult → Type 0
 AddsMeaning old new (Ok definition) = Adds definition old new
 AddsMeaning old new (Err fault) = ⊥

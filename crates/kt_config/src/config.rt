@@ -15,17 +15,17 @@ use std::marker::Model;
 /// `Holds` relates the values to the definitions.
 pub struct Config {
     alloc: Global,
-    /// The last value of `architecture`, not empty, or `None` without a definition.
+    /// The last value of `architecture`, which is not empty, or `None` if it is not defined.
     architecture: Option<Text>,
-    /// The last value of `platform`, not empty, or `None` without a definition.
+    /// The last value of `platform`, which is not empty, or `None` if it is not defined.
     platform: Option<Text>,
-    /// The maximum number of cases that run at the same time.
+    /// The maximum number of test cases that run at the same time.
     parallelism: Width,
     /// The variables of test suites.
     suites: Suites,
 }
 
-/// Not derived, so that the prover handles a drop as one call.
+/// A manual impl, so that the prover handles each drop as one call.
 impl Drop for Config {
     fn drop(self) {
         let Config {
@@ -63,7 +63,7 @@ impl Config {
         }
     }
 
-    /// Adds `definition`. Its value replaces an earlier value of the same variable.
+    /// Sets the variable of `definition` to its value, in place of an earlier value.
     ///
     /// # Errors
     ///
@@ -90,7 +90,7 @@ impl Config {
         }
     }
 
-    /// Returns the variables of `suite`, or `None` if the suite has no variables.
+    /// Returns the variables of the test suite `suite`, or `None` if the suite has no variables.
     ///
     /// Takes constant time and allocates nothing.
     pub fn suite_vars(&self, suite: &Text) -> Option<&SuiteVariables>

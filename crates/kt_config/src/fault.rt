@@ -11,7 +11,7 @@ use thiserror::Error;
 pub enum ConfigFault {
     /// An allocation failed.
     NoMemory(NoMemory),
-    /// A variable of this name does not exist.
+    /// No variable has the given name.
     UnknownVariable,
     /// The variable does not accept the value.
     BadValue,
@@ -19,7 +19,7 @@ pub enum ConfigFault {
     Script(ScriptFault),
     /// The first statement of the file is missing or is not `syntax(2)`.
     NoSyntax,
-    /// A later statement of the file is a call.
+    /// A statement after `syntax(2)` is not an assignment.
     NotAssignment,
 }
 

@@ -6,14 +6,14 @@ use crate::width::Width;
 use crate::words::{has_zero, is_variable_name};
 use kt_base::{NoMemory, Text, Variable};
 
-/// A definition in a configuration: a variable with its new value.
+/// A definition of a configuration: a variable with its new value.
 #[derive(Drop)]
 pub enum Definition {
-    /// The architecture of the machine, not empty.
+    /// The architecture of the host, a text that is not empty.
     Architecture(Text),
-    /// The platform of the machine, not empty.
+    /// The platform of the host, a text that is not empty.
     Platform(Text),
-    /// The maximum number of cases that run at the same time.
+    /// The maximum number of test cases that run at the same time.
     Parallelism(Width),
     /// The user for tests that require an unprivileged user.
     ///
@@ -23,7 +23,9 @@ pub enum Definition {
     SuiteVariable(Text, Variable),
 }
 
-/// Returns `definition`, or the fault `BadValue` if its value is empty.
+/// Returns `definition`, or the fault `BadValue` if `empty` is `true`.
+///
+/// The caller passes `true` if the value of the definition is empty.
 fn checked_definition(empty: bool, definition: Definition) -> Result<Definition, ConfigFault>
     ensures { result ≡ checked_definition empty definition }
 {
@@ -33,7 +35,7 @@ fn checked_definition(empty: bool, definition: Definition) -> Result<Definition,
     Ok(definition)
 }
 
-/// Returns the definition of `parallelism` as `width`, or the fault `BadValue` without a width.
+/// Returns the definition that sets `parallelism` to `width`, or `BadValue` if `width` is `None`.
 fn width_definition(width: Option<Width>) -> Result<Definition, ConfigFault>
     ensures { result ≡ width_definition width }
 {
@@ -45,7 +47,8 @@ fn width_definition(width: Option<Width>) -> Result<Definition, ConfigFault>
 
 /// Returns the definition that sets the runner's variable `name` to `value`.
 ///
-/// Returns `UnknownVariable` if the runner has no such variable, or `BadValue` for a bad value.
+/// Returns `UnknownVariable` if the runner has no such variable, or `BadValue` if the variable does
+/// not accept `value`.
 #[tactic(auto, unfolding(crate::proofs::Common::chars))]
 fn runner_definition(name: &Text, value: Text) -> Result<Definition, ConfigFault>
     ensures { result ≡ runner_definition name.now value }
@@ -64,9 +67,9 @@ fn runner_definition(name: &Text, value: Text) -> Result<Definition, ConfigFault
     }
 }
 
-/// Returns `true` if `root`, `suite` and `name` are the three parts of `test_suites.SUITE.NAME`.
+/// Returns `true` if `root`, `suite` and `name` are the parts of `test_suites.SUITE.NAME`.
 ///
-/// `suite` must not be empty, and `name` must be a variable's name.
+/// `SUITE` must not be empty, and `NAME` must be the name of a variable.
 #[tactic(auto, unfolding(crate::proofs::Common::chars))]
 fn is_suite_variable(root: &Text, suite: &Text, name: &Text) -> bool
     ensures { result ≡ is_suite_variable root.now suite.now name.now }
@@ -82,8 +85,8 @@ fn is_suite_variable(root: &Text, suite: &Text, name: &Text) -> bool
 
 /// Returns the definition that sets the variable `name` of the test suite `suite` to `value`.
 ///
-/// Returns `UnknownVariable` if the three parts do not name a variable of a test suite, or
-/// `BadValue` if `value` contains a zero byte.
+/// Returns `UnknownVariable` if `root`, `suite` and `name` are not the parts of a suite variable's
+/// name, or `BadValue` if `value` contains a zero byte.
 fn suite_definition(
     root: &Text,
     suite: &Text,
@@ -104,9 +107,10 @@ fn suite_definition(
     Ok(Ok(Definition::SuiteVariable(suite, Variable { name, value })))
 }
 
-/// Returns the definition that sets the variable with the dotted name `parts` to `value`.
+/// Returns the definition that sets the variable whose name has the parts `parts` to `value`.
 ///
-/// Returns `UnknownVariable` if no variable has this name, or else `BadValue` for a bad value.
+/// Returns `UnknownVariable` if no variable has this name, or `BadValue` if the variable does not
+/// accept `value`.
 ///
 /// # Errors
 ///

@@ -7,7 +7,7 @@ use kt_base::NoMemory;
 use kt_script::{Action, Arg, Literal, ScriptFault, Stmt, parse};
 use std::alloc::Global;
 
-/// Converts the fault of a script to the fault of a configuration file.
+/// Converts `fault`, the fault of a script, to the fault of a configuration file.
 pub fn script_fault(fault: ScriptFault) -> ConfigFault
     ensures { result ≡ fault_of_script fault }
 {
@@ -17,7 +17,7 @@ pub fn script_fault(fault: ScriptFault) -> ConfigFault
     }
 }
 
-/// Returns `true` if `arg` is the number 2.
+/// Returns `true` if `arg`, the argument of a call, is the number 2.
 fn is_syntax_version(arg: &Arg) -> bool
     ensures { result ≡ is_syntax_version arg.now }
 {
@@ -27,7 +27,7 @@ fn is_syntax_version(arg: &Arg) -> bool
     }
 }
 
-/// Returns `true` if `action` is the call `syntax(2)`.
+/// Returns `true` if `action`, the action of a statement, is the call `syntax(2)`.
 fn is_syntax_call(action: &Action) -> bool
     ensures { result ≡ is_syntax_call action.now }
 {
@@ -37,9 +37,10 @@ fn is_syntax_call(action: &Action) -> bool
     }
 }
 
-/// Returns the definition in a statement with this `action`, which is not the first statement.
+/// Returns the definition in a statement with the action `action`.
 ///
-/// Returns a fault if the statement is a call, or if the name or the value is not accepted.
+/// The statement is not the first of a file. Returns a fault if the statement is a call, if no
+/// variable has its name, or if the variable does not accept its value.
 fn definition_in(
     alloc: Global,
     action: &Action,
@@ -52,9 +53,10 @@ fn definition_in(
     }
 }
 
-/// Adds the definition in a statement with this `action` to `config`.
+/// Adds the definition in a statement with the action `action` to `config`.
 ///
-/// Returns `None`, or the fault of the statement. On a fault, `config` is unchanged.
+/// Returns the fault of the statement, or `None` without a fault. On a fault, `config` is
+/// unchanged.
 fn read_statement(
     alloc: Global,
     config: &mut Config,
@@ -73,9 +75,9 @@ fn read_statement(
     }
 }
 
-/// Creates a configuration with the definitions in `stmts`, or returns their first fault.
+/// Creates a configuration from the statements `stmts`, or returns their first fault.
 ///
-/// `stmts` are the statements after `syntax(2)`.
+/// `stmts` are the statements of a file after `syntax(2)`.
 fn read_statements(alloc: Global, stmts: &[Stmt]) -> Result<Result<Config, ConfigFault>, NoMemory>
     ensures { IfOk result (λ outcome. IsOutcome outcome (definitions_in stmts.now)) }
 {
@@ -119,7 +121,7 @@ impl Config {
     ///
     /// - `Script`: `text` is not a script of literals.
     /// - `NoSyntax`: the first statement is missing or is not `syntax(2)`.
-    /// - `NotAssignment`: a later statement is a call.
+    /// - `NotAssignment`: a statement after `syntax(2)` is a call.
     /// - `UnknownVariable`: an assignment does not name a variable.
     /// - `BadValue`: a variable does not accept its value.
     /// - `NoMemory`: an allocation fails.

@@ -83,7 +83,7 @@ impl SuiteVariables {
     }
 }
 
-/// Copies the entry of `name` and `value` into a new variable.
+/// Creates a variable from copies of the name `name` and the value `value`.
 fn copy_entry(name: &String, value: &Text) -> Result<Variable, NoMemory>
     ensures { IfOk result (λ variable. variable ≡ variable_in (name.now, value.now)) }
 {

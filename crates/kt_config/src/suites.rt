@@ -33,7 +33,7 @@ impl Suites {
         }
     }
 
-    /// Returns the variables of `suite`, or `None` if the suite has no variables.
+    /// Returns the variables of the test suite `suite`, or `None` if the suite has no variables.
     pub fn get(&self, suite: &Text) -> Option<&SuiteVariables>
         ensures { option_copied result ≡ variables_of suite.now self.now }
     {

@@ -9,12 +9,12 @@ use std::marker::Model;
 /// The greatest width that the configuration accepts, in test cases.
 const GREATEST_WIDTH: u64 = 256;
 
-/// A maximum number of cases that run at the same time, 1 to 256.
+/// A maximum number of test cases that run at the same time, 1 to 256.
 ///
 /// In contracts, a `Width` is its number.
 #[derive(Drop)]
 pub struct Width {
-    /// The number of cases, 1 to 256.
+    /// The maximum number of test cases at the same time, 1 to 256.
     cases: u32,
 }
 
@@ -43,9 +43,9 @@ fn width_in_range(number: u64) -> Option<u32>
     None
 }
 
-/// Parses the ASCII digits `bytes` as a number from 1 to 256. Leading zeros are allowed.
+/// Parses `bytes` as a decimal number from 1 to 256. Leading zeros are allowed.
 ///
-/// Returns `None` for another number, or if a byte is not a digit.
+/// Returns `None` for another number, or if a byte is not an ASCII digit.
 fn width_in(bytes: &[u8]) -> Option<u32>
     ensures { result ≡ width_in bytes.now }
 {
@@ -56,7 +56,7 @@ fn width_in(bytes: &[u8]) -> Option<u32>
 }
 
 impl Width {
-    /// Creates the width 1: one case at a time.
+    /// Creates the width 1: one test case at a time.
     pub fn one() -> Width
         ensures { result ≡ 1 }
     {
@@ -73,7 +73,7 @@ impl Width {
         Some(Width { cases })
     }
 
-    /// Returns the number of cases, 1 to 256.
+    /// Returns the maximum number of test cases at the same time, 1 to 256.
     pub fn cases(&self) -> u32
         ensures value { result ≡ self.now }
         ensures within { (1 ≤ result) × (result ≤ largest_width) }

@@ -19,7 +19,7 @@ fn is_invalid_name_byte(c: u8) -> bool
     !matches!(c, b'a'..=b'z' | b'A'..=b'Z' | b'0'..=b'9' | b'_' | b'-')
 }
 
-/// Returns `true` if `bytes` contains a byte other than ASCII letters, digits, `_` and `-`.
+/// Returns `true` if `bytes` contains a byte that is not an ASCII letter, a digit, `_` or `-`.
 fn has_invalid_name_byte(bytes: &[u8]) -> bool
     ensures { result ≡ list_any is_invalid_name_byte bytes.now }
 {
@@ -35,7 +35,7 @@ pub fn is_variable_name(name: &Text) -> bool
     !name.is_empty() && !has_invalid_name_byte(name.as_str().as_bytes())
 }
 
-/// Converts `text` to a string, the key of a map, without copying it.
+/// Converts `text` to a string, which can be the key of a map, without a copy.
 pub fn key_of(text: Text) -> String
     ensures { chars (string_bytes result) ≡ text }
 {
