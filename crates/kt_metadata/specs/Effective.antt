@@ -9,32 +9,32 @@ use Rattle.kt_metadata.specs.declared.value.Value.TheVariants.{Words, Truth, Siz
 use Rattle.kt_metadata.specs.declared.meta.Meta.{Meta}
 use Rattle.kt_metadata.specs.Properties.{value_of_text}
 
--- `texts_of definitions name`: the text of the last of `definitions` for the property `name`, or
--- nothing.
+-- `texts_of definitions name`: the text of the last definition of the property `name` in the list
+-- `definitions`, or nothing if the list has none.
 abbrev pub texts_of : List Variable → List ℕ → Option (List ℕ)
 texts_of definitions name = value_of name definitions
 
--- `given texts name`: the value of the property `name`, parsed from the text that `texts` returns
--- for it, or nothing if the property isn't set.
+-- `given texts name`: the value of the property `name`, or nothing if it isn't set. The function
+-- `texts` returns the text of a property that is set, which represents the value.
 abbrev pub given : (List ℕ → Option (List ℕ)) → List ℕ → Option Value
 given texts name = option_and_then (value_of_text name) (texts name)
 
--- `words_in value`: the elements of `value`, or an empty list without a value.
+-- `words_in value`: the elements of the optional value `value`, or an empty list if it is absent.
 abbrev pub words_in : Option Value → List (List ℕ)
 words_in (Some (Words found)) = found
 words_in other = []
 
--- `truth_in value`: the truth value in `value`, or false without a value.
+-- `truth_in value`: the truth value in the optional value `value`, or false if it is absent.
 abbrev pub truth_in : Option Value → Bool
 truth_in (Some (Truth b)) = b
 truth_in other = false
 
--- `size_in value`: the size in `value`, in bytes, or 0 without a value.
+-- `size_in value`: the size in bytes in the optional value `value`, or 0 if it is absent.
 abbrev pub size_in : Option Value → ℕ
 size_in (Some (Size bytes)) = bytes
 size_in other = 0
 
--- `user_in value`: the required user in `value`, or any user without a value.
+-- `user_in value`: the required user in the optional value `value`, or any user if it is absent.
 abbrev pub user_in : Option Value → User
 user_in (Some (OfUser user)) = user
 user_in other = Any
@@ -43,13 +43,14 @@ user_in other = Any
 abbrev pub default_timeout_seconds : ℕ
 default_timeout_seconds = 300
 
--- `timeout_in value`: the timeout in `value`, in seconds, or the default without a value.
+-- `timeout_in value`: the timeout in seconds in the optional value `value`, or the default timeout
+-- if it is absent.
 abbrev pub timeout_in : Option Value → ℕ
 timeout_in (Some (Timeout seconds)) = seconds
 timeout_in other = default_timeout_seconds
 
--- `meta_of texts`: the effective properties if `texts` returns the texts that are set: each
--- property has the value of its text, or its default.
+-- `meta_of texts`: the effective properties of a case: each has the value of its text, or its
+-- default. The function `texts` returns the text of a property that is set.
 abbrev pub meta_of : (List ℕ → Option (List ℕ)) → Meta
 meta_of texts = record {
   allowed_architectures = words_in (given texts (codes "allowed_architectures"));
@@ -66,7 +67,7 @@ meta_of texts = record {
   timeout = timeout_in (given texts (codes "timeout"));
 }
 
--- `effective definitions`: the effective properties after `definitions`: each property has the
--- value of its last definition, or its default.
+-- `effective definitions`: the effective properties of a case with the definitions `definitions`:
+-- each has the value of its last definition, or its default.
 abbrev pub effective : List Variable → Meta
 effective definitions = meta_of (texts_of definitions)

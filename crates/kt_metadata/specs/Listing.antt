@@ -14,28 +14,30 @@ use Rattle.kt_metadata.specs.declared.value.Value.TheVariants as value
 use Rattle.kt_metadata.specs.Properties.{PropertyRow, table, is_custom}
 use Rattle.kt_metadata.specs.Effective.{texts_of, given, default_timeout_seconds}
 
--- `spaced words`: the elements `words`, each after a space.
+-- `spaced words`: the text of the elements `words`, with a space before each element.
 abbrev pub spaced : List (List ℕ) → List ℕ
 spaced [] = []
 spaced (word ∷ words) = 32 ∷ (word ++ spaced words)
 
--- `joined words`: the elements `words` with one space between two elements.
+-- `joined words`: the text of the elements `words`, with one space between two elements.
 abbrev pub joined : List (List ℕ) → List ℕ
 joined [] = []
 joined (word ∷ words) = word ++ spaced words
 
--- `truth_text value`: the text of the truth value `value` in a listing.
+-- `truth_text value`: the text by which a listing shows the truth value `value`.
 abbrev pub truth_text : Bool → List ℕ
 truth_text true = codes "true"
 truth_text false = codes "false"
 
--- `user_text user`: the text of the required user `user` in a listing. It is empty for any user.
+-- `user_text user`: the text by which a listing shows the required user `user`. It is empty for any
+-- user.
 abbrev pub user_text : User → List ℕ
 user_text Any = []
 user_text Root = codes "root"
 user_text Unprivileged = codes "unprivileged"
 
--- `shown value text`: the text of `value` in a listing, if the value was parsed from `text`.
+-- `shown value text`: the text by which a listing shows the value `value`, which was parsed from
+-- the text `text`.
 abbrev pub shown : Value → List ℕ → List ℕ
 shown (value.Words words) text = joined words
 shown value.Text text = text
@@ -44,7 +46,7 @@ shown (value.Size bytes) text = decimal bytes
 shown (value.User user) text = user_text user
 shown (value.Timeout seconds) text = decimal seconds
 
--- `default_value form`: the value that a property with values of `form` has if it isn't set.
+-- `default_value form`: the value of a property that isn't set, if its values have the form `form`.
 abbrev pub default_value : Form → Value
 default_value form.Words = value.Words []
 default_value form.Files = value.Words []
@@ -55,35 +57,39 @@ default_value form.Size = value.Size 0
 default_value form.User = value.User Any
 default_value form.Timeout = value.Timeout default_timeout_seconds
 
--- `property_text texts r`: the text of the property of row `r` in a listing. `texts` returns the texts
--- that are set. A property that isn't set has its default.
+-- `property_text texts r`: the text by which a listing shows the property of the table row `r`: its
+-- value, or its default if it isn't set. The function `texts` returns the text of a property that
+-- is set.
 abbrev pub property_text : (List ℕ → Option (List ℕ)) → PropertyRow → List ℕ
 property_text texts r = shown (unwrap_or (given texts r.name) (default_value r.form)) (unwrap_or (texts r.name) [])
 
--- `property_pair texts r`: the property of row `r` with its text in a listing. `texts` returns the
--- texts that are set.
+-- `property_pair texts r`: the name of the property of the table row `r`, with its text in a
+-- listing. The function `texts` returns the text of a property that is set.
 abbrev pub property_pair : (List ℕ → Option (List ℕ)) → PropertyRow → Variable
 property_pair texts r = record { name = r.name; value = property_text texts r }
 
--- `is_valued pair`: the value of `pair` isn't empty.
+-- `is_valued pair`: the text in the pair `pair` of a name and a text isn't empty.
 abbrev pub is_valued : Variable → Bool
 is_valued pair = not (is_empty pair.value)
 
--- `is_custom_pair pair`: the name of `pair` is that of a custom property.
+-- `is_custom_pair pair`: the name in the pair `pair` of a name and a text is that of a custom
+-- property.
 abbrev pub is_custom_pair : Variable → Bool
 is_custom_pair pair = is_custom pair.name
 
--- `property_pairs texts rows`: the properties of `rows` with their texts in a listing, in order,
--- except those with empty texts. `texts` returns the texts that are set.
+-- `property_pairs texts rows`: the names of the properties of the table rows `rows` with their
+-- texts in a listing, in order. Properties with empty texts are omitted. The function `texts`
+-- returns the text of a property that is set.
 abbrev pub property_pairs : (List ℕ → Option (List ℕ)) → List PropertyRow → List Variable
 property_pairs texts rows = filter is_valued (map (property_pair texts) rows)
 
--- `custom_pairs pairs`: the custom properties among `pairs` in order, except those with empty
--- texts.
+-- `custom_pairs pairs`: the pairs of custom properties in `pairs`, in order, without those whose
+-- text is empty.
 abbrev pub custom_pairs : List Variable → List Variable
 custom_pairs pairs = filter is_valued (filter is_custom_pair pairs)
 
--- `listing definitions`: the properties with their texts after `definitions`: those of the table in
--- its order, then the custom properties in the order of their first definitions.
+-- `listing definitions`: the listing of the properties that the definitions `definitions` set. It
+-- has the table's properties with their texts, in the table's order, and then the custom properties
+-- in the order of their first definitions.
 abbrev pub listing : List Variable → List Variable
 listing definitions = property_pairs (texts_of definitions) table ++ custom_pairs (last_values definitions)

@@ -38,33 +38,34 @@ table =
     ∷ row (codes "required_user") (codes "require.user") form.User
     ∷ row (codes "timeout") (codes "timeout") form.Timeout ∷ []
 
--- `filled text`: `text`, or nothing if it is empty.
+-- `filled text`: the text `text`, or nothing if it is empty.
 abbrev pub filled : List ℕ → Option (List ℕ)
 filled [] = None
 filled (c ∷ cs) = Some (c ∷ cs)
 
--- `after_prefix front text`: the rest of `text` after the prefix `front`, or nothing if `text`
+-- `after_prefix front text`: the text `text` without its prefix `front`, or nothing if `text`
 -- doesn't begin with `front`.
 abbrev pub after_prefix : List ℕ → List ℕ → Option (List ℕ)
 after_prefix [] text = Some text
 after_prefix (c ∷ front) [] = None
 after_prefix (c ∷ front) (d ∷ text) = if c == d then after_prefix front text else None
 
--- `non_empty_suffix front text`: the rest of `text` after the prefix `front`, or nothing if the prefix is
--- missing or the rest is empty.
+-- `non_empty_suffix front text`: the text `text` without its prefix `front`. Nothing if `text`
+-- doesn't begin with `front` or has nothing after it.
 abbrev pub non_empty_suffix : List ℕ → List ℕ → Option (List ℕ)
 non_empty_suffix front text = option_and_then filled (after_prefix front text)
 
--- `is_custom name`: `name` is the name of a custom property: `custom.` and at least one character.
+-- `is_custom name`: the text `name` is the name of a custom property: `custom.` and at least one
+-- character.
 abbrev pub is_custom : List ℕ → Bool
 is_custom name = is_some (non_empty_suffix (codes "custom.") name)
 
--- `has_name name r`: the property of the row `r` has the name `name`.
+-- `has_name name r`: the name in the row `r` of the property table is `name`.
 abbrev pub has_name : List ℕ → PropertyRow → Bool
 has_name name r = bytes_eq name r.name
 
--- `form_of_property name`: the form of the values of the property `name`: any text for a custom property,
--- else the form in the table.
+-- `form_of_property name`: the form of the values of the property `name`: any text for a custom
+-- property, otherwise the form in the table. Nothing if no property has this name.
 abbrev pub form_of_property : List ℕ → Option Form
 form_of_property name = if is_custom name then Some form.Text else option_map (λ r. r.form) (find (has_name name) table)
 
@@ -73,8 +74,8 @@ form_of_property name = if is_custom name then Some form.Text else option_map (�
 abbrev pub is_kyuafile_property : List ℕ → Bool
 is_kyuafile_property name = not (bytes_eq name (codes "has_cleanup")) && is_some (form_of_property name)
 
--- `valid_words is_wrong found`: the value with the elements `found`, or nothing if `is_wrong` holds
--- of one of them.
+-- `valid_words is_wrong found`: the value with the elements `found`, or nothing if one of them
+-- passes the test `is_wrong`.
 abbrev pub valid_words : (List ℕ → Bool) → List (List ℕ) → Option Value
 valid_words is_wrong found = if list_any is_wrong found then None else Some (value.Words found)
 
@@ -95,18 +96,19 @@ value_in form.Timeout text = option_map (λ n. value.Timeout n) (timeout_of text
 abbrev pub value_of_text : List ℕ → List ℕ → Option Value
 value_of_text name text = option_and_then (λ f. value_in f text) (form_of_property name)
 
--- `value_fault form text`: the error if a property with values of `form` is set to `text`, or
--- nothing. Without a form, the property is unknown.
+-- `value_fault form text`: the error of setting a property to `text`, if its values have the form
+-- `form`, or nothing if `text` is a value. If `form` is absent, the property is unknown.
 abbrev pub value_fault : Option Form → List ℕ → Option PropFault
 value_fault None text = Some UnknownProperty
 value_fault (Some f) text = if is_some (value_in f text) then None else Some BadValue
 
--- `definition_fault name text`: the error if the property `name` is set to `text`, or nothing. An
--- unknown name comes before a bad value.
+-- `definition_fault name text`: the error of setting the property `name` to `text`, or nothing if
+-- this succeeds. An unknown name precedes a bad value.
 abbrev pub definition_fault : List ℕ → List ℕ → Option PropFault
 definition_fault name text = value_fault (form_of_property name) text
 
--- `IfFault result P`: if `result` is an error other than `NoMemory`, `P` holds of the error.
+-- `IfFault result P`: if `result` is an error other than `NoMemory`, the error has the property
+-- `P`.
 abbrev pub IfFault : {T : Type 0} → Result T PropFault → (PropFault → Type 0) → Type 0
 IfFault (Ok x) P = Unit {0}
 IfFault (Err (NoMemory refusal)) P = Unit {0}

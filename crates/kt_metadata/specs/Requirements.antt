@@ -17,40 +17,46 @@ use Rattle.kt_metadata.specs.declared.value.User.{User}
 use Rattle.kt_metadata.specs.declared.value.User.TheVariants.{Root, Unprivileged}
 use Rattle.kt_metadata.specs.Configured.{is_undefined, architecture_of, platform_of}
 
--- `text_in reason`: the text of `reason`, or nothing without a reason.
+-- `text_in reason`: the text of the optional reason `reason`, or nothing if it is absent.
 abbrev pub text_in : Option Reason → Option (List ℕ)
 text_in reason = option_map reason_text reason
 
--- `around front back word`: the text `front`, `word`, `back`, or nothing without a `word`.
+-- `around front back word`: the optional text `word` between the texts `front` and `back`, or
+-- nothing if `word` is absent.
 abbrev pub around : List ℕ → List ℕ → Option (List ℕ) → Option (List ℕ)
 around front back word = option_map (λ w. front ++ (w ++ back)) word
 
--- `is_allowed listed word`: the list of allowed values `listed` is empty or contains `word`.
+-- `is_allowed listed word`: the list `listed` of allowed values allows the value `word`: it is
+-- empty or contains `word`.
 abbrev pub is_allowed : List (List ℕ) → List ℕ → Bool
 is_allowed listed word = length listed == 0 || list_any (λ w. bytes_eq w word) listed
 
--- `config_reason_text meta config suite`: the reason if a variable that `meta` requires isn't set for the
--- test suite `suite` in `config`. The reason names the first such variable.
+-- `config_reason_text meta config suite`: the reason to skip a case with the properties `meta` of
+-- the test suite `suite`: it names the first required variable that `config` doesn't define for
+-- `suite`. Nothing if all are defined.
 abbrev pub config_reason_text : Meta → Values → List ℕ → Option (List ℕ)
 config_reason_text meta config suite =
     around (codes "Required configuration property '") (codes "' not defined")
     (find (is_undefined config suite) meta.required_configs)
 
--- `listed_reason_text front listed word`: the reason if `word` isn't among the allowed values `listed`. The
--- reason begins with `front`.
+-- `listed_reason_text front listed word`: the reason to skip a case because the list `listed` of
+-- allowed values doesn't allow `word`, or nothing if it does. The reason begins with the text
+-- `front`.
 abbrev pub listed_reason_text : List ℕ → List (List ℕ) → List ℕ → Option (List ℕ)
 listed_reason_text front listed word = if is_allowed listed word then None else Some (front ++ (word ++ codes "' not supported"))
 
--- `architecture_reason_text meta config`: the reason if `meta` doesn't allow the architecture of `config`.
+-- `architecture_reason_text meta config`: the reason to skip a case because its properties `meta`
+-- don't allow the architecture of the configuration `config`, or nothing if they do.
 abbrev pub architecture_reason_text : Meta → Values → Option (List ℕ)
 architecture_reason_text meta config = listed_reason_text (codes "Current architecture '") meta.allowed_architectures (architecture_of config)
 
--- `platform_reason_text meta config`: the reason if `meta` doesn't allow the platform of `config`.
+-- `platform_reason_text meta config`: the reason to skip a case because its properties `meta` don't
+-- allow the platform of the configuration `config`, or nothing if they do.
 abbrev pub platform_reason_text : Meta → Values → Option (List ℕ)
 platform_reason_text meta config = listed_reason_text (codes "Current platform '") meta.allowed_platforms (platform_of config)
 
--- `user_reason_text user root`: the reason if the runner isn't the required `user`. `root` is true if the
--- runner is root.
+-- `user_reason_text user root`: the reason to skip a case because the runner isn't the required
+-- user `user`, or nothing if it is. `root` is true if the runner is root.
 abbrev pub user_reason_text : User → Bool → Option (List ℕ)
 user_reason_text Root false = Some (codes "Requires root privileges")
 user_reason_text Unprivileged true = Some (codes "Requires an unprivileged user")
@@ -60,65 +66,71 @@ user_reason_text user root = None
 abbrev pub all_needs : List Need
 all_needs = File ∷ Program ∷ []
 
--- `needed need meta`: the objects of the kind `need`, files or programs, that `meta` requires on
--- the host.
+-- `needed need meta`: the objects of the kind `need`, files or programs, that the properties `meta`
+-- of a case require on the host.
 abbrev pub needed : Need → Meta → List (List ℕ)
 needed File meta = meta.required_files
 needed Program meta = meta.required_programs
 
--- `is_found need host word`: `word`, a file or program of the kind `need`, was found on `host`.
+-- `is_found need host word`: the required file or program `word`, of the kind `need`, was found on
+-- the host `host`.
 abbrev pub is_found : Need → Host → List ℕ → Bool
 is_found File host word = contains_text host.files (utf8 word)
 is_found Program host word = contains_text host.programs (utf8 word)
 
--- `is_same_need need word other_need other`: `word` and `other` are equal, and so are their kinds
--- `need` and `other_need`.
+-- `is_same_need need word other_need other`: the required object `word` of the kind `need` is the
+-- object `other` of the kind `other_need`.
 abbrev pub is_same_need : Need → List ℕ → Need → List ℕ → Bool
 is_same_need File path File other = bytes_eq (utf8 path) (utf8 other)
 is_same_need Program name Program other = bytes_eq (utf8 name) (utf8 other)
 is_same_need need word other_need other = false
 
--- `IsRecordedAsFound need word old new`: the host `new` is `old` with `word` added to the objects of the kind
--- `need` that were found.
+-- `IsRecordedAsFound need word old new`: the host `new` is the host `old` with `word` added to the
+-- objects of the kind `need` that were found.
 pub record IsRecordedAsFound (need : Need) (word : List ℕ) (old new : Host) : Type 0 where
   pub found : (other_need : Need) (other : List ℕ) → is_found other_need new other ≡ (is_found other_need old other || is_same_need need word other_need other)
   pub root : new.root ≡ old.root
   pub memory : new.memory ≡ old.memory
   pub disk : new.disk ≡ old.disk
 
--- `need_text need`: the beginning of the reason for an unmet `need`.
+-- `need_text need`: the beginning of the reason for a missing object of the kind `need`.
 abbrev pub need_text : Need → List ℕ
 need_text File = codes "Required file '"
 need_text Program = codes "Required program '"
 
--- `need_reason_text need meta host`: the reason if an object of the kind `need` that `meta` requires wasn't
--- found on `host`. The reason names the first such object.
+-- `need_reason_text need meta host`: the reason to skip a case with the properties `meta`: it names
+-- the first required object of the kind `need` that wasn't found on the host `host`. Nothing if all
+-- were found.
 abbrev pub need_reason_text : Need → Meta → Host → Option (List ℕ)
 need_reason_text need meta host = around (need_text need) (codes "' not found") (find (λ word. not (is_found need host word)) (needed need meta))
 
--- `amount_reason_text phrase due there`: the reason, with the message `phrase`, if the host has `there`
--- bytes and `due` bytes are required. An unknown amount is enough.
+-- `amount_reason_text phrase due there`: the reason, with the message `phrase`, to skip a case that
+-- requires `due` bytes on a host that has fewer, `there` bytes. Nothing if `there` is enough or
+-- unknown.
 abbrev pub amount_reason_text : Phrase → ℕ → Option ℕ → Option (List ℕ)
 amount_reason_text phrase due None = None
 amount_reason_text phrase due (Some there) =
     if nat_lt there due then Some (counted_text phrase due there) else None
 
--- `host_reason_texts meta host`: the reasons why `host` doesn't meet the requirements of `meta` on user,
--- files, programs, memory and disk, in this order. A reason is absent if the requirement is met.
+-- `host_reason_texts meta host`: for each requirement of the properties `meta` on the host `host`,
+-- the reason why it isn't met, or nothing if it is. The order is user, files, programs, memory,
+-- disk.
 abbrev pub host_reason_texts : Meta → Host → List (Option (List ℕ))
 host_reason_texts meta host =
     user_reason_text meta.required_user host.root ∷ need_reason_text File meta host ∷ need_reason_text Program meta host
     ∷ amount_reason_text MemoryNeeded meta.required_memory host.memory
     ∷ amount_reason_text DiskNeeded meta.required_disk_space host.disk ∷ []
 
--- `rows meta config suite host`: the reasons of all eight requirements of a case of `suite`, in the
--- order of the checks. A reason is absent if the requirement is met.
+-- `rows meta config suite host`: for each of the eight requirements of a case, in the order of the
+-- checks, the reason why it isn't met, or nothing if it is. The case has the properties `meta` and
+-- belongs to the test suite `suite`. `config` is the configuration, and `host` is the host.
 abbrev pub rows : Meta → Values → List ℕ → Host → List (Option (List ℕ))
 rows meta config suite host =
     config_reason_text meta config suite ∷ architecture_reason_text meta config
     ∷ platform_reason_text meta config ∷ host_reason_texts meta host
 
--- `first_reason rows`: the first reason that is present in `rows`, or nothing.
+-- `first_reason rows`: the first reason that is present in the list `rows` of optional reasons, or
+-- nothing if none is.
 abbrev pub first_reason : List (Option (List ℕ)) → Option (List ℕ)
 first_reason [] = None
 first_reason (None ∷ rest) = first_reason rest

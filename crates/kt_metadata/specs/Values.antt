@@ -25,8 +25,8 @@ users = ([], Any) ∷ (codes "root", Root) ∷ (codes "unprivileged", Unprivileg
 abbrev pub user_of : List ℕ → Option User
 user_of text = named users text
 
--- `number_of digits`: the number with the decimal digits `digits`, or nothing if they are none or
--- the number isn't below 2^64.
+-- `number_of digits`: the number with the decimal digits `digits`, or nothing if `digits` is empty
+-- or the number isn't below 2^64.
 abbrev pub number_of : List ℕ → Option ℕ
 number_of [] = None
 number_of (c ∷ cs) = fits (decimal_from 0 (c ∷ cs))
@@ -35,33 +35,33 @@ number_of (c ∷ cs) = fits (decimal_from 0 (c ∷ cs))
 abbrev pub digits_of : List ℕ → List ℕ
 digits_of text = take (prefix_len is_digit text) text
 
--- `after_digits text`: the rest of `text` after the decimal digits at its beginning.
+-- `after_digits text`: the text `text` without the decimal digits at its beginning.
 abbrev pub after_digits : List ℕ → List ℕ
 after_digits text = drop (prefix_len is_digit text) text
 
--- `unit_of c`: the factor in bytes of the unit `c`, or nothing if `c` isn't K, M, G or T, in either
--- case.
+-- `unit_of c`: the number of bytes that the unit `c` represents, or nothing if the byte `c` isn't
+-- K, M, G or T, in either case.
 abbrev pub unit_of : ℕ → Option ℕ
 unit_of c =
     if c == 75 || c == 107 then Some 1024 else if c == 77 || c == 109 then Some (1024 ^ 2)
     else if c == 71 || c == 103 then Some (1024 ^ 3) else if c == 84 || c == 116 then Some (1024 ^ 4) else None
 
--- `factor_of rest`: the factor for the bytes `rest` after the digits of a size: 1 if `rest` is
--- empty, or the factor of the unit `rest`. Nothing for another `rest`.
+-- `factor_of rest`: the factor that the bytes `rest` after the digits of a size represent: 1 if
+-- `rest` is empty, or that of the unit `rest`. Nothing if `rest` isn't a unit.
 abbrev pub factor_of : List ℕ → Option ℕ
 factor_of [] = Some 1
 factor_of (c ∷ []) = unit_of c
 factor_of (c ∷ d ∷ cs) = None
 
--- `scaled number factor`: the product of `number` and `factor`, or nothing if one is missing or the
--- product isn't below 2^64.
+-- `scaled number factor`: the product of the numbers `number` and `factor`, or nothing if one of
+-- them is absent or the product isn't below 2^64.
 abbrev pub scaled : Option ℕ → Option ℕ → Option ℕ
 scaled None factor = None
 scaled (Some v) None = None
 scaled (Some v) (Some factor) = fits (v * factor)
 
--- `size_in bytes`: the size in bytes that the ASCII text `bytes`, digits and a unit, represents, or
--- nothing if it is invalid.
+-- `size_in bytes`: the size in bytes that `bytes` represent: ASCII digits and at most one unit.
+-- Nothing if they aren't a size.
 abbrev pub size_in : List ℕ → Option ℕ
 size_in bytes = scaled (number_of (digits_of bytes)) (factor_of (after_digits bytes))
 
@@ -69,15 +69,16 @@ size_in bytes = scaled (number_of (digits_of bytes)) (factor_of (after_digits by
 abbrev pub size_of : List ℕ → Option ℕ
 size_of text = size_in (utf8 text)
 
--- `limited number rest`: the timeout in seconds for `number`, which is followed by `rest`. 0 gives
--- the longest timeout. Nothing if `rest` isn't empty or the number is too large.
+-- `limited number rest`: the timeout in seconds that the number `number` represents, where 0 is the
+-- longest timeout. Nothing if `number` is absent or too large, or if bytes `rest` follow its
+-- digits.
 abbrev pub limited : Option ℕ → List ℕ → Option ℕ
 limited (Some v) [] = if v == 0 then Some longest_timeout_seconds else if nat_le v longest_timeout_seconds then Some v else None
 limited (Some v) (c ∷ cs) = None
 limited None rest = None
 
 -- `timeout_in bytes`: the timeout in seconds that the ASCII digits `bytes` represent, or nothing if
--- they are invalid.
+-- `bytes` aren't a timeout.
 abbrev pub timeout_in : List ℕ → Option ℕ
 timeout_in bytes = limited (number_of (digits_of bytes)) (after_digits bytes)
 
@@ -86,11 +87,12 @@ timeout_in bytes = limited (number_of (digits_of bytes)) (after_digits bytes)
 abbrev pub timeout_of : List ℕ → Option ℕ
 timeout_of text = timeout_in (utf8 text)
 
--- `is_not_absolute word`: `word` isn't absolute, so it can't name a required file.
+-- `is_not_absolute word`: the element `word` isn't an absolute path, so it can't name a required
+-- file.
 abbrev pub is_not_absolute : List ℕ → Bool
 is_not_absolute word = not (is_absolute word)
 
--- `is_not_program_name word`: `word` is a relative path with a slash, so it can't name a required
--- program.
+-- `is_not_program_name word`: the element `word` is a relative path with a slash, so it can't name
+-- a required program.
 abbrev pub is_not_program_name : List ℕ → Bool
 is_not_program_name word = if is_absolute word then false else list_any is_slash word

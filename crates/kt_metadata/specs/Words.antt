@@ -3,18 +3,20 @@ use Rattle.std.specs.Prelude.{◌≡◌, ℕ, Bool, true, false, not, List, [], 
 use Rattle.std.specs.List.{list_any}
 use Rattle.kt_base.specs.Characters.{is_space}
 
--- `is_word word`: `word` has at least one character and no white space.
+-- `is_word word`: the text `word` can be an element: it has at least one character and no white
+-- space.
 abbrev pub is_word : List ℕ → Bool
 is_word [] = false
 is_word (c ∷ cs) = not (list_any is_space (c ∷ cs))
 
--- `IsBreak text`: `text` is empty or begins with white space.
+-- `IsBreak text`: an element can end before the text `text`, which is empty or begins with white
+-- space.
 abbrev pub IsBreak : List ℕ → Type 0
 IsBreak [] = Unit {0}
 IsBreak (c ∷ cs) = is_space c ≡ true
 
--- `AreWords text found`: `found` are the elements of `text` in order: its longest parts without
--- white space.
+-- `AreWords text found`: the list `found` has the elements of the text `text` in order: its longest
+-- parts without white space.
 pub data AreWords : List ℕ → List (List ℕ) → Type 0 where
   over : AreWords [] []
   blank : (c : ℕ) (text : List ℕ) (found : List (List ℕ)) → is_space c ≡ true → AreWords text found
@@ -22,17 +24,18 @@ pub data AreWords : List ℕ → List (List ℕ) → Type 0 where
   one : (first text : List ℕ) (found : List (List ℕ)) → is_word first ≡ true → IsBreak text → AreWords text found
       → AreWords (first ++ text) (first ∷ found)
 
--- `ended word found`: the list of elements `word` followed by `found`, or only `found` if `word` is
--- empty.
+-- `ended word found`: the list of the element `word` followed by the elements `found`, or only
+-- `found` if `word` is empty.
 abbrev pub ended : List ℕ → List (List ℕ) → List (List ℕ)
 ended [] found = found
 ended (c ∷ cs) found = (c ∷ cs) ∷ found
 
--- `words_from word text`: the elements of the text `word ++ text`, where `word` has no white space.
+-- `words_from word text`: the elements of the text that consists of `word`, which has no white
+-- space, followed by `text`.
 abbrev pub words_from : List ℕ → List ℕ → List (List ℕ)
 words_from word [] = ended word []
 words_from word (c ∷ cs) = if is_space c then ended word (words_from [] cs) else words_from (word ++ c ∷ []) cs
 
--- `words text`: the elements of `text`, which white space separates, in order.
+-- `words text`: the elements of the text `text` in order. White space separates them.
 abbrev pub words : List ℕ → List (List ℕ)
 words text = words_from [] text

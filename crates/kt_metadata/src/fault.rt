@@ -10,9 +10,9 @@ use thiserror::Error;
 pub enum PropFault {
     /// An allocation failed.
     NoMemory(NoMemory),
-    /// No property has this name.
+    /// No property has the given name.
     UnknownProperty,
-    /// The text isn't a value of the property.
+    /// The given text isn't a value of the property.
     BadValue,
 }
 

@@ -8,7 +8,7 @@ use crate::values::{has_invalid_file, has_invalid_program, size, timeout, truth,
 use kt_base::{Items, NoMemory, Text};
 use std::alloc::Global;
 
-/// A form of property values. It decides how a text is parsed and what the default value is.
+/// A form of property values, which determines how a text is parsed and what the default is.
 #[derive(Clone, Copy)]
 pub enum Form {
     /// Elements that are separated by white space.
@@ -32,7 +32,9 @@ pub enum Form {
 /// The timeout of a case without a `timeout` property, in seconds.
 pub const DEFAULT_TIMEOUT_SECONDS: u32 = 300;
 
-/// Returns the elements `words` as a value, or `None` if `wrong` is `true`: an element is invalid.
+/// Returns the value with the elements `words`, or `None` if `wrong` is `true`.
+///
+/// The caller passes `true` if one of the elements is invalid.
 fn unless(wrong: bool, words: Items<Text>) -> Option<Value>
     ensures { result ≡ (if wrong then None else Some (Value.Words words)) }
 {

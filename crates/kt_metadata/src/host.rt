@@ -25,7 +25,7 @@ impl Need {
         &NEEDS
     }
 
-    /// Returns the beginning of the reason for an unmet need (this profile).
+    /// Returns the beginning of the reason for a missing object of this kind (this profile).
     pub(crate) fn text(self) -> &'static str
         ensures { chars result.now ≡ need_text self }
     {
@@ -36,7 +36,7 @@ impl Need {
     }
 }
 
-/// A description of the host at the start of a run.
+/// A description of the host at the start of a run, for the requirements of test cases.
 #[derive(Drop)]
 pub struct Host {
     /// `true` if the runner is root.
@@ -60,9 +60,8 @@ impl Host {
 
     /// Creates the description of a host on which no required file or program was found yet.
     ///
-    /// `memory` and `disk` are in bytes.
-    ///
-    /// Allocates nothing.
+    /// `root` is `true` if the runner is root. `memory` and `disk` are in bytes, or `None` if they
+    /// are unknown. Allocates nothing.
     pub fn new(alloc: Global, root: bool, memory: Option<u64>, disk: Option<u64>) -> Host
         ensures root { result.root ≡ root }
         ensures memory { result.memory ≡ memory }
@@ -99,7 +98,7 @@ impl Host {
         }
     }
 
-    /// Returns `true` if `word`, a required object of the kind `need`, was found.
+    /// Returns `true` if `word`, a required object of the kind `need`, was recorded as found.
     pub(crate) fn has(&self, need: Need, word: &Text) -> bool
         ensures { result ≡ is_found need self.now word.now }
     {

@@ -48,14 +48,15 @@ impl Layer {
         *self.given.allocator()
     }
 
-    /// Returns `true` if the layer has no definition.
+    /// Returns `true` if the layer contains no definition.
     pub fn is_empty(&self) -> bool
         ensures { IsTrue result ↔ (self.now ≡ []) }
     {
         self.given.is_empty()
     }
 
-    /// Returns the definition of the property `name`, or `None` without a definition.
+    /// Returns the definition of the property `name`, or `None` if the layer has no such
+    /// definition.
     ///
     /// Takes constant time.
     pub fn get(&self, name: &str) -> Option<&PropertyDefinition>
@@ -67,7 +68,10 @@ impl Layer {
         self.given.get(name)
     }
 
-    /// Sets the definition of the property `name`, in place of an earlier definition or at the end.
+    /// Sets the definition of the property `name` to `given`.
+    ///
+    /// A definition that the layer already has is replaced in place. Otherwise, `given` is
+    /// appended.
     ///
     /// # Errors
     ///
@@ -83,7 +87,8 @@ impl Layer {
         Ok(())
     }
 
-    /// Sets each definition of `more`, in place of an earlier definition of the same name.
+    /// Sets each definition of `more` in the layer, in place of an earlier definition of the same
+    /// name.
     ///
     /// # Errors
     ///
@@ -98,7 +103,7 @@ impl Layer {
         Ok(())
     }
 
-    /// Appends the custom properties with their texts to `pairs`, except those with empty texts.
+    /// Appends the custom properties with their texts to `pairs`. Omits those with empty texts.
     ///
     /// # Errors
     ///
@@ -128,7 +133,7 @@ pub fn add(pairs: &mut Variables, name: Text, value: Text) -> Result<(), NoMemor
     pairs.push(Variable { name, value })
 }
 
-/// Appends a copy of the pair of `name` and `value` to `pairs`, if `name` is a custom property.
+/// Appends copies of `name` and `value` as a pair to `pairs`, if `name` is a custom property.
 ///
 /// Appends nothing if `value` is empty.
 fn add_if_custom(

@@ -28,7 +28,9 @@ fn name_of_custom_key(alloc: Global, key: &Text) -> Result<Option<Text>, NoMemor
     }
 }
 
-/// Returns the name of the property with the key `key`, or `None` if no property has this key.
+/// Returns the name of the property whose key in a list of ATF cases is `key`.
+///
+/// Returns `None` if no property has this key.
 fn name_of_key(alloc: Global, key: &Text) -> Result<Option<Text>, NoMemory>
     ensures { IfOk result (λ found. found ≡ name_of_key key.now) }
 {

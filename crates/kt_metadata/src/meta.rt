@@ -3,27 +3,27 @@ use crate::value::{Value, copy_of_words};
 use crate::{Need, Props, User};
 use kt_base::{Items, NoMemory, Text};
 
-/// A set of the effective properties of a test case (kyuafile(5)), with defaults for unset ones.
+/// The effective properties of a test case (kyuafile(5)): unset properties have their defaults.
 pub struct Meta {
     /// The allowed architectures. If the list is empty, each architecture is allowed.
     pub allowed_architectures: Items<Text>,
     /// The allowed platforms. If the list is empty, each platform is allowed.
     pub allowed_platforms: Items<Text>,
-    /// A description for people.
+    /// The description of the case, a text for people.
     pub description: Text,
     /// `true` if the case has a cleanup routine (atf-test-case(4)).
     pub has_cleanup: bool,
     /// `true` if no other case may run at the same time.
     pub is_exclusive: bool,
-    /// Names of variables that the configuration must define for the test suite.
+    /// The names of the variables that the configuration must define for the test suite.
     pub required_configs: Items<Text>,
     /// The required free disk space in bytes.
     pub required_disk_space: u64,
-    /// Absolute paths of required files.
+    /// The absolute paths of the required files.
     pub required_files: Items<Text>,
     /// The required physical memory in bytes.
     pub required_memory: u64,
-    /// Required programs: absolute paths, or names that are looked up in `PATH`.
+    /// The required programs: absolute paths, or names that are looked up in `PATH`.
     pub required_programs: Items<Text>,
     /// The user that must run the case.
     pub required_user: User,
@@ -31,7 +31,7 @@ pub struct Meta {
     pub timeout: u32,
 }
 
-/// Not derived, so that the prover handles a drop as one call.
+/// A manual impl, so that the prover handles each drop as one call.
 impl Drop for Meta {
     fn drop(self) {
         let Meta {
@@ -150,7 +150,7 @@ impl Props {
         }
     }
 
-    /// Returns the effective properties: each has its last value, or its default if it isn't set.
+    /// Returns the effective properties: each has the value that was last set, or its default.
     ///
     /// The timeout 0 represents the longest timeout, 1,000,000 seconds (kyuafile(5)).
     ///

@@ -21,7 +21,7 @@ pub struct Props {
     own: Layer,
 }
 
-/// Not derived, so that the prover handles a drop as one call, and only here sees the fields.
+/// A manual impl, so that the prover handles each drop as one call and sees the fields only here.
 impl Drop for Props {
     fn drop(self) {
         let Props { program, own } = self;
@@ -41,7 +41,7 @@ impl Model for Props {
     ghost view = { λ p. last_values (program_layer p.program ++ p.own) };
 }
 
-/// Clones the reference to the layer `program`, or returns `Ok(None)` without a layer.
+/// Clones the reference to the layer `program`, or returns `Ok(None)` if `program` is `None`.
 fn program_layer(program: &Option<Rc<SharedLayer>>) -> Result<Option<Rc<SharedLayer>>, NoMemory>
     ensures { IfOk result (λ layer. program_layer layer ≡ program_layer program.now) }
 {
@@ -74,7 +74,7 @@ impl Props {
 
     /// Returns the last definition of the property `name`, or `None` if the property isn't set.
     ///
-    /// A definition of the case comes before a definition of its program.
+    /// A definition of the case takes precedence over a definition of its program.
     pub(crate) fn find(&self, name: &str) -> Option<&PropertyDefinition>
         ensures text { option_map (λ it. it.text) (option_copied result)
             ≡ texts_of self.now (chars name.now) }
@@ -90,7 +90,7 @@ impl Props {
         }
     }
 
-    /// Returns the last accepted text of the property `key`, or `None` if the property isn't set.
+    /// Returns the text to which the property `key` was last set, or `None` if it isn't set.
     ///
     /// Allocates nothing.
     pub fn get(&self, key: &Text) -> Option<&Text>
@@ -143,7 +143,7 @@ impl Props {
         Ok(())
     }
 
-    /// Sets each property of `self` in `layer`, in place of the values that `layer` had.
+    /// Sets each of the properties in `layer`, in place of an earlier value in `layer`.
     fn copy_into(&self, layer: &mut Layer) -> Result<(), NoMemory>
         ensures { OnOk result (layer.new ≡ last_values (layer.old ++ self.now)) }
     {
@@ -156,7 +156,7 @@ impl Props {
         }
     }
 
-    /// Copies all properties, of the program and of the case, into one newly allocated layer.
+    /// Copies all properties, those of the program and those of the case, into one new layer.
     ///
     /// # Errors
     ///
@@ -169,7 +169,7 @@ impl Props {
         Ok(layer)
     }
 
-    /// Creates the listing of the properties, in memory that copies of the listing share.
+    /// Creates the listing of the properties in memory that its copies share.
     fn shared_listing(&self) -> Result<Variables, NoMemory>
         ensures { IfOk result (λ pairs. pairs ≡ listing self.now) }
     {
@@ -177,7 +177,7 @@ impl Props {
         pairs.into_shared()
     }
 
-    /// Copies all properties into one layer, together with their listing.
+    /// Creates a shared layer from copies of all properties and from their listing.
     fn shared_layer(&self) -> Result<SharedLayer, NoMemory>
         ensures { IfOk result (λ layer. layer ≡ self.now) }
     {
@@ -186,7 +186,7 @@ impl Props {
         Ok(SharedLayer::new(layer, pairs))
     }
 
-    /// Copies the properties into memory that overlays over the copy share.
+    /// Copies the properties into memory that all overlays over the copy share.
     ///
     /// The call also computes the listing of the properties. If an overlay adds no property,
     /// [`Props::listing`] shares the memory of this listing.
@@ -229,7 +229,7 @@ impl Props {
 }
 
 impl Props {
-    /// Returns the text that the property of `row` has in a listing.
+    /// Returns the text of the property of the table row `row` in a listing.
     ///
     /// A property that isn't set has the text of its default value.
     fn shown(&self, row: &PropertyRow) -> Result<Text, NoMemory>
@@ -242,7 +242,9 @@ impl Props {
         }
     }
 
-    /// Appends the properties of `rows` with their texts to `pairs`, except those with empty texts.
+    /// Appends the properties of the table rows `rows` with their texts to `pairs`.
+    ///
+    /// Properties with empty texts are omitted.
     fn add_shown(&self, pairs: &mut Variables, rows: &[PropertyRow]) -> Result<(), NoMemory>
         ensures { OnOk result (pairs.new
             ≡ pairs.old ++ property_pairs (texts_of self.now) (map row_in rows.now)) }
@@ -254,7 +256,7 @@ impl Props {
         Ok(())
     }
 
-    /// Appends the custom properties with their texts to `pairs`, except those with empty texts.
+    /// Appends the custom properties with their texts to `pairs`. Omits those with empty texts.
     fn add_custom(&self, pairs: &mut Variables) -> Result<(), NoMemory>
         ensures { OnOk result (pairs.new ≡ pairs.old ++ custom_pairs self.now) }
     {

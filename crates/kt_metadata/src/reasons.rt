@@ -16,16 +16,18 @@ fn is_undefined(config: &Config, suite: &Text, name: &Text) -> bool
     }
 }
 
-/// Returns the first of `words` that isn't a variable of the test suite `suite`, or `None`.
+/// Returns the first name in `words` that isn't a variable of the test suite `suite`.
+///
+/// Returns `None` if all names are variables of the suite.
 fn first_undefined<'a>(words: &'a [Text], config: &Config, suite: &Text) -> Option<&'a Text>
     ensures { option_copied result ≡ find (is_undefined config.now suite.now) words.now }
 {
     words.iter().find(|word| is_undefined(config, suite, *word))
 }
 
-/// Returns the first required file or program that wasn't found on the host, or `None`.
+/// Returns the first required object of the kind `need` that wasn't found on the host.
 ///
-/// `need` decides whether files or programs are checked.
+/// Returns `None` if all such objects were found.
 fn first_missing<'a>(need: Need, meta: &'a Meta, host: &Host) -> Option<&'a Text>
     ensures { option_copied result
         ≡ find (λ word. not (is_found need host.now word)) (needed need meta.now) }
@@ -48,7 +50,7 @@ fn is_allowed(words: &[Text], word: &str) -> bool
     words.is_empty() || is_listed(words, word)
 }
 
-/// Creates the reason with the text `front`, `word` and `back`, concatenated.
+/// Creates a reason whose text is the concatenation of `front`, `word` and `back`.
 fn about(alloc: Global, front: &str, word: &str, back: &str) -> Result<Reason, NoMemory>
     ensures { IfOk result (λ reason. reason_text reason
         ≡ chars front.now ++ (chars word.now ++ chars back.now)) }
@@ -151,8 +153,8 @@ pub fn need_reason(
 
 /// Returns the reason to skip a case if the host has less memory or disk space than required.
 ///
-/// `due` is the required amount in bytes, and `there` the amount of the host, if it is known.
-/// Returns `None` if the amount is enough or unknown.
+/// `due` is the required amount in bytes, and `there` is the amount that the host has, if it is
+/// known. `phrase` is the message of the reason. Returns `None` if `there` is enough or unknown.
 pub fn amount_reason(phrase: Phrase, due: u64, there: Option<u64>) -> Option<Reason>
     ensures { text_in result ≡ amount_reason_text phrase due there }
 {

@@ -32,7 +32,7 @@ fn platform_reason(alloc: Global, meta: &Meta, config: &Config) -> Result<Option
     listed_reason(alloc, "Current platform '", listed, config.platform())
 }
 
-/// Returns the reason to skip a case: the first requirement that the host doesn't meet.
+/// Returns the reason to skip a case: that of the first requirement which `host` doesn't meet.
 ///
 /// Returns `None` if the host meets the requirements on user, files, programs, memory and disk.
 fn host_reason(alloc: Global, meta: &Meta, host: &Host) -> Result<Option<Reason>, NoMemory>
@@ -53,7 +53,8 @@ fn host_reason(alloc: Global, meta: &Meta, host: &Host) -> Result<Option<Reason>
     Ok(amount_reason(Phrase::DiskNeeded, meta.required_disk_space, host.disk))
 }
 
-/// Returns the reason to skip a case: its first unmet requirement, or `None` if all are met.
+/// Returns the reason to skip a case: that of its first unmet requirement, or `None` if all are
+/// met.
 ///
 /// The requirements are checked in this order (this profile): variables of the test suite `suite`,
 /// architecture, platform, user, files, programs, memory, disk space.

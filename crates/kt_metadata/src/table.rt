@@ -12,7 +12,7 @@ pub type PropertyRow = (&'static str, &'static str, Form);
 
 /// The properties with fixed names, in the order of a listing.
 ///
-/// A row has the name (kyuafile(5); `has_cleanup`: atf-test-case(4)), the key in a list of ATF
+/// A row has the name (kyuafile(5), for `has_cleanup` atf-test-case(4)), the key in a list of ATF
 /// cases (this profile), and the form of the values.
 pub const TABLE: [PropertyRow; 12] = [
     ("allowed_architectures", "require.arch", Form::Words),
@@ -38,7 +38,7 @@ pub fn is_custom(name: &str) -> bool
     non_empty_suffix(name, "custom.").is_some()
 }
 
-/// Returns the first of `rows` whose property has the name `name`, or `None` without such a row.
+/// Returns the first of `rows` whose property has the name `name`, or `None` if no row has it.
 fn row_with_name<'a>(name: &Text, rows: &'a [PropertyRow]) -> Option<&'a PropertyRow>
     ensures { option_map row_in (option_copied result)
         ≡ find (has_name name.now) (map row_in rows.now) }
@@ -51,7 +51,7 @@ fn row_with_name<'a>(name: &Text, rows: &'a [PropertyRow]) -> Option<&'a Propert
     None
 }
 
-/// Returns the first of `rows` with the key `key`, or `None` without such a row.
+/// Returns the first of `rows` whose key is `key`, or `None` if no row has this key.
 ///
 /// The keys are those of a list of ATF cases (this profile).
 pub fn row_with_key<'a>(key: &Text, rows: &'a [PropertyRow]) -> Option<&'a PropertyRow>
@@ -108,7 +108,7 @@ pub fn read_definition(alloc: Global, name: &Text, text: &Text) -> Result<Value,
     }
 }
 
-/// Returns `Some(text)`, or `None` if `text` is empty.
+/// Returns `text`, or `None` if `text` is empty.
 fn filled(text: &str) -> Option<&str>
     ensures { option_map (λ part. chars part.now) result ≡ filled (chars text.now) }
 {
@@ -118,7 +118,7 @@ fn filled(text: &str) -> Option<&str>
     Some(text)
 }
 
-/// Strips the prefix `front` from `text`.
+/// Returns `text` without its prefix `front`.
 ///
 /// Returns `None` if `text` does not begin with `front` or has nothing after it.
 pub fn non_empty_suffix<'a>(text: &'a str, front: &str) -> Option<&'a str>

@@ -47,7 +47,7 @@ pub fn copy_of_words(alloc: Global, words: &[Text]) -> Result<Items<Text>, NoMem
     Ok(copy)
 }
 
-/// Joins the elements `words` with one space between two elements.
+/// Concatenates the elements `words`, with one space between two elements.
 fn join(alloc: Global, words: &[Text]) -> Result<Text, NoMemory>
     ensures { IfOk result (λ text. text ≡ joined words.now) }
 {
@@ -57,7 +57,7 @@ fn join(alloc: Global, words: &[Text]) -> Result<Text, NoMemory>
     }
 }
 
-/// Appends the elements `words` to `front`, each after a space, and returns the text.
+/// Returns the text `front` with the elements `words` appended, each after a space.
 fn join_after(front: Text, words: &[Text]) -> Result<Text, NoMemory>
     ensures { IfOk result (λ text. text ≡ front ++ spaced words.now) }
 {
@@ -78,7 +78,7 @@ fn truth_word(value: bool) -> &'static str
 
 /// Returns the text of the required user `user` in a listing of properties.
 ///
-/// Any user has an empty text.
+/// The text for any user is empty.
 fn user_word(user: User) -> &'static str
     ensures { chars result.now ≡ user_text user }
 {
@@ -108,7 +108,7 @@ impl Value {
         }
     }
 
-    /// Converts the value to its text in a listing of properties.
+    /// Returns the text of the value in a listing of properties.
     ///
     /// `text` is the text from which the value was parsed. Elements are joined by one space, and
     /// numbers are decimal.
@@ -130,10 +130,10 @@ impl Value {
     }
 }
 
-/// A definition of a property: the text that was set, and the value parsed from it.
+/// A definition of a property: the text to which it was set, and the value parsed from that text.
 #[derive(Drop)]
 pub struct PropertyDefinition {
-    /// The text that was set, unchanged.
+    /// The text to which the property was set, unchanged.
     pub text: Text,
     /// The value parsed from the text.
     pub value: Value,
@@ -142,7 +142,7 @@ pub struct PropertyDefinition {
 impl PropertyDefinition {
     ghost use Rattle.std.specs.Prelude.{◌≡◌, IfOk};
 
-    /// Copies the text and the value into newly allocated memory.
+    /// Copies the definition, its text and its value, into newly allocated memory.
     ///
     /// # Errors
     ///

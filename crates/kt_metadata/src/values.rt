@@ -13,7 +13,7 @@ fn is_space(c: char) -> bool
     c == ' ' || ('\t' <= c && c <= '\r')
 }
 
-/// Appends `word` to `words`, unless `word` is empty.
+/// Appends the element `word` to `words`, unless `word` is empty.
 fn end_word(words: &mut Items<Text>, word: Text) -> Result<(), NoMemory>
     ensures { OnOk result (words.new ≡ words.old ++ ended word []) }
 {
@@ -23,10 +23,10 @@ fn end_word(words: &mut Items<Text>, word: Text) -> Result<(), NoMemory>
     words.push(word)
 }
 
-/// Processes the next character `c` of a text, after the beginning `word` of an element.
+/// Processes `c`, the next character of a text. `word` is the beginning of an element before `c`.
 ///
-/// Returns `word` with `c` appended. If `c` is white space, appends `word` to `words` instead and
-/// returns an empty text.
+/// Returns `word` with `c` appended. If `c` is white space, appends `word` to `words` instead, if
+/// it is not empty, and returns an empty text.
 fn next_word(alloc: Global, words: &mut Items<Text>, word: Text, c: char) -> Result<Text, NoMemory>
     ensures { IfOk result (λ next. (rest : List ℕ) → words.new ++ words_from next rest
         ≡ words.old ++ words_from word (c ∷ rest)) }
@@ -57,14 +57,14 @@ pub fn words(alloc: Global, text: &Text) -> Result<Items<Text>, NoMemory>
     Ok(found)
 }
 
-/// Theorem: each text has exactly one list of elements by the rule `AreWords`: `words text`.
+/// Theorem: by the rule `AreWords`, `words text` is the only list of elements of a text.
 pub fn theorem_of_words()
     ensures words { (text : List ℕ) → AreWords text (words text) }
     ensures only { (text : List ℕ) → (found : List (List ℕ)) → AreWords text found
         → found ≡ words text }
 {}
 
-/// The truth values by their texts in a Kyuafile (kyuafile(5)).
+/// The truth values, each with its text in a Kyuafile or a list of ATF cases (kyuafile(5)).
 const TRUTHS: [(&str, bool); 4] = [
     ("true", true),
     ("yes", true),
@@ -82,7 +82,7 @@ pub fn truth(text: &Text) -> Option<bool>
     named(text, &TRUTHS)
 }
 
-/// The required users by their texts in a Kyuafile (kyuafile(5)).
+/// The required users, each with its text in a Kyuafile or a list of ATF cases (kyuafile(5)).
 const USERS: [(&str, User); 3] = [
     ("", User::Any),
     ("root", User::Root),
@@ -114,7 +114,7 @@ fn number(digits: &[u8]) -> Option<u64>
     decimal_up_to(u64::MAX, digits)
 }
 
-/// Returns the factor of the unit `c` in bytes, or `None` if `c` isn't a unit.
+/// Returns the number of bytes that the unit `c` represents, or `None` if `c` isn't a unit.
 ///
 /// The units are K (1024), M (1024^2), G (1024^3) and T (1024^4), in either case.
 fn unit(c: u8) -> Option<u64>
@@ -129,10 +129,10 @@ fn unit(c: u8) -> Option<u64>
     }
 }
 
-/// Returns the factor for the bytes `rest` after the digits of a size.
+/// Returns the factor that the bytes `rest` after the digits of a size represent.
 ///
-/// The factor is 1 if `rest` is empty, or the factor of the unit `rest`. Returns `None` for
-/// another `rest`.
+/// The factor is 1 if `rest` is empty, or that of the unit `rest`. Returns `None` if `rest` isn't a
+/// unit.
 fn factor(rest: &[u8]) -> Option<u64>
     ensures { result ≡ factor_of rest.now }
 {
@@ -163,10 +163,10 @@ pub fn size(text: &[u8]) -> Option<u64>
     scaled(number(&text[..length]), factor(&text[length..]))
 }
 
-/// Converts `number` to a timeout in seconds, if no bytes `rest` follow its digits.
+/// Converts `number` to a timeout in seconds. `rest` are the bytes after the number's digits.
 ///
-/// The number 0 represents the longest timeout, 1,000,000 seconds. Returns `None` without a number,
-/// for a longer timeout, or if `rest` isn't empty.
+/// The number 0 represents the longest timeout, 1,000,000 seconds. Returns `None` if `number` is
+/// `None` or above 1,000,000, or if `rest` isn't empty.
 fn limited(number: Option<u64>, rest: &[u8]) -> Option<u32>
     ensures { result ≡ limited number rest.now }
 {
@@ -207,7 +207,9 @@ fn is_not_program_name(word: &Text) -> bool
     !is_absolute(word.as_str()) && has_slash(word.as_str())
 }
 
-/// Returns `true` if one of `words` isn't an absolute path and so can't name a required file.
+/// Returns `true` if one of `words` isn't an absolute path.
+///
+/// Such an element can't name a required file.
 pub fn has_invalid_file(words: &[Text]) -> bool
     ensures { result ≡ list_any is_not_absolute words.now }
 {

@@ -4,6 +4,6 @@ use Rattle.std.specs.Borrow.{Bor}
 use Rattle.kt_metadata.specs.declared.form.Form.{Form}
 use Rattle.kt_metadata.specs.Properties.{PropertyRow}
 
--- `row_in r`: the row of the property table that the code's tuple `r` represents.
+-- `row_in r`: the row of the property table that the tuple `r` represents in the code.
 abbrev pub row_in : Bor (List ℕ) × Bor (List ℕ) × Form → PropertyRow
 row_in r = record { name = chars r.0.now; key = chars r.1.now; form = r.2 }
