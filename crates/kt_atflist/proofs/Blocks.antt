@@ -26,7 +26,7 @@ none-of : (o : Option (List ℕ)) → is_some o ≡ false → o ≡ None
 none-of None e = refl
 none-of (Some value) e = absurd (cc)
 
--- After a property is set, or setting fails, each name still has one value.
+-- After a call that sets a property, successful or not, each name still has one value.
 pub settled-after : {U E : Type 0} (r : Result U E) (old new : List Variable) (pair : Variable) → old ≡ last_values old
     → OnOk r (new ≡ last_values (old ++ pair ∷ [])) → OnErr r (new ≡ old) → new ≡ last_values new
 settled-after (Ok u) old new pair s set kept = set ∙ sym (twice (old ++ pair ∷ [])) ∙ ap last_values (sym set)

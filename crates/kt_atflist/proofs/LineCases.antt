@@ -4,8 +4,9 @@ use Rattle.kt_atflist.proofs.Common.{find, is_empty, ident_in, is_name, key_in, 
 use Rattle.kt_base.specs.Lossy.{lossy}
 use Rattle.kt_metadata.specs.ListKeys.{name_of_key}
 
--- `Led cases line block step`: `step` is the specified result of `line`: the next state or the
--- fault.
+-- `Led cases line block step`: `step` is the specified result of the line `line`: the next state or
+-- the cause of its fault. Before the line, the finished blocks have the cases `cases`, and `block`
+-- is the block that has begun.
 abbrev pub Led : List CaseDef → List ℕ → Option CaseDef → ListStep → Type 0
 Led cases line block (To next) = IsNextState cases line block next
 Led cases line block (Wrong cause) = IsFaultyLine cases line block cause
@@ -37,8 +38,8 @@ first_led cases line (Some name) e = first_named cases line name (is_name name) 
 
 -- ---- lines after the first of a block
 
--- `Gives line value o`: `line` has the value `value`, and a key that represents the property `o`,
--- if there is one.
+-- `Gives line value o`: the line `line` has the value `value` and a key. `o` is the property with
+-- this key, or nothing if there is none.
 record Gives (line value : List ℕ) (o : Option (List ℕ)) : Type 0 where
   some : is_empty line ≡ false
   value_is : value_in line ≡ Some value

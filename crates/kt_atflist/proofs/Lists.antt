@@ -7,8 +7,8 @@ use Rattle.kt_atflist.proofs.Utf8.{read_utf8, read_other}
 
 -- ---- the code's result is the specified result
 
--- `Reads n r ls o`: `o` is the specified result of the lines `ls` from line `n` on, in the state
--- `r`.
+-- `Reads n r ls o`: `o` is the specified result of the lines `ls`, whose first has the number `n`,
+-- if `r` is the reader's state before them.
 abbrev Reads : ℕ → Read → List (List ℕ) → Outcome → Type 0
 Reads n r ls (Ok all) = IsBlockSequence r.cases r.block ls all
 Reads n r ls (Err fault) = HasFirstFault n r.cases r.block ls fault

@@ -8,17 +8,17 @@ use Rattle.kt_atflist.proofs.Lists.{one_answer}
 abbrev Found : Type 0
 Found = Result (List CaseDef) Reason
 
--- `fault_in result other`: the fault in `result`, or `other` for cases.
+-- `fault_in result other`: the fault in `result`, or the fault `other` if `result` has cases.
 abbrev fault_in : Outcome → ListFault → ListFault
 fault_in (Ok cases) other = other
 fault_in (Err fault) other = fault
 
--- `cases_in result other`: the cases in `result`, or `other` for a fault.
+-- `cases_in result other`: the cases in `result`, or the cases `other` if `result` is a fault.
 abbrev cases_in : Outcome → List CaseDef → List CaseDef
 cases_in (Ok cases) other = cases
 cases_in (Err fault) other = other
 
--- `phrase_in result other`: the phrase in `result`, or `other` for an error.
+-- `phrase_in result other`: the phrase in `result`, or the phrase `other` if `result` is an error.
 abbrev phrase_in : Result Phrase NoMemory → Phrase → Phrase
 phrase_in (Ok phrase) other = phrase
 phrase_in (Err refusal) other = other
@@ -34,7 +34,7 @@ read_once text a b (no_list f p d h) (read_list cases s) = let z = one_answer te
 read_once text a b (read_list cases s) (no_list g q e i) = let z = one_answer text (Ok cases) (Err g) s e in absurd (cc)
 read_once text a b (read_list cases s) (read_list others t) = ap (λ (o : Outcome). Ok (cases_in o cases)) (one_answer text (Ok cases) (Ok others) s t)
 
--- `reason_in reason other`: `reason`, or `other` without a reason.
+-- `reason_in reason other`: the optional reason `reason`, or the reason `other` if it is absent.
 abbrev reason_in : Option Reason → Reason → Reason
 reason_in (Some reason) other = reason
 reason_in None other = other
@@ -58,12 +58,12 @@ lists_once listing a b (too_long o e) (too_long _ f) = refl
 lists_once listing a b (read o text found e h) (unread _ _ s f) = absurd (no_reason (list_failure_reason o) s f e)
 lists_once listing a b (read o text found e h) (read _ _ other f i) = read_once text found other h i
 
--- `found_in found other`: the cases in `found`, or `other` for a reason.
+-- `found_in found other`: the cases in `found`, or the cases `other` if `found` is a reason.
 abbrev found_in : Found → List CaseDef → List CaseDef
 found_in (Ok cases) other = cases
 found_in (Err reason) other = other
 
--- `why_in found other`: the reason in `found`, or `other` for cases.
+-- `why_in found other`: the reason in `found`, or the reason `other` if `found` has cases.
 abbrev why_in : Found → Reason → Reason
 why_in (Ok cases) other = other
 why_in (Err reason) other = reason

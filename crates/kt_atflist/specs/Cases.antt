@@ -10,8 +10,8 @@ use Rattle.kt_atflist.specs.Blocks.{named}
 use Rattle.kt_atflist.specs.declared.listing.CaseDef.{CaseDef}
 use Rattle.kt_atflist.specs.declared.listing.Listing.{Listing}
 
--- `overlaid_case props case`: `case` with its properties overlaid over `props`, those of its
--- program. A property of the case replaces the same property of the program.
+-- `overlaid_case props case`: the test case `case` with the properties `props` of its program
+-- added. A property of the case replaces the same property of the program.
 abbrev pub overlaid_case : List Variable → CaseDef → CaseDef
 overlaid_case props case = record { name = case.name; props = last_values (props ++ case.props); fault = case.fault }
 
@@ -19,12 +19,13 @@ overlaid_case props case = record { name = case.name; props = last_values (props
 abbrev pub main_case : CaseDef
 main_case = named (codes "main")
 
--- `list_case reason`: the only case of a program whose list can't be used, for this `reason`.
+-- `list_case reason`: the only case of a program whose list can't be used, with the reason `reason`
+-- as its fault.
 abbrev pub list_case : Reason → CaseDef
 list_case reason = record { name = codes "__test_cases_list__"; props = []; fault = Some reason }
 
--- `AreCases props interface listing cases`: a program with the interface `interface`, the
--- properties `props` and the listing `listing` has the test cases `cases`.
+-- `AreCases props interface listing cases`: a program with the properties `props`, the interface
+-- `interface` and the optional listing `listing` has the test cases `cases`, in order.
 pub data AreCases (props : List Variable) : Interface → Option Listing → List CaseDef → Type 0 where
   tap : (listing : Option Listing) → AreCases props Tap listing (overlaid_case props main_case ∷ [])
   plain : (listing : Option Listing) → AreCases props Plain listing (overlaid_case props main_case ∷ [])

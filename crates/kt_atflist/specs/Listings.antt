@@ -20,16 +20,16 @@ use Rattle.kt_atflist.specs.declared.listing.Listing.{Listing}
 use Rattle.kt_atflist.specs.declared.listing.Listing.TheVariants as listing
 use Rattle.kt_atflist.specs.Spelling.{Spells, IsDue}
 
--- `list_failure_reason outcome`: the reason why a program with this `outcome` did not list its cases, or
--- nothing if it exited with 0.
+-- `list_failure_reason outcome`: the reason why a program that ended with the outcome `outcome` did
+-- not list its cases, or nothing if it exited with 0.
 abbrev pub list_failure_reason : Outcome → Option Reason
 list_failure_reason TimedOut = Some (Fixed ListTimedOut)
 list_failure_reason WaitFailed = Some (Fixed ListNotWaitedFor)
 list_failure_reason (Exited code) = if code == 0 then None else Some (Ended NoList (Exited code))
 list_failure_reason (Signaled signal core) = Some (Ended NoList (Signaled signal core))
 
--- `fault_phrase cause`: the fixed message for `cause` in a reason. A failed allocation has no
--- message and stays an error.
+-- `fault_phrase cause`: the fixed message in a reason for a list's fault with the cause `cause`. A
+-- failed allocation has no such message and remains an error.
 abbrev pub fault_phrase : ListCause → Result Phrase NoMemory
 fault_phrase (cause.NoMemory refusal) = Err refusal
 fault_phrase BadHeader = Ok ListBadHeader
@@ -42,14 +42,14 @@ fault_phrase BadValue = Ok ListBadValue
 fault_phrase EmptyList = Ok ListEmpty
 fault_phrase NotUtf8 = Ok ListNotUtf8
 
--- `IsParsedList text found`: parsing `text` as a list gives `found`: the cases of the list, or the reason
--- why `text` isn't a list.
+-- `IsParsedList text found`: the result of parsing the bytes `text` as a list is `found`: the cases
+-- of the list, or the reason why `text` isn't a list.
 pub data IsParsedList (text : List ℕ) : Result (List CaseDef) Reason → Type 0 where
   no_list : (fault : ListFault) (phrase : Phrase) → IsDue text fault → fault_phrase fault.cause ≡ Ok phrase → IsParsedList text (Err (Counted phrase fault.line 0))
   listed : (cases : List CaseDef) → Spells text cases → IsParsedList text (Ok cases)
 
--- `IsListingResult listing found`: a program with the listing `listing` has the result `found`: the listed
--- cases, or the reason why the listing can't be used.
+-- `IsListingResult listing found`: the result of the listing `listing` of a program is `found`: the
+-- listed cases, or the reason why the listing can't be used.
 pub data IsListingResult : Listing → Result (List CaseDef) Reason → Type 0 where
   unstarted : (refused : Refused) → IsListingResult (listing.Refused refused) (Err (refused_reason refused))
   unlisted : (outcome : Outcome) (bytes : ListBytes) (reason : Reason) → list_failure_reason outcome ≡ Some reason → IsListingResult (listing.Ended outcome bytes) (Err reason)

@@ -25,14 +25,15 @@ Outcome = Result (List CaseDef) ListFault
 abbrev pub header : List ℕ
 header = codes "Content-Type: application/X-atf-tp; version=\"1\""
 
--- `fault_at cause line`: the fault with this `cause` in the line with the number `line`.
+-- `fault_at cause line`: the fault with the cause `cause` in the line with the number `line`.
 abbrev pub fault_at : ListCause → ℕ → ListFault
 fault_at cause line = record { cause = cause; line = line }
 
 -- ---- valid lines
 
--- `IsNextState cases line block next`: `line` is valid after the blocks of `cases`, in `block` or outside
--- a block, and `next` is the state of the reader after the line.
+-- `IsNextState cases line block next`: the line `line` is valid, and `next` is the reader's state
+-- after it. Before the line, the finished blocks have the cases `cases`, and `block` is the block
+-- that has begun, or nothing between two blocks.
 pub data IsNextState (cases : List CaseDef) (line : List ℕ) : Option CaseDef → Read → Type 0 where
   begins : (name : List ℕ) → ident_in line ≡ Some name → is_name name ≡ true → is_listed cases (lossy name) ≡ false
       → IsNextState cases line None (record { cases = cases; block = Some (named (lossy name)) })
@@ -42,8 +43,9 @@ pub data IsNextState (cases : List CaseDef) (line : List ℕ) : Option CaseDef �
       → IsNextState cases line (Some block) (record { cases = cases; block = Some (with_property block property (lossy value)) })
   ends : (block : CaseDef) → is_empty line ≡ true → IsNextState cases line (Some block) (record { cases = cases ++ block ∷ []; block = None })
 
--- `IsBlockSequence cases block lines all`: `lines` are valid after the blocks of `cases`, in `block` or
--- outside a block. They complete a list of the cases `all`.
+-- `IsBlockSequence cases block lines all`: the lines `lines` are valid and complete a list of the
+-- cases `all`. Before them, the finished blocks have the cases `cases`, and `block` is the block
+-- that has begun, or nothing between two blocks.
 pub data IsBlockSequence : List CaseDef → Option CaseDef → List (List ℕ) → List CaseDef → Type 0 where
   no_block : (cases : List CaseDef) → IsBlockSequence cases None [] cases
   last_block : (cases : List CaseDef) (block : CaseDef) → IsBlockSequence cases (Some block) [] (cases ++ block ∷ [])
@@ -52,27 +54,30 @@ pub data IsBlockSequence : List CaseDef → Option CaseDef → List (List ℕ) �
 
 -- ---- faulty lines
 
--- `is_repeated pairs name`: one of `pairs` already has the name `name`. False without a `name`.
+-- `is_repeated pairs name`: one of the properties `pairs` already has the name `name`. False if
+-- `name` is absent.
 abbrev pub is_repeated : List Variable → Option (List ℕ) → Bool
 is_repeated pairs None = false
 is_repeated pairs (Some property) = has_property pairs property
 
--- `is_invalid_property name value`: the property `name` may not have the value `value`. False without a `name`.
+-- `is_invalid_property name value`: the property `name` does not accept the value `value`. False if
+-- `name` is absent.
 abbrev pub is_invalid_property : Option (List ℕ) → List ℕ → Bool
 is_invalid_property None value = false
 is_invalid_property (Some property) value = not (is_valid_property property value)
 
--- `is_first_line_cause cases ident cause`: a first line of a block after the blocks of `cases`, with the
--- name `ident`, has a fault with this `cause`. The line begins without `ident: ` if `ident` is
--- nothing.
+-- `is_first_line_cause cases ident cause`: the first line of a block has a fault with the cause
+-- `cause`. The cases of the earlier blocks are `cases`. `ident` is the name in the line, or nothing
+-- if the line doesn't begin with `ident: `.
 abbrev pub is_first_line_cause : List CaseDef → Option (List ℕ) → ListCause → Bool
 is_first_line_cause cases None NoIdent = true
 is_first_line_cause cases (Some name) BadValue = not (is_name name)
 is_first_line_cause cases (Some name) RepeatedIdent = is_listed cases (lossy name)
 is_first_line_cause cases ident _ = false
 
--- `is_later_line_cause block key value cause`: a line of `block` after its first, with the key `key` and
--- the value `value`, or without a value, has a fault with this `cause`.
+-- `is_later_line_cause block key value cause`: a later line of the block `block` has a fault with
+-- the cause `cause`. `key` is the key in the line, and `value` is its value, or nothing if the line
+-- has none.
 abbrev pub is_later_line_cause : CaseDef → List ℕ → Option (List ℕ) → ListCause → Bool
 is_later_line_cause block key None BadLine = true
 is_later_line_cause block key (Some value) BadLine = is_empty key
@@ -81,26 +86,27 @@ is_later_line_cause block key (Some value) UnknownKey = not (is_some (name_of_ke
 is_later_line_cause block key (Some value) BadValue = is_invalid_property (name_of_key (lossy key)) (lossy value)
 is_later_line_cause block key value _ = false
 
--- `first_line_causes`: the possible causes of a fault in the first line of a block. The first that fits is
--- reported.
+-- `first_line_causes`: the possible causes of a fault in the first line of a block. The first cause
+-- that applies is reported.
 abbrev pub first_line_causes : List ListCause
 first_line_causes = NoIdent ∷ BadValue ∷ RepeatedIdent ∷ []
 
--- `later_line_causes`: the possible causes of a fault in a line after the first of its block. The first
--- that fits is reported.
+-- `later_line_causes`: the possible causes of a fault in a later line of a block. The first cause
+-- that applies is reported.
 abbrev pub later_line_causes : List ListCause
 later_line_causes = BadLine ∷ RepeatedKey ∷ UnknownKey ∷ BadValue ∷ []
 
--- `IsFaultyLine cases line block cause`: `line` is faulty after the blocks of `cases`, in `block` or
--- outside a block, and `cause` is the cause that is reported. An empty line in a block is valid.
+-- `IsFaultyLine cases line block cause`: the line `line` is faulty, and `cause` is the cause that
+-- is reported. Before the line, the finished blocks have the cases `cases`, and `block` is the
+-- block that has begun, or nothing between two blocks. An empty line in a block is valid.
 pub data IsFaultyLine (cases : List CaseDef) (line : List ℕ) : Option CaseDef → ListCause → Type 0 where
   first : (cause : ListCause) → find (is_first_line_cause cases (ident_in line)) first_line_causes ≡ Some cause → IsFaultyLine cases line None cause
   further : (block : CaseDef) (cause : ListCause) → is_empty line ≡ false → find (is_later_line_cause block (key_in line) (value_in line)) later_line_causes ≡ Some cause
       → IsFaultyLine cases line (Some block) cause
 
--- `HasFirstFault n cases block lines fault`: one of `lines`, whose numbers begin with `n`, is faulty after
--- the blocks of `cases`, in `block` or outside a block. `fault` is the fault of the first such
--- line.
+-- `HasFirstFault n cases block lines fault`: one of the lines `lines` is faulty, and `fault` is the
+-- fault of the first such line. The number of the first line is `n`. Before it, the finished blocks
+-- have the cases `cases`, and `block` is the block that has begun, or nothing between two blocks.
 pub data HasFirstFault : ℕ → List CaseDef → Option CaseDef → List (List ℕ) → ListFault → Type 0 where
   here : (n : ℕ) (cases : List CaseDef) (block : Option CaseDef) (first : List ℕ) (rest : List (List ℕ)) (cause : ListCause)
       → IsFaultyLine cases first block cause → HasFirstFault n cases block (first ∷ rest) (fault_at cause n)
@@ -109,14 +115,14 @@ pub data HasFirstFault : ℕ → List CaseDef → Option CaseDef → List (List 
 
 -- ---- whole texts
 
--- `IsList lines cases`: `lines` are the header, an empty line, and the blocks of the cases `cases`,
--- at least one.
+-- `IsList lines cases`: the lines `lines` are a list of the cases `cases`: the header, an empty
+-- line, and at least one block.
 pub data IsList : List (List ℕ) → List CaseDef → Type 0 where
   list : (first second third : List ℕ) (rest : List (List ℕ)) (cases : List CaseDef) → bytes_eq first header ≡ true → is_empty second ≡ true
       → IsBlockSequence [] None (third ∷ rest) cases → IsList (first ∷ second ∷ third ∷ rest) cases
 
--- `IsFault lines fault`: `lines` are not a list, and `fault` is the fault of their first faulty
--- line.
+-- `IsFault lines fault`: the lines `lines` are not a list, and `fault` is the fault of the first
+-- line that is faulty or missing.
 pub data IsFault : List (List ℕ) → ListFault → Type 0 where
   no_first : IsFault [] (fault_at BadHeader 1)
   other_first : (first : List ℕ) (rest : List (List ℕ)) → bytes_eq first header ≡ false → IsFault (first ∷ rest) (fault_at BadHeader 1)
@@ -127,24 +133,26 @@ pub data IsFault : List (List ℕ) → ListFault → Type 0 where
   in_blocks : (first second third : List ℕ) (rest : List (List ℕ)) (fault : ListFault) → bytes_eq first header ≡ true → is_empty second ≡ true
       → HasFirstFault 3 [] None (third ∷ rest) fault → IsFault (first ∷ second ∷ third ∷ rest) fault
 
--- `Spells text cases`: `text` is UTF-8 and a list of the cases `cases`.
+-- `Spells text cases`: the bytes `text` are valid UTF-8 and a list of the cases `cases`.
 abbrev pub Spells : List ℕ → List CaseDef → Type 0
 Spells text cases = IsUtf8 text × IsList (lines text) cases
 
--- `IsDue text fault`: `text` isn't a list, and `fault` is the reason: it isn't UTF-8, or else its
--- first faulty line has this fault.
+-- `IsDue text fault`: the bytes `text` aren't a list, and `fault` is the fault: `text` isn't UTF-8,
+-- or the fault is that of its first faulty or missing line.
 abbrev pub IsDue : List ℕ → ListFault → Type 0
 IsDue text fault = (¬ (IsUtf8 text) × (fault ≡ fault_at NotUtf8 0)) ⊎ (IsUtf8 text × IsFault (lines text) fault)
 
--- `IsAnswer text result`: `result` is the cases of `text`, or its first fault.
+-- `IsAnswer text result`: `result` has the cases of the list `text`, or is its first fault if
+-- `text` isn't a list.
 abbrev pub IsAnswer : List ℕ → Result (List CaseDef) ListFault → Type 0
 IsAnswer text (Ok cases) = Spells text cases
 IsAnswer text (Err fault) = IsDue text fault
 
--- `IsOutOfMemory result`: `result` is the error of a failed allocation.
+-- `IsOutOfMemory result`: the result `result` of a parser is the error of a failed allocation.
 abbrev pub IsOutOfMemory : Outcome → Type 0
 IsOutOfMemory result = (refusal : NoMemory) × (result ≡ Err (fault_at (cause.NoMemory refusal) 0))
 
--- `IsUnlessMemory result answer`: `result` is `answer`, or the error of a failed allocation.
+-- `IsUnlessMemory result answer`: the result `result` of a parser is the specified result `answer`,
+-- or the error of a failed allocation.
 abbrev pub IsUnlessMemory : Outcome → Outcome → Type 0
 IsUnlessMemory result answer = IsOutOfMemory result ⊎ (result ≡ answer)

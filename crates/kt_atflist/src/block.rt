@@ -8,7 +8,7 @@ use kt_metadata::{PropFault, Props};
 use std::alloc::Global;
 use std::marker::Model;
 
-/// A block of a list, up to the last line read: a test case with its properties so far.
+/// A block of a list that has been read in part: a test case with its properties so far.
 ///
 /// In contracts, a `Block` is the case.
 #[derive(Drop)]
@@ -56,8 +56,8 @@ impl Block {
     ///
     /// The block is unchanged on an error.
     ///
-    /// - `UnknownProperty`: no property has this name.
-    /// - `BadValue`: the property may not have this value.
+    /// - `UnknownProperty`: no property has the name `name`.
+    /// - `BadValue`: the property does not accept `value`.
     /// - `NoMemory`: an allocation fails.
     pub fn set(&mut self, name: &Text, value: &Text) -> Result<(), PropFault>
         requires { has_property self.old.props name.now ≡ false }

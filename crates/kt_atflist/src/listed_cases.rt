@@ -7,7 +7,7 @@ use crate::{CaseDef, ListBytes, Listing, parse_list};
 use kt_base::{Bytes, Items, NoMemory, Outcome, Phrase, Reason};
 use std::alloc::Global;
 
-/// Returns the reason why a program with this `outcome` did not list its cases.
+/// Returns the reason why a program that ended with `outcome` did not list its cases.
 ///
 /// Returns `None` if the program exited with 0.
 fn list_failure_reason(outcome: Outcome) -> Option<Reason>

@@ -6,7 +6,7 @@ use kt_base::{NoMemory, Text};
 use std::alloc::Global;
 use std::marker::Model;
 
-/// A set of names with lookup in constant time.
+/// A set of case names, with lookup in constant time.
 ///
 /// In contracts, a `Names` is the list of the names in the order of their insertion.
 #[derive(Drop)]
@@ -42,7 +42,7 @@ impl Names {
         self.keys.contains(name.as_str())
     }
 
-    /// Inserts `name`. The caller checks that the set doesn't contain `name` yet.
+    /// Inserts the name `name`. The caller checks that the set doesn't contain it yet.
     ///
     /// # Errors
     ///

@@ -15,7 +15,9 @@ const MAIN_CASE_NAME: &str = "main";
 /// The name of the case of a program whose list can't be used.
 const LIST_CASE_NAME: &str = "__test_cases_list__";
 
-/// Appends `case` to `cases`, with its properties overlaid over `props`, those of its program.
+/// Appends `case` to `cases`, with the properties `props` of its program added.
+///
+/// A property of the case replaces the same property of the program.
 fn add(cases: &mut Items<CaseDef>, props: &Props, case: CaseDef) -> Result<(), NoMemory>
     ensures { OnOk result (cases.new ≡ cases.old ++ overlaid_case props.now case ∷ []) }
 {
@@ -28,7 +30,9 @@ fn add(cases: &mut Items<CaseDef>, props: &Props, case: CaseDef) -> Result<(), N
     cases.push(CaseDef { name, props, fault })
 }
 
-/// Overlays the properties of each case in `found` over `props`, those of the program.
+/// Adds the properties `props` of the program to each case in `found`.
+///
+/// A property of a case replaces the same property of the program.
 fn overlay_each(
     alloc: Global,
     props: &Props,
@@ -43,9 +47,10 @@ fn overlay_each(
     Ok(cases)
 }
 
-/// Overlays the properties of each case in `found` over a copy of `props`, those of the program.
+/// Adds a copy of the program's properties `props` to each case in `found`.
 ///
-/// The cases share the memory of this copy.
+/// The cases share the memory of this copy. A property of a case replaces the same property of the
+/// program.
 fn overlay_all(
     alloc: Global,
     props: &Props,
@@ -57,7 +62,8 @@ fn overlay_all(
     overlay_each(alloc, &shared, found)
 }
 
-/// Creates the only case of a program, with this name, the program's properties and this fault.
+/// Creates a list of one case, with the name `name`, the program's properties and the fault
+/// `fault`.
 fn one_case(
     alloc: Global,
     name: &str,
@@ -118,9 +124,9 @@ pub fn cases(
     }
 }
 
-/// Theorem: the rules give a text at most one result, and a program at most one list of cases.
+/// Theorem: by the rules, a text has at most one result, and a program at most one list of cases.
 ///
-/// The result of a text is the cases of its list, or its first fault.
+/// The result of a text consists of the cases of its list, or is its first fault.
 pub fn theorem_of_one_answer()
     ensures text { (text : List ℕ) → (first : Result (List CaseDef) ListFault)
         → (second : Result (List CaseDef) ListFault) → IsAnswer text first → IsAnswer text second

@@ -9,7 +9,9 @@ use crate::{CaseDef, ListCause, ListFault};
 use kt_base::{Items, line_length};
 use std::alloc::Global;
 
-/// Returns the first line of `text` and the rest after its newline, or `None` if `text` is empty.
+/// Splits `text` after its first line: returns the line without its newline, and the rest.
+///
+/// Returns `None` if `text` is empty.
 fn first_line(text: &[u8]) -> Option<(&[u8], &[u8])>
     ensures value { MatchOption result (lines text.now ≡ [])
         (λ parts. lines text.now ≡ parts.0.now ∷ lines parts.1.now) }
@@ -28,7 +30,7 @@ fn first_line(text: &[u8]) -> Option<(&[u8], &[u8])>
 /// The first line of each list of test cases, without its newline (atf-test-program(1)).
 const LIST_HEADER: &[u8] = b"Content-Type: application/X-atf-tp; version=\"1\"";
 
-/// Parses `text`, the lines of a list from line 3 on, as blocks.
+/// Parses the blocks of a list. `text` consists of its lines from line 3 on.
 fn read_from(alloc: Global, text: &[u8]) -> Result<Items<CaseDef>, ListFault>
     ensures { IsUnlessMemory result (read_from 3 initial_state (lines text.now)) }
 {
@@ -47,7 +49,9 @@ fn read_from(alloc: Global, text: &[u8]) -> Result<Items<CaseDef>, ListFault>
     Ok(cases)
 }
 
-/// Parses `text`, the lines of a list from line 3 on. Fails with `EmptyList` if line 3 is missing.
+/// Parses `text`, which consists of the lines of a list from line 3 on.
+///
+/// Fails with `EmptyList` if line 3 is missing.
 fn read_blocks(alloc: Global, text: &[u8]) -> Result<Items<CaseDef>, ListFault>
     ensures { IsUnlessMemory result (read_blocks (lines text.now)) }
 {
@@ -60,8 +64,9 @@ fn read_blocks(alloc: Global, text: &[u8]) -> Result<Items<CaseDef>, ListFault>
     read_from(alloc, text)
 }
 
-/// Parses `text`, the lines of a list from line 2 on. Fails with `BadHeader` unless line 2 is
-/// empty.
+/// Parses `text`, which consists of the lines of a list from line 2 on.
+///
+/// Fails with `BadHeader` if line 2 is missing or not empty.
 fn read_from_line_2(alloc: Global, text: &[u8]) -> Result<Items<CaseDef>, ListFault>
     ensures { IsUnlessMemory result (read_from_line_2 (lines text.now)) }
 {
@@ -78,7 +83,9 @@ fn read_from_line_2(alloc: Global, text: &[u8]) -> Result<Items<CaseDef>, ListFa
     read_blocks(alloc, rest)
 }
 
-/// Parses `text`, all lines of a list. Fails with `BadHeader` unless line 1 is `LIST_HEADER`.
+/// Parses `text`, which consists of all lines of a list.
+///
+/// Fails with `BadHeader` if line 1 is missing or is not `LIST_HEADER`.
 fn read_lines(alloc: Global, text: &[u8]) -> Result<Items<CaseDef>, ListFault>
     ensures { IsUnlessMemory result (read_lines (lines text.now)) }
 {

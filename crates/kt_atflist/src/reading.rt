@@ -8,7 +8,7 @@ use kt_base::Items;
 use std::alloc::Global;
 use std::marker::Model;
 
-/// A reader of a list, in its state between two lines.
+/// The state of a list's reader between two lines.
 ///
 /// In contracts, a `ListReader` is the cases of the finished blocks, and the case of the block that
 /// has begun.
@@ -35,7 +35,7 @@ impl Model for ListReader {
 }
 
 impl ListReader {
-    /// Creates a reader in its state before the first block of a list.
+    /// Creates the state of a reader before the first block of a list.
     ///
     /// Allocates nothing.
     pub fn new(alloc: Global) -> ListReader
@@ -52,8 +52,8 @@ impl ListReader {
 /// A result of reading one line of a list.
 #[derive(Drop)]
 pub enum ListStep {
-    /// The line is valid. This is the state after the line.
+    /// The line is valid. The field is the state of the reader after the line.
     To(ListReader),
-    /// The line is faulty, for this cause.
+    /// The line is faulty. The field is the cause of the fault.
     Wrong(ListCause),
 }

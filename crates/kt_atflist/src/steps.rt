@@ -14,9 +14,10 @@ use kt_base::{Items, NoMemory, Text, lossy};
 use kt_metadata::{PropFault, property_name_of_key};
 use std::alloc::Global;
 
-/// Begins a block for the case `name`, after the blocks of `cases`.
+/// Begins a block for the case `name`, and returns the state of the reader after its first line.
 ///
-/// Returns the fault `RepeatedIdent` if an earlier block has this name.
+/// `cases` are the cases of the earlier blocks, and `names` their names. Returns the fault
+/// `RepeatedIdent` if one of them has the name `name`.
 fn begin_block(
     alloc: Global,
     cases: Items<CaseDef>,
@@ -39,7 +40,8 @@ fn begin_block(
 
 /// Parses the first line of a block and returns the name of the case.
 ///
-/// Returns `NoIdent` if the line does not begin with `ident: `, or `BadValue` for a bad name.
+/// Returns `NoIdent` if the line does not begin with `ident: `, or `BadValue` if the name is empty
+/// or contains a colon.
 fn name_in(alloc: Global, line: &[u8]) -> Result<Result<Text, ListCause>, NoMemory>
     ensures { IfOk result (λ found. found ≡ case_name_in (ident_in line.now)) }
 {
@@ -54,9 +56,10 @@ fn name_in(alloc: Global, line: &[u8]) -> Result<Result<Text, ListCause>, NoMemo
     }
 }
 
-/// Processes `line` as the first line of a block, after the blocks of `cases`.
+/// Processes `line` as the first line of a block.
 ///
-/// Returns the state after the line, or the cause of the fault in the line.
+/// `cases` are the cases of the earlier blocks, and `names` their names. Returns the state after
+/// the line, or the cause of the fault in the line.
 fn begin(
     alloc: Global,
     cases: Items<CaseDef>,
@@ -89,9 +92,9 @@ fn try_set(block: &mut Block, name: &Text, value: &Text) -> Result<bool, NoMemor
     }
 }
 
-/// Sets the property `name` of `block` to `value`. Returns `None`, or the cause of the fault.
+/// Sets the property `name` of `block` to `value`. Returns the cause of a fault, or `None`.
 ///
-/// A `name` of `None` means that no property has the key of the line.
+/// If `name` is `None`, no property has the key of the line.
 fn set_property(
     block: &mut Block,
     name: &Option<Text>,
@@ -115,7 +118,7 @@ fn set_property(
     }
 }
 
-/// Sets the property with the key `key` to `value`. Returns `None`, or the cause of the fault.
+/// Sets the property with the key `key` to `value`. Returns the cause of a fault, or `None`.
 fn set_key(
     alloc: Global,
     block: &mut Block,
@@ -133,9 +136,9 @@ fn set_key(
     set_property(block, &name, value)
 }
 
-/// Decodes `key` and `value` as UTF-8 and sets the property with this key to this value.
+/// Decodes `key` and `value` as UTF-8, and sets the property with this key to this value.
 ///
-/// Returns `None`, or the cause of the fault.
+/// Returns the cause of a fault, or `None`.
 fn set_decoded_key(
     alloc: Global,
     block: &mut Block,
@@ -153,7 +156,7 @@ fn set_decoded_key(
 
 /// Sets the property in `line`, which has the form `KEY: VALUE`.
 ///
-/// Returns `None`, or the cause of the fault in the line.
+/// Returns the cause of the fault in the line, or `None`.
 fn set_line(alloc: Global, block: &mut Block, line: &[u8]) -> Result<Option<ListCause>, NoMemory>
     ensures change { IfOk result (λ fault.
         changed block.new fault ≡ set_line block.old (key_in line.now) (value_in line.now)) }
@@ -171,9 +174,10 @@ fn set_line(alloc: Global, block: &mut Block, line: &[u8]) -> Result<Option<List
     }
 }
 
-/// Processes `line`, which sets a property of `block`, after the blocks of `cases`.
+/// Processes `line`, which sets a property of `block`.
 ///
-/// Returns the state after the line, or the cause of the fault in the line.
+/// `cases` are the cases of the earlier blocks. Returns the state after the line, or the cause of
+/// the fault in the line.
 fn step_with_change(
     alloc: Global,
     cases: Items<CaseDef>,
@@ -195,7 +199,7 @@ fn step_with_change(
     }
 }
 
-/// Appends the case of the finished `block` to `cases`, those of the earlier blocks.
+/// Appends the case of `block`, which is finished, to the cases `cases` of the earlier blocks.
 fn with_block(mut cases: Items<CaseDef>, block: Block) -> Result<Items<CaseDef>, NoMemory>
     ensures { IfOk result (λ all. all ≡ closed cases (Some block)) }
 {
@@ -203,9 +207,10 @@ fn with_block(mut cases: Items<CaseDef>, block: Block) -> Result<Items<CaseDef>,
     Ok(cases)
 }
 
-/// Processes `line` as a line of `block` after the block's first line.
+/// Processes `line` as a later line of `block`. An empty line ends the block.
 ///
-/// An empty line ends the block. Returns the state after the line, or the cause of the fault.
+/// `cases` are the cases of the earlier blocks. Returns the state after the line, or the cause of
+/// the fault in the line.
 fn go_on(
     alloc: Global,
     cases: Items<CaseDef>,
@@ -248,7 +253,7 @@ pub fn step(alloc: Global, reading: ListReader, line: &[u8]) -> Result<ListStep,
     }
 }
 
-/// Returns the cases of a list that ends in the state `reading`. The end also ends a block.
+/// Returns the cases of a list that ends in the state `reading`. The end finishes a begun block.
 ///
 /// # Errors
 ///

@@ -4,7 +4,7 @@ use Rattle.std.specs.String.{string_bytes}
 use Rattle.std.specs.declared.string.String.{String}
 use Rattle.kt_atflist.specs.declared.listing.CaseDef.{CaseDef}
 
--- `characters key`: the characters of the string `key`.
+-- `characters key`: the characters that the bytes of the string `key` encode.
 abbrev pub characters : {Z : Type 0} → String Z → List ℕ
 characters key = chars (string_bytes key)
 
@@ -12,8 +12,8 @@ characters key = chars (string_bytes key)
 abbrev pub name_of : CaseDef → List ℕ
 name_of case = case.name
 
--- `names_of cases block`: the names of `cases`, followed by the name of `block` if there is a
--- block.
+-- `names_of cases block`: the names of the cases `cases`, followed by the name of the block `block`
+-- if it is present.
 abbrev pub names_of : List CaseDef → Option CaseDef → List (List ℕ)
 names_of cases None = map name_of cases
 names_of cases (Some case) = map name_of cases ++ case.name ∷ []
