@@ -4,13 +4,15 @@ use Rattle.kt_suite.proofs.Common.{ScriptFault, Stmt, Spells, IsDue, ReadFault, 
 use Rattle.kt_suite.specs.declared.meaning.Meaning.TheVariants as meaning
 use Rattle.kt_script.proofs.OneAnswer.{two_spelled, two_due, not_both}
 
--- `Agree ms ns`: the marks are equal up to a call with two results.
+-- `Agree ms ns`: the marks `ms` and `ns` are equal, or are equal up to the same call with two
+-- results.
 pub data Agree : List Mark → List Mark → Type 0 where
   both_end : Agree [] []
   same_mark : (m : Mark) (ms ns : List Mark) → Agree ms ns → Agree (m ∷ ms) (m ∷ ns)
   both_ask : (q r : Asked) (ms ns : List Mark) → IsSameCall q r → (q ≡ r → Agree ms ns) → Agree (Asks q ∷ ms) (Asks r ∷ ns)
 
--- `AgreeParts ps qs`: the parts are equal up to a call with two results.
+-- `AgreeParts ps qs`: the parts `ps` and `qs` are equal, or are equal up to the same call with two
+-- results.
 pub data AgreeParts : List Part → List Part → Type 0 where
   no_parts : AgreeParts [] []
   same_part : (p : Part) (ps qs : List Part) → AgreeParts ps qs → AgreeParts (p ∷ ps) (p ∷ qs)
@@ -43,8 +45,8 @@ statements_agree file suite [] _ _ (none _) (none _) = no_parts
 statements_agree file suite (stmt ∷ rest) _ _ (one _ _ _ t ps h) (one _ _ _ u qs k) =
     said_agree (record { file = file; line = stmt.line }) t u (meaning_of suite stmt.action) ps qs (statements_agree file (suite_after suite (meaning_of suite stmt.action)) rest ps qs h k)
 
--- `AfterStatements file stmts parts`: `parts` follow the read of `file` with the statements
--- `stmts`.
+-- `AfterStatements file stmts parts`: the parts `parts` follow a read of the file `file` that
+-- returned the statements `stmts`.
 data AfterStatements (file : List ℕ) : List Stmt → List Part → Type 0 where
   a_none : AfterStatements file [] (Says (Fault (fault_at file 1 NoSyntax)) ∷ [])
   a_wrong : (first : Stmt) (rest : List Stmt) (cause : SuiteCause) → opening_fault first.action ≡ Some cause → AfterStatements file (first ∷ rest) (Says (Fault (fault_at file first.line cause)) ∷ [])

@@ -1,4 +1,4 @@
--- The names that most proofs of this crate cite, passed on from one place. Declares nothing.
+-- Exports the names that most proofs of this crate cite. Declares nothing.
 pub use Rattle.std.proofs.lemmas.Bool.{and_from, and_parts, eq-eqb, eqb-true}
 pub use Rattle.std.proofs.lemmas.Bool.Decides.{nat_tests}
 pub use Rattle.std.proofs.lemmas.Iterator.Splits.{YieldsList-from_slice_split}

@@ -2,12 +2,13 @@
 use Rattle.std.proofs.Common.{arith, ◌≡◌, ℕ, Bool, true, false, List, [], ◌∷◌, ◌++◌, refl, ◌∙◌, cond, if◌then◌else◌, append_assoc, filter}
 use Rattle.kt_suite.proofs.Common.{join_with_byte, with_component, counts}
 
--- `with_components path parts`: `path` with `parts` appended, unless they are empty or `.`.
+-- `with_components path parts`: the path `path` with the components `parts` appended, except those
+-- that are empty or `.`.
 abbrev pub with_components : List ℕ → List (List ℕ) → List ℕ
 with_components path [] = path
 with_components path (part ∷ parts) = with_components (with_component path part) parts
 
--- `glued path parts`: `path`, followed by each of `parts` after a slash.
+-- `glued path parts`: the path `path` with the components `parts` appended, each after a slash.
 abbrev glued : List ℕ → List (List ℕ) → List ℕ
 glued path [] = path
 glued path (part ∷ parts) = path ++ 47 ∷ join_with_byte 47 (part ∷ parts)

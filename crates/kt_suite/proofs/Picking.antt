@@ -2,7 +2,8 @@
 use Rattle.std.proofs.Common.{◌≡◌, ℕ, ◌+◌, suc, Bool, true, false, List, [], ◌∷◌, ◌++◌, refl, sym, ap, ◌∙◌, arith, length, slice_get, Option, ◌||◌, not}
 use Rattle.kt_suite.proofs.Common.{append_assoc, list_any, filter, Filter, Item, all_positions, is_match, is_miss, matches_item, option_map_or, places, is_unmatched, unmatched_positions}
 
--- `is_unmatched_at items filters place`: the filter at position `place` matches none of `items`.
+-- `is_unmatched_at items filters place`: the filter at the position `place` in the list `filters`
+-- matches none of the items `items`.
 abbrev pub is_unmatched_at : List Item → List Filter → ℕ → Bool
 is_unmatched_at items filters place = not (list_any (λ item. is_match filters item place) items)
 

@@ -7,16 +7,19 @@ use Rattle.kt_suite.proofs.Walking.{walked-enough, walked-reading, walked-then}
 use Rattle.kt_suite.proofs.Inclusions.{entered_below}
 use Rattle.std.proofs.lemmas.List.{nil_from_length}
 
--- `begun r file`: the registry `r` while `file` is read.
+-- `begun r file`: the registry `r` with the file `file` added to the open files.
 abbrev pub begun : Registry → List ℕ → Registry
 begun r file = record r { reading = r.reading ++ file ∷ [] }
 
 -- `ReadSoFar files file suite left front`: the marks `front`, followed by the marks of the
--- statements `left`, are the marks of `file`.
+-- remaining statements `left`, are the marks of reading the file `file` while the files `files` are
+-- open. `suite` is the test suite before `left`.
 pub record ReadSoFar (files : List (List ℕ)) (file : List ℕ) (suite : Option (List ℕ)) (left : List Stmt) (front : List Mark) : Type 0 where
   pub goes_on : (parts : List Part) (marks : List Mark) → StatementsGive file suite left parts → Unfolds (files ++ file ∷ []) parts marks → FileGives files file (front ++ marks)
 
--- `Reading asks old new start file r suite left`: `file` was read up to the statements `left`.
+-- `Reading asks old new start file r suite left`: the file `file` was read up to the remaining
+-- statements `left`, which took the registry from `start` to `r`. By the relation `asks`, the calls
+-- lead from the tree's state `old` to its state `new`. `suite` is the test suite before `left`.
 abbrev pub Reading : {T : Type 0} → (T → Asked → T → Type 0) → T → T → Registry → List ℕ → Registry → Option (List ℕ) → List Stmt → Type 0
 Reading asks old new start file r suite left = IsWalk asks old new (ReadSoFar start.reading file suite left) (begun start file) (Ok r)
 

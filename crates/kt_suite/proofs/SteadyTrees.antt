@@ -3,8 +3,9 @@ use Rattle.std.proofs.Common.{Option, Some, None, Ok, Err, ◌≡◌, ◌≤◌,
 use Rattle.kt_suite.proofs.Common.{Contains, Contains-push, Contains-append_left, Contains-append_right, SuiteFault, Program, Asked, IsSameCall, HasStableResults, Site, Mark, Asks, File, ProgramMark, Fault, TreeGives, file_limit, program_limit, Outcome, calls_in, files_in, programs_in, faults_in, Decides, is_fault, file_too_many, program_too_many, Registered, all, stopped}
 use Rattle.kt_suite.proofs.Agreement.{Agree, both_end, same_mark, both_ask, trees_agree}
 
--- `Cut files programs marks asked listed fault`: the calls, programs and error of `marks` up to the
--- mark that decides, counted from `files` and `programs`.
+-- `Cut files programs marks asked listed fault`: up to the mark that decides, the marks `marks`
+-- have the calls `asked` and the programs `listed`, and `fault` is the error of that mark, if there
+-- is one. The marks before have `files` files and `programs` programs.
 data Cut : ℕ → ℕ → List Mark → List Asked → List Program → Option SuiteFault → Type 0 where
   c_end : (n k : ℕ) → Cut n k [] [] [] None
   c_asks : (n k : ℕ) (q : Asked) (ms : List Mark) (qs : List Asked) (ps : List Program) (f : Option SuiteFault) → Cut n k ms qs ps f → Cut n k (Asks q ∷ ms) (q ∷ qs) ps f
@@ -16,7 +17,7 @@ abbrev pub outcome_of : List Program → Option SuiteFault → Outcome
 outcome_of ps None = Ok ps
 outcome_of ps (Some fault) = Err fault
 
--- `Alike qs rs`: the same call at the same position has the same result in both lists.
+-- `Alike qs rs`: the same call at the same position has the same result in the lists `qs` and `rs`.
 abbrev Alike : List Asked → List Asked → Type 0
 Alike [] rs = Unit {0}
 Alike (q ∷ qs) [] = Unit {0}
@@ -84,7 +85,8 @@ cut_front n k (File at ∷ ms) back m fault u v a b e f p d = let c = cut_front 
 cut_front n k (ProgramMark at x ∷ ms) back m fault u v a b e f p d = let c = cut_front n (k + 1) ms back m fault u v a (omega (arith, b)) e f p d in (x ∷ c.0, c_listed n k at x _ _ _ _ (omega (arith, b, p)) c.1)
 cut_front n k (Fault x ∷ ms) back m fault u v a b e f p d = absurd (cc)
 
--- `Comes asked root result`: `result` comes from a cut of the marks of the tree of `root`.
+-- `Comes asked root result`: the result `result` and the calls `asked` are those of the marks of
+-- the tree with the root Kyuafile `root`, up to the mark that decides.
 data Comes (asked : List Asked) (root : List ℕ) : Outcome → Type 0 where
   comes : (ms : List Mark) (ps : List Program) (f : Option SuiteFault) → TreeGives root ms → Cut 0 0 ms asked ps f → Comes asked root (outcome_of ps f)
 

@@ -2,7 +2,8 @@
 use Rattle.std.proofs.Common.{Option, Some, None, Result, Ok, Err, ◌≡◌, List, [], ◌∷◌, ◌++◌, arith, sym, ap, ◌∙◌}
 use Rattle.kt_suite.proofs.Common.{append_assoc, Variable, Pair, SuiteCause, ProgramTable, table_with, option_or, definition, definitions, pair_fault, first_fault, table_of, unless, declared}
 
--- `TableSoFar found rest pairs`: no pair before `rest` is rejected, and `found` is their table.
+-- `TableSoFar found rest pairs`: no pair of `pairs` before its suffix `rest` has an error, and
+-- `found` is the table that these pairs declare.
 pub record TableSoFar (found : ProgramTable) (rest pairs : List Pair) : Type 0 where
   pub before : List Variable
   pub is : found ≡ table_of before

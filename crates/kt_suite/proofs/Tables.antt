@@ -15,8 +15,8 @@ properties-append pairs more = filter-append is_property pairs more
 other_value : (word : List ℕ) (pair : Variable) → bytes_eq pair.name word ≡ false → value_of word (pair ∷ []) ≡ None
 other_value word pair e = ap (λ (b : Bool). option_or None (if b then Some pair.value else None)) (same-flip word pair.name ∙ e)
 
--- `KeySays name key`: `name` has the spelling that the kind `key` requires: `name`, `test_suite`,
--- or a property that a Kyuafile may set. The kind `Unknown` requires nothing.
+-- `KeySays name key`: the key `name` has the spelling that the kind `key` requires: `name`,
+-- `test_suite`, or a property that a Kyuafile may set. The kind `Unknown` requires nothing.
 abbrev KeySays : List ℕ → Key → Type 0
 KeySays n key.Name = n ≡ codes "name"
 KeySays n key.TestSuite = n ≡ codes "test_suite"

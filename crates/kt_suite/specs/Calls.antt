@@ -18,11 +18,12 @@ calls =
     ∷ (codes "tap_test_program", call.Program Tap)
     ∷ (codes "plain_test_program", call.Program Plain) ∷ []
 
--- `call_named name`: the kind of a call of `name`, or `Unknown` for any other name.
+-- `call_named name`: the kind of a call of the function `name`, or `Unknown` if Kyuafiles have no
+-- such function.
 abbrev pub call_named : List ℕ → Call
 call_named name = unwrap_or (named calls name) call.Unknown
 
--- `key_named name`: the kind of the key `name` in the table of a program.
+-- `key_named name`: the kind of the key `name` in the table of a call that registers a program.
 abbrev pub key_named : List ℕ → Key
 key_named name =
     if bytes_eq name (codes "name") then key.Name

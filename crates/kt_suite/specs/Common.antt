@@ -1,4 +1,4 @@
--- The names that the clauses of this crate cite, passed on from one place. Declares nothing.
+-- Exports the definitions that the clauses of this crate cite. Declares nothing.
 pub use Rattle.std.specs.List.{list_any}
 pub use Rattle.std.specs.Str.{bytes_eq}
 pub use Rattle.kt_base.specs.Characters.{is_slash}

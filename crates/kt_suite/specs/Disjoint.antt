@@ -5,44 +5,49 @@ use Rattle.kt_suite.specs.Types.{Filter, FilterFault}
 use Rattle.kt_suite.specs.declared.filter.FilterFault.TheVariants.{Repeated, NotDisjoint}
 use Rattle.kt_suite.specs.Matching.{is_within, matches}
 
--- `is_same_filter filter other`: `filter` and `other` are equal, part by part.
+-- `is_same_filter filter other`: the filters `filter` and `other` have the same path and the same
+-- case.
 abbrev pub is_same_filter : Filter → Filter → Bool
 is_same_filter filter other = bytes_eq filter.program other.program && option_eq bytes_eq filter.case_name other.case_name
 
--- `parts_cover program case other`: the filter of `program` and `case` matches each case that
--- `other` matches.
+-- `parts_cover program case other`: the filter with the path `program` and the optional case `case`
+-- matches each test case that the filter `other` matches.
 abbrev pub parts_cover : List ℕ → Option (List ℕ) → Filter → Bool
 parts_cover program None other = is_within program other.program
 parts_cover program (Some own) other = bytes_eq program other.program && option_eq bytes_eq (Some own) other.case_name
 
--- `covers filter other`: `filter` matches each case that `other` matches.
+-- `covers filter other`: the filter `filter` matches each test case that the filter `other`
+-- matches.
 abbrev pub covers : Filter → Filter → Bool
 covers filter other = parts_cover filter.program filter.case_name other
 
--- `overlap filter other`: one of the filters matches each case that the other matches.
+-- `overlap filter other`: one of the filters `filter` and `other` matches each test case that the
+-- other one matches.
 abbrev pub overlap : Filter → Filter → Bool
 overlap filter other = covers filter other || covers other filter
 
--- `ShareCase filter other`: there is a case that both filters match.
+-- `ShareCase filter other`: there is a test case that both filters, `filter` and `other`, match.
 abbrev pub ShareCase : Filter → Filter → Type 0
 ShareCase filter other = (path case_name : List ℕ) × IsTrue (matches filter path case_name) × IsTrue (matches other path case_name)
 
--- `clash position filter earlier`: the error of `filter` at `position`, which overlaps with the
--- filter `earlier`.
+-- `clash position filter earlier`: the error of the filter `filter` at the position `position`,
+-- which overlaps with the earlier filter `earlier`.
 abbrev pub clash : ℕ → Filter → Filter → FilterFault
 clash position filter earlier = if is_same_filter filter earlier then Repeated position else NotDisjoint position
 
--- `overlap_fault filters position`: the error of the filter at `position`, or `None` if it overlaps
--- with no earlier filter. The first earlier filter that it overlaps with decides the error.
+-- `overlap_fault filters position`: the error of the filter at the position `position` in the list
+-- `filters`, or `None` if it overlaps with no earlier filter. The first earlier filter with which
+-- it overlaps decides the error.
 abbrev pub overlap_fault : List Filter → ℕ → Option FilterFault
 overlap_fault filters position =
     option_and_then (λ filter. option_map (clash position filter) (find (overlap filter) (take position filters))) (slice_get filters position)
 
--- `IsDisjoint filters`: no filter overlaps with an earlier filter.
+-- `IsDisjoint filters`: no filter in the list `filters` overlaps with an earlier one.
 abbrev pub IsDisjoint : List Filter → Type 0
 IsDisjoint filters = (position : ℕ) → overlap_fault filters position ≡ None
 
--- `IsFirstFault filters fault`: `fault` is the error at the first position that has an error.
+-- `IsFirstFault filters fault`: `fault` is the error of the first filter in the list `filters` that
+-- has an error.
 abbrev pub IsFirstFault : List Filter → FilterFault → Type 0
 IsFirstFault filters fault =
     (position : ℕ) × (overlap_fault filters position ≡ Some fault) × ((before : ℕ) → before < position → overlap_fault filters before ≡ None)

@@ -9,8 +9,8 @@ use Rattle.kt_suite.specs.declared.tree.ReadFault.TheVariants as read
 use Rattle.kt_suite.specs.declared.selecting.SelectFault.{SelectFault}
 use Rattle.kt_suite.specs.declared.selecting.SelectFault.TheVariants as select
 
--- `fixed_words cause`: the message of `cause`, but an empty text for `WrongSyntax`, whose message
--- has a number.
+-- `fixed_words cause`: the message of the cause `cause`, or an empty text for `WrongSyntax`, whose
+-- message contains a number.
 abbrev pub fixed_words : SuiteCause → List ℕ
 fixed_words (cause.NoMemory refusal) = codes "out of memory"
 fixed_words cause.NoSyntax = codes "syntax(2) expected"
@@ -28,27 +28,27 @@ fixed_words cause.Unreadable = codes "file could not be read"
 fixed_words cause.TooMany = codes "too many programs or files"
 fixed_words (cause.Script fault) = script_message fault
 
--- `cause_words cause`: the message of `cause`, with the number of `WrongSyntax`.
+-- `cause_words cause`: the message of the cause `cause`. That of `WrongSyntax` contains its number.
 abbrev pub cause_words : SuiteCause → List ℕ
 cause_words (cause.WrongSyntax n) = codes "syntax " ++ decimal n ++ codes " not supported"
 cause_words other = fixed_words other
 
--- `placed_words fault`: the path, the line and the message of the cause of `fault`, as in
+-- `placed_words fault`: the message of the error `fault` with its path and line, such as
 -- `Kyuafile:3: unknown call`.
 abbrev pub placed_words : SuiteFault → List ℕ
 placed_words fault = fault.path ++ codes ":" ++ decimal fault.line ++ codes ": " ++ cause_words fault.cause
 
--- `words_by cause fault`: the message of `fault`, whose cause is `cause`. The message of `NoMemory`
--- has no path and no line.
+-- `words_by cause fault`: the message of the error `fault`, whose cause is `cause`. If the cause is
+-- `NoMemory`, the message has no path and no line.
 abbrev pub words_by : SuiteCause → SuiteFault → List ℕ
 words_by (cause.NoMemory refusal) fault = codes "out of memory"
 words_by _ fault = placed_words fault
 
--- `fault_words fault`: the message of `fault`, as `SuiteFault::print` prints it.
+-- `fault_words fault`: the message of the error `fault`, as `SuiteFault::print` prints it.
 abbrev pub fault_words : SuiteFault → List ℕ
 fault_words fault = words_by fault.cause fault
 
--- `filter_words fault`: the message of the filter's error `fault`, without the filter.
+-- `filter_words fault`: the message of the error `fault` of a filter, without the filter.
 abbrev pub filter_words : FilterFault → List ℕ
 filter_words (filter.NoMemory refusal) = codes "out of memory"
 filter_words filter.Empty = codes "empty"
@@ -57,12 +57,12 @@ filter_words filter.EmptyCase = codes "empty case"
 filter_words (filter.Repeated position) = codes "repeated"
 filter_words (filter.NotDisjoint position) = codes "not disjoint"
 
--- `select_words fault`: the message of `fault`, an error of a selection.
+-- `select_words fault`: the message of the error `fault` of a selection.
 abbrev pub select_words : SelectFault → List ℕ
 select_words (select.NoMemory refusal) = codes "out of memory"
 select_words select.TooMany = codes "too many cases"
 
--- `read_words fault`: the message of `fault`, an error of reading a file.
+-- `read_words fault`: the message of the error `fault`, with which the read of a file failed.
 abbrev pub read_words : ReadFault → List ℕ
 read_words read.Missing = codes "no such file"
 read_words read.Failed = codes "file could not be read"

@@ -6,25 +6,28 @@ use Rattle.kt_suite.specs.declared.filter.FilterFault.TheVariants.{NoMemory, Emp
 use Rattle.kt_base.specs.Characters.{is_slash}
 use Rattle.kt_base.specs.Texts.{is_empty, before, after}
 
--- `counts component`: `component` is neither empty nor `.`, so a plain path keeps it.
+-- `counts component`: the path component `component` is neither empty nor `.`, so a plain path
+-- contains it.
 abbrev pub counts : List ℕ → Bool
 counts component = not (is_empty component) && not (bytes_eq component (codes "."))
 
--- `components path`: the components of `path` that are neither empty nor `.`.
+-- `components path`: the components of the path `path`, without those that are empty or `.`.
 abbrev pub components : List ℕ → List (List ℕ)
 components path = filter counts (slice_split is_slash path)
 
--- `plain_path path`: `path` without the components that are empty or `.`, joined with slashes (47).
+-- `plain_path path`: the path `path` without the components that are empty or `.`. A slash (47)
+-- separates the others.
 abbrev pub plain_path : List ℕ → List ℕ
 plain_path path = join_with_byte 47 (components path)
 
--- `case_fault case_name`: `EmptyCase` if `case_name` is an empty name, else `None`.
+-- `case_fault case_name`: the error `EmptyCase` if the optional case `case_name` of a filter's text
+-- is present but empty, otherwise `None`.
 abbrev pub case_fault : Option (List ℕ) → Option FilterFault
 case_fault None = None
 case_fault (Some name) = if is_empty name then Some EmptyCase else None
 
--- `parts_fault path case_name`: the first error in the parts of a filter's text, if any: an empty
--- path, an absolute path, or an empty name of the case.
+-- `parts_fault path case_name`: the first error of a filter's text with the path `path` and the
+-- optional case `case_name`, if any: an empty path, an absolute path, or an empty case.
 abbrev pub parts_fault : List ℕ → Option (List ℕ) → Option FilterFault
 parts_fault [] case_name = Some Empty
 parts_fault (c ∷ path) case_name = if c == 47 then Some Absolute else case_fault case_name
@@ -33,13 +36,14 @@ parts_fault (c ∷ path) case_name = if c == 47 then Some Absolute else case_fau
 abbrev pub Meaning : Type 0
 Meaning = Result Filter FilterFault
 
--- `filter_of path case_name`: the filter with the path `path` and the case `case_name`, or the
--- error `Empty` if `path` is empty.
+-- `filter_of path case_name`: the filter with the path `path` and the optional case `case_name`, or
+-- the error `Empty` if `path` is empty.
 abbrev pub filter_of : List ℕ → Option (List ℕ) → Meaning
 filter_of [] case_name = Err Empty
 filter_of (c ∷ path) case_name = Ok (record { program = c ∷ path; case_name = case_name })
 
--- `fault_or_meaning fault meaning`: the error `fault` if there is one, else `meaning`.
+-- `fault_or_meaning fault meaning`: the error `fault` if it is present, otherwise the meaning
+-- `meaning` of a filter's text.
 abbrev pub fault_or_meaning : Option FilterFault → Meaning → Meaning
 fault_or_meaning None meaning = meaning
 fault_or_meaning (Some fault) meaning = Err fault
@@ -50,7 +54,8 @@ abbrev pub filter_meaning : List ℕ → Meaning
 filter_meaning text =
     fault_or_meaning (parts_fault (before 58 text) (after 58 text)) (filter_of (plain_path (before 58 text)) (after 58 text))
 
--- `Answers result meaning`: `result` is `meaning`, or an allocation failed.
+-- `Answers result meaning`: the result `result` of parsing a filter's text is the meaning `meaning`
+-- of the text, or a failed allocation.
 abbrev pub Answers : Result Filter FilterFault → Meaning → Type 0
 Answers (Err (NoMemory refusal)) meaning = Unit {0}
 Answers found meaning = found ≡ meaning

@@ -9,7 +9,8 @@ use Rattle.kt_suite.specs.Faults.{fault_at, read_fault, script_line}
 use Rattle.kt_suite.specs.Meanings.{meaning_of, opening_fault}
 use Rattle.kt_suite.specs.Paths.{beside}
 
--- `depth_limit`: the maximum number of open files, each included by the file before.
+-- `depth_limit`: the maximum number of Kyuafiles that are open at once, each included by the one
+-- before.
 abbrev pub depth_limit : ℕ
 depth_limit = 32
 
@@ -18,7 +19,7 @@ pub record Site : Type 0 where
   pub file : List ℕ
   pub line : ℕ
 
--- `site_fault at cause`: the error with the cause `cause` in the statement at `at`.
+-- `site_fault at cause`: the error with the cause `cause` in the statement at the site `at`.
 abbrev pub site_fault : Site → SuiteCause → SuiteFault
 site_fault at cause = fault_at at.file at.line cause
 
@@ -36,14 +37,14 @@ pub data Part : Type 0 where
   Says : Mark → Part
   Includes : Site → List ℕ → Part
 
--- `lookup_mark at program there`: the mark of looking for `program`, which the statement at `at`
--- registers. `there` is true if a file is at its path.
+-- `lookup_mark at program there`: the mark of looking for the file of the program `program`, which
+-- the statement at the site `at` registers. `there` is true if a file is at the program's path.
 abbrev pub lookup_mark : Site → Program → Bool → Mark
 lookup_mark at program true = ProgramMark at program
 lookup_mark at program false = Fault (site_fault at MissingProgram)
 
--- `said at there meaning`: the parts of a statement at `at` with the meaning `meaning`. `there` is
--- true if a file is at the path of its program.
+-- `said at there meaning`: the parts of a statement at the site `at` with the meaning `meaning`.
+-- `there` is true if a file is at the path of the program that the statement registers.
 abbrev pub said : Site → Bool → Meaning → List Part
 said at there (meaning.Wrong cause) = Says (Fault (site_fault at cause)) ∷ []
 said at there (meaning.Suite name) = []
@@ -52,14 +53,14 @@ said at there (meaning.Program interface name suite props) =
     Says (Asks (Exists (beside at.file name) there))
     ∷ Says (lookup_mark at (record { interface = interface; path = beside at.file name; suite = suite; props = props }) there) ∷ []
 
--- `suite_after suite meaning`: the test suite of the programs after a statement; `suite` is the
--- test suite before it.
+-- `suite_after suite meaning`: the test suite of the programs after a statement with the meaning
+-- `meaning`. `suite` is the test suite before the statement.
 abbrev pub suite_after : Option (List ℕ) → Meaning → Option (List ℕ)
 suite_after suite (meaning.Suite name) = Some name
 suite_after suite other = suite
 
--- `StatementsGive file suite stmts parts`: the statements `stmts` of `file` have the parts `parts`;
--- `suite` is the test suite before them.
+-- `StatementsGive file suite stmts parts`: the statements `stmts` of the file `file` have the parts
+-- `parts`. `suite` is the test suite before these statements, if any.
 pub data StatementsGive (file : List ℕ) : Option (List ℕ) → List Stmt → List Part → Type 0 where
   none : (suite : Option (List ℕ)) → StatementsGive file suite [] []
   one : (suite : Option (List ℕ)) (stmt : Stmt) (rest : List Stmt) (there : Bool) (parts : List Part)
@@ -67,7 +68,8 @@ pub data StatementsGive (file : List ℕ) : Option (List ℕ) → List Stmt → 
       → StatementsGive file suite (stmt ∷ rest)
       (said (record { file = file; line = stmt.line }) there (meaning_of suite stmt.action) ++ parts)
 
--- `FileGivesParts file parts`: reading `file` has the parts `parts`, for some result of the read.
+-- `FileGivesParts file parts`: `parts` are the parts of reading the file `file`, for some result of
+-- the read.
 pub data FileGivesParts (file : List ℕ) : List Part → Type 0 where
   unread : (why : ReadFault)
       → FileGivesParts file (Says (Asks (Read file (Err why))) ∷ Says (Fault (read_fault file why)) ∷ [])
@@ -82,15 +84,17 @@ pub data FileGivesParts (file : List ℕ) : List Part → Type 0 where
       → Spells text (first ∷ rest) → opening_fault first.action ≡ None → StatementsGive file None rest parts
       → FileGivesParts file (Says (Asks (Read file (Ok text))) ∷ parts)
 
--- `entry_fault files path`: the cause of the error if `path` is included while `files` are open.
--- There is an error if `path` is one of `files`, or if `files` are 32.
+-- `entry_fault files path`: the cause of the error if the file `path` is included while the files
+-- `files` are open, or `None` if it may be included. It may not if it is one of `files`, or if 32
+-- files are open.
 abbrev pub entry_fault : List (List ℕ) → List ℕ → Option SuiteCause
 entry_fault files path =
     if list_any (bytes_eq path) files then Some IncludeLoop
     else if nat_le depth_limit (length files) then Some TooDeep else None
 
--- `Unfolds files parts marks`: `marks` are the marks of `parts` while `files` are open. Each
--- include is replaced by its error, or by the mark of a file and the marks of this file.
+-- `Unfolds files parts marks`: the parts `parts` have the marks `marks` if the files `files` are
+-- open. An include has its error as its mark, or the mark of a file and the marks of reading that
+-- file.
 pub data Unfolds : List (List ℕ) → List Part → List Mark → Type 0 where
   end : (files : List (List ℕ)) → Unfolds files [] []
   says : (files : List (List ℕ)) (mark : Mark) (parts : List Part) (marks : List Mark)
@@ -103,6 +107,6 @@ pub data Unfolds : List (List ℕ) → List Part → List Mark → Type 0 where
       → entry_fault files path ≡ None → FileGivesParts path own → Unfolds (files ++ path ∷ []) own inner → Unfolds files parts marks
       → Unfolds files (Includes at path ∷ parts) (File at ∷ (inner ++ marks))
 
--- `TreeGives root marks`: reading the tree with the root Kyuafile `root` has the marks `marks`.
+-- `TreeGives root marks`: `marks` are the marks of reading the tree with the root Kyuafile `root`.
 abbrev pub TreeGives : List ℕ → List Mark → Type 0
 TreeGives root marks = Unfolds [] (Includes (record { file = root; line = 0 }) root ∷ []) marks

@@ -16,41 +16,43 @@ use Rattle.kt_suite.specs.Tables.{declared}
 use Rattle.kt_suite.specs.Paths.{has_directory, is_plain_relative}
 use Rattle.kt_base.specs.Texts.{is_empty}
 
--- `version_fault arg`: the cause of the error if `arg` is the argument of `syntax`, or `None` for
--- 2.
+-- `version_fault arg`: the cause of the error in a call of `syntax` with the argument `arg`, or
+-- `None` if `arg` is 2.
 abbrev pub version_fault : Arg → Option SuiteCause
 version_fault (Value (Number n)) = if n == 2 then None else Some (WrongSyntax n)
 version_fault other = Some BadValue
 
--- `first_call_fault call arg`: the cause of the error if a file begins with a call of the kind
--- `call` with the argument `arg`, if any.
+-- `first_call_fault call arg`: the cause of the error if the first statement of a file is a call of
+-- the kind `call` with the argument `arg`, or `None` for `syntax(2)`.
 abbrev pub first_call_fault : CallKind → Arg → Option SuiteCause
 first_call_fault call.Syntax arg = version_fault arg
 first_call_fault other arg = Some NoSyntax
 
--- `opening_fault action`: the cause of the error if a file begins with `action`, or `None` for
--- `syntax(2)`.
+-- `opening_fault action`: the cause of the error if the first statement of a file has the action
+-- `action`, or `None` for `syntax(2)`.
 abbrev pub opening_fault : Action → Option SuiteCause
 opening_fault (Call name arg) = first_call_fault (call_named name) arg
 opening_fault (Assign parts value) = Some NoSyntax
 
--- `suite_meaning arg`: the meaning of `test_suite` with the argument `arg`, which must be a value
--- whose text is not empty.
+-- `suite_meaning arg`: the meaning of a call of `test_suite` with the argument `arg`, which must be
+-- a value whose text is not empty.
 abbrev pub suite_meaning : Arg → Meaning
 suite_meaning (Value v) = if is_empty (text_of v) then meaning.Wrong BadValue else meaning.Suite (text_of v)
 suite_meaning (Table pairs) = meaning.Wrong BadValue
 
--- `program_with_suite interface name file own props`: the meaning of the program `name` with the properties
--- `props`. Its test suite is `own`, or else the test suite `file` of the file.
+-- `program_with_suite interface name file own props`: the meaning of a table that declares a
+-- program with the interface `interface`, the name `name` and the properties `props`. Its test
+-- suite is `own` if the table has one, otherwise `file`, that of the file.
 abbrev pub program_with_suite : Interface → List ℕ → Option (List ℕ) → Option (List ℕ) → List Variable → Meaning
 program_with_suite interface name file (Some own) props =
     if is_empty own then meaning.Wrong BadValue else meaning.Program interface name own props
 program_with_suite interface name (Some suite) None props = meaning.Program interface name suite props
 program_with_suite interface name None None props = meaning.Wrong NoSuite
 
--- `named interface file own props name`: the meaning of the program `name` with the properties
--- `props` and the test suite `own`, or else `file`. The name may not be missing, empty or lead out
--- of its directory.
+-- `named interface file own props name`: the meaning of a table that declares a program with the
+-- interface `interface`, the properties `props` and the optional name `name`. Its test suite is
+-- `own` if the table has one, otherwise `file`, that of the file. It is an error if the name is
+-- absent, is empty or has a directory.
 abbrev pub named : Interface → Option (List ℕ) → Option (List ℕ) → List Variable → Option (List ℕ) → Meaning
 named interface file own props None = meaning.Wrong BadValue
 named interface file own props (Some name) =
@@ -58,34 +60,36 @@ named interface file own props (Some name) =
     else if has_directory name then meaning.Wrong PathHasDirectory
     else program_with_suite interface name file own props
 
--- `declared_meaning interface file table`: the meaning of a program with the declarations `table`,
--- or the cause of the table's error. `file` is the test suite of the file, if any.
+-- `declared_meaning interface file table`: the meaning of a call that registers a program with the
+-- interface `interface`. `table` has the declarations of the call's table, or the cause of its
+-- error. `file` is the test suite of the file, if any.
 abbrev pub declared_meaning : Interface → Option (List ℕ) → Result ProgramTable SuiteCause → Meaning
 declared_meaning interface file (Err cause) = meaning.Wrong cause
 declared_meaning interface file (Ok table) = named interface file table.suite table.props table.name
 
--- `program_meaning interface file arg`: the meaning of a call that registers a program, with the
--- argument `arg`. `file` is the test suite of the file, if any.
+-- `program_meaning interface file arg`: the meaning of a call with the argument `arg` that
+-- registers a program with the interface `interface`. `file` is the test suite of the file, if any.
 abbrev pub program_meaning : Interface → Option (List ℕ) → Arg → Meaning
 program_meaning interface file (Value v) = meaning.Wrong BadValue
 program_meaning interface file (Table pairs) = declared_meaning interface file (declared pairs)
 
--- `include_meaning arg`: the meaning of `include` with the argument `arg`, which must be a value
--- whose text leads down.
+-- `include_meaning arg`: the meaning of a call of `include` with the argument `arg`, which must be
+-- a value whose text is a relative path without components that are empty, `.` or `..`.
 abbrev pub include_meaning : Arg → Meaning
 include_meaning (Value v) = if is_plain_relative (text_of v) then meaning.Include (text_of v) else meaning.Wrong BadInclude
 include_meaning (Table pairs) = meaning.Wrong BadInclude
 
--- `call_meaning file call arg`: the meaning of a call of the kind `call` after the first statement,
--- with the argument `arg`. `file` is the test suite so far.
+-- `call_meaning file call arg`: the meaning of a call of the kind `call` with the argument `arg`,
+-- after the first statement of a file. `file` is the test suite that the file has set before, if
+-- any.
 abbrev pub call_meaning : Option (List ℕ) → CallKind → Arg → Meaning
 call_meaning file call.TestSuite arg = suite_meaning arg
 call_meaning file call.Include arg = include_meaning arg
 call_meaning file (call.Program interface) arg = program_meaning interface file arg
 call_meaning file other arg = meaning.Wrong UnknownCall
 
--- `meaning_of file action`: the meaning of the statement `action` after the first statement. `file`
--- is the test suite so far.
+-- `meaning_of file action`: the meaning of a statement with the action `action`, after the first
+-- statement of a file. `file` is the test suite that the file has set before, if any.
 abbrev pub meaning_of : Option (List ℕ) → Action → Meaning
 meaning_of file (Call name arg) = call_meaning file (call_named name) arg
 meaning_of file (Assign parts value) = meaning.Wrong UnknownCall

@@ -1,11 +1,12 @@
--- The programs that a tree registers, and the calls of the tree for this.
+-- The programs that a tree registers, and the calls of the tree by which they are found.
 use Rattle.std.specs.Prelude.{ℕ, List, [], ◌∷◌, ◌++◌, ◌≡◌, ◌≤◌, ◌+◌, length, Result, Ok, Err}
 use Rattle.kt_suite.specs.Types.{Program, SuiteFault, TooMany}
 use Rattle.kt_suite.specs.Answers.{Asked, IsSameCall}
 use Rattle.kt_suite.specs.Faults.{IsNoMemory}
 use Rattle.kt_suite.specs.Marks.{Site, site_fault, Mark, Asks, File, ProgramMark, Fault, TreeGives}
 
--- `file_limit`: the maximum number of Kyuafiles that are read for a tree.
+-- `file_limit`: the maximum number of Kyuafiles that are read for a tree. A file that is read twice
+-- counts twice.
 abbrev pub file_limit : ℕ
 file_limit = 10000
 
@@ -41,22 +42,22 @@ faults_in [] = []
 faults_in (Fault fault ∷ marks) = fault ∷ faults_in marks
 faults_in (other ∷ marks) = faults_in marks
 
--- `IsUndecided marks`: no mark decides: there is no error, and no file or program exceeds its
--- limit.
+-- `IsUndecided marks`: none of the marks `marks` decides the result: none is an error, and no file
+-- or program exceeds its limit.
 pub record IsUndecided (marks : List Mark) : Type 0 where
   pub faultless : faults_in marks ≡ []
   pub files : files_in marks ≤ file_limit
   pub programs : length (programs_in marks) ≤ program_limit
 
--- `Decides files programs mark fault`: `mark` ends the reading with the error `fault`, after
--- `files` files and `programs` programs.
+-- `Decides files programs mark fault`: the mark `mark` decides the result, which is the error
+-- `fault`. The marks before it have `files` files and `programs` programs.
 pub data Decides (files programs : ℕ) : Mark → SuiteFault → Type 0 where
   is_fault : (fault : SuiteFault) → Decides files programs (Fault fault) fault
   file_too_many : (at : Site) → file_limit ≤ files → Decides files programs (File at) (site_fault at TooMany)
   program_too_many : (at : Site) (program : Program) → program_limit ≤ programs
       → Decides files programs (ProgramMark at program) (site_fault at TooMany)
 
--- `Registered asked root result`: reading the tree with the root Kyuafile `root` has the result
+-- `Registered asked root result`: loading the tree with the root Kyuafile `root` has the result
 -- `result`. `asked` are the calls before the mark that decides, or all calls if no mark decides.
 pub data Registered (asked : List Asked) (root : List ℕ) : Outcome → Type 0 where
   all : (marks : List Mark) → TreeGives root marks → IsUndecided marks → asked ≡ calls_in marks
@@ -66,15 +67,16 @@ pub data Registered (asked : List Asked) (root : List ℕ) : Outcome → Type 0 
       → Decides (files_in front) (length (programs_in front)) mark fault → asked ≡ calls_in front
       → Registered asked root (Err fault)
 
--- `IsNext marks asked`: `asked` is empty, or only has the call that begins `marks`, with any
--- result.
+-- `IsNext marks asked`: the list `asked` of calls is empty, or contains only the call with which
+-- the marks `marks` begin, with any result.
 pub data IsNext : List Mark → List Asked → Type 0 where
   no_question : (marks : List Mark) → IsNext marks []
   thrown_away : (question other : Asked) (marks : List Mark) → IsSameCall question other
       → IsNext (Asks other ∷ marks) (question ∷ [])
 
--- `Unfinished asked root outcome`: `outcome` is the error of an allocation that failed before a
--- mark decided. `asked` is a prefix of the calls for `root`, whose last call may have any result.
+-- `Unfinished asked root outcome`: loading the tree with the root Kyuafile `root` has the result
+-- `outcome`, the error of an allocation that failed before a mark decided. `asked` is a prefix of
+-- the tree's calls, whose last call may have any result.
 pub record Unfinished (asked : List Asked) (root : List ℕ) (outcome : Outcome) : Type 0 where
   pub fault : SuiteFault
   pub no_memory : IsNoMemory fault

@@ -8,30 +8,32 @@ use Rattle.kt_suite.specs.Matching.{matches}
 abbrev pub item_limit : ℕ
 item_limit = 100000
 
--- `places test n xs`: the positions of the elements of `xs` that pass `test`, ascending. The first
--- element has the position `n`.
+-- `places test n xs`: the positions of the elements of the list `xs` that pass the test `test`,
+-- ascending. The first element has the position `n`.
 abbrev pub places : {A : Type 0} → (A → Bool) → ℕ → List A → List ℕ
 places test n [] = []
 places test n (x ∷ xs) = if test x then n ∷ places test (n + 1) xs else places test (n + 1) xs
 
--- `matches_item item filter`: `filter` matches `item`.
+-- `matches_item item filter`: the filter `filter` matches the item `item`.
 abbrev pub matches_item : Item → Filter → Bool
 matches_item item filter = matches filter item.path item.case_name
 
--- `is_selected filters item`: some filter matches `item`, or there is no filter.
+-- `is_selected filters item`: the filters `filters` select the item `item`: one of them matches it,
+-- or there is no filter.
 abbrev pub is_selected : List Filter → Item → Bool
 is_selected [] item = true
 is_selected (filter ∷ filters) item = list_any (matches_item item) (filter ∷ filters)
 
--- `selected_positions items filters`: the positions of the items that `filters` select, from 0.
+-- `selected_positions items filters`: the positions of the items in the list `items` that the
+-- filters `filters` select, ascending, from 0.
 abbrev pub selected_positions : List Item → List Filter → List ℕ
 selected_positions items filters = places (is_selected filters) 0 items
 
--- `is_unmatched items filter`: `filter` matches none of `items`.
+-- `is_unmatched items filter`: the filter `filter` matches none of the items `items`.
 abbrev pub is_unmatched : List Item → Filter → Bool
 is_unmatched items filter = not (list_any (λ item. matches_item item filter) items)
 
--- `unmatched_positions items filters`: the positions of the filters that match none of `items`, from
--- 0.
+-- `unmatched_positions items filters`: the positions of the filters in the list `filters` that
+-- match none of the items `items`, ascending, from 0.
 abbrev pub unmatched_positions : List Item → List Filter → List ℕ
 unmatched_positions items filters = places (is_unmatched items) 0 filters

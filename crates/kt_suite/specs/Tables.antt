@@ -12,42 +12,46 @@ use Rattle.kt_suite.specs.declared.table.Key.{Key}
 use Rattle.kt_suite.specs.declared.table.Key.TheVariants as key
 use Rattle.kt_suite.specs.Calls.{key_named}
 
--- `definition pair`: the key of `pair`, with its value as a text.
+-- `definition pair`: the key in the pair `pair` of a table, with its value as a text.
 abbrev pub definition : Pair → Variable
 definition pair = record { name = pair.name; value = text_of pair.value }
 
--- `definitions pairs`: the keys of `pairs`, with their values as texts.
+-- `definitions pairs`: the keys in the pairs `pairs` of a table, with their values as texts.
 abbrev pub definitions : List Pair → List Variable
 definitions [] = []
 definitions (pair ∷ pairs) = definition pair ∷ definitions pairs
 
--- `is_property pair`: the key of `pair` is a property that a Kyuafile may set.
+-- `is_property pair`: the key in the pair `pair` is a property that a Kyuafile may set.
 abbrev pub is_property : Variable → Bool
 is_property pair = is_kyuafile_property pair.name
 
--- `value_cause fault`: `BadValue` if `fault` is an error of a property, else `None`.
+-- `value_cause fault`: the cause `BadValue` if the error `fault` of setting a property is present,
+-- otherwise `None`.
 abbrev pub value_cause : Option PropFault → Option SuiteCause
 value_cause None = None
 value_cause (Some fault) = Some BadValue
 
--- `key_fault key pair`: the cause of the error in `pair`, whose key is of the kind `key`, if any.
+-- `key_fault key pair`: the cause of the error in the pair `pair`, if any. The key in this pair is
+-- of the kind `key`.
 abbrev pub key_fault : Key → Variable → Option SuiteCause
 key_fault key.Name pair = None
 key_fault key.TestSuite pair = None
 key_fault key.Property pair = value_cause (definition_fault pair.name pair.value)
 key_fault key.Unknown pair = Some UnknownProperty
 
--- `pair_fault pair`: the cause of the error in `pair`: an unknown key, or else a bad value.
+-- `pair_fault pair`: the cause of the error in the pair `pair`, if any: an unknown key, or a bad
+-- value of a property.
 abbrev pub pair_fault : Variable → Option SuiteCause
 pair_fault pair = key_fault (key_named pair.name) pair
 
--- `first_fault pairs`: the cause of the error in the first rejected pair, if any.
+-- `first_fault pairs`: the cause of the error in the first of the pairs `pairs` that has one, if
+-- any.
 abbrev pub first_fault : List Variable → Option SuiteCause
 first_fault [] = None
 first_fault (pair ∷ pairs) = option_or (pair_fault pair) (first_fault pairs)
 
--- `table_of pairs`: the table with the last name, the last test suite, and the last value of each
--- property among `pairs`.
+-- `table_of pairs`: the table that the pairs `pairs` declare: the last name, the last test suite,
+-- and the last value of each property.
 abbrev pub table_of : List Variable → ProgramTable
 table_of pairs = record {
   name = value_of (codes "name") pairs;
@@ -55,12 +59,13 @@ table_of pairs = record {
   props = last_values (filter is_property pairs);
 }
 
--- `unless cause value`: the error `cause` if there is one, else `value`.
+-- `unless cause value`: the error with the cause `cause` if it is present, otherwise the value
+-- `value`.
 abbrev pub unless : {T : Type 0} → Option SuiteCause → T → Result T SuiteCause
 unless None there = Ok there
 unless (Some cause) there = Err cause
 
--- `declared pairs`: the table that `pairs` declare, or the cause of the error in the first rejected
--- pair.
+-- `declared pairs`: the table that the pairs `pairs` declare, or the cause of the error in the
+-- first pair that has one.
 abbrev pub declared : List Pair → Result ProgramTable SuiteCause
 declared pairs = unless (first_fault (definitions pairs)) (table_of (definitions pairs))

@@ -1,4 +1,4 @@
--- The types that the definitions of this crate name, passed on from one place. Declares nothing.
+-- Exports the types that the definitions of this crate name. Declares nothing.
 pub use Rattle.kt_base.specs.declared.variable.Variable.{Variable}
 pub use Rattle.kt_script.specs.declared.fault.ScriptFault.{ScriptFault}
 pub use Rattle.kt_script.specs.declared.syntax.Stmt.{Stmt}

@@ -55,13 +55,14 @@ pub enum SuiteCause {
     Unreadable,
     /// The tree has more than 10,000 programs, or more than 10,000 files.
     TooMany,
-    /// A Kyuafile is not a script, for this reason.
+    /// A Kyuafile is not a script. The field is the error of the script.
     Script(ScriptFault),
 }
 
 impl SuiteCause {
-    /// Returns the message of the cause, or an empty text for `WrongSyntax`, whose message has a
-    /// number.
+    /// Returns the message of the cause, or an empty text for `WrongSyntax`.
+    ///
+    /// The message of `WrongSyntax` contains a number, which [`SuiteCause::print`] prints.
     pub fn words(&self) -> &'static str
         ensures { result.now ≡ fixed_words self.now }
     {
@@ -84,7 +85,7 @@ impl SuiteCause {
         }
     }
 
-    /// Prints the message of the cause.
+    /// Prints the message of the cause to `out`.
     ///
     /// # Errors
     ///

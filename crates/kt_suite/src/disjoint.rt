@@ -15,15 +15,14 @@ fn covers(filter: &Filter, other: &Filter) -> bool
     }
 }
 
-/// Returns `true` if one of two filters matches each case that the other matches.
+/// Returns `true` if `filter` or `other` matches each case that the other one matches.
 fn overlap(filter: &Filter, other: &Filter) -> bool
     ensures { result ≡ overlap filter.now other.now }
 {
     covers(filter, other) || covers(other, filter)
 }
 
-/// Returns the first of the filters `earlier` that overlaps with `filter`, or `None` if no filter
-/// does.
+/// Returns the first of the filters `earlier` that overlaps with `filter`, or `None` if none does.
 fn first_overlap<'a>(filter: &Filter, earlier: &'a [Filter]) -> Option<&'a Filter>
     ensures { option_copied result ≡ find (overlap filter.now) earlier.now }
 {
@@ -44,13 +43,13 @@ fn overlap_fault(filters: &[Filter], position: usize) -> Option<FilterFault>
 
 /// Checks that no two filters match the same case.
 ///
-/// The error has the position of the first filter that overlaps with an earlier filter: both
-/// filters match some case. Allocates nothing.
+/// Two filters overlap if both match some case. An error has the position of the first filter that
+/// overlaps with an earlier one. Allocates nothing.
 ///
 /// # Errors
 ///
-/// - `Repeated`: the filter is equal to the first earlier filter that it overlaps with.
-/// - `NotDisjoint`: the filter is not equal to the first earlier filter that it overlaps with.
+/// - `Repeated`: that filter is equal to the first earlier filter with which it overlaps.
+/// - `NotDisjoint`: that filter is not equal to the first earlier filter with which it overlaps.
 pub fn check_disjoint(filters: &[Filter]) -> Result<(), FilterFault>
     ensures ok { OnOk result (IsDisjoint filters.now) }
     ensures first { IfErr result (IsFirstFault filters.now) }
@@ -66,7 +65,7 @@ pub fn check_disjoint(filters: &[Filter]) -> Result<(), FilterFault>
 /// Theorem: two filters overlap if and only if there is a case that both of them match.
 ///
 /// A path is within a directory if and only if it is the directory, or begins with the directory
-/// and a slash. A comparison of two filters by their parts decides whether the filters are equal.
+/// and a slash. Two filters are equal if and only if their paths and their cases are equal.
 pub fn filter_laws()
     ensures within { (directory path : List ℕ) → IsTrue (is_within directory path)
         ↔ IsWithin directory path }

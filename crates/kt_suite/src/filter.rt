@@ -17,7 +17,7 @@ use thiserror::Error;
 pub enum FilterFault {
     /// An allocation failed.
     NoMemory(NoMemory),
-    /// The filter has no path, or each component of its path is empty or `.`.
+    /// The filter has no path, or its path is relative and each component is empty or `.`.
     Empty,
     /// The filter begins with a slash.
     Absolute,
@@ -25,7 +25,7 @@ pub enum FilterFault {
     EmptyCase,
     /// The filter at this position is equal to an earlier filter.
     Repeated(usize),
-    /// The filter at this position and another, earlier filter both match some case.
+    /// The filter at this position is not equal to an earlier filter, but both match some case.
     NotDisjoint(usize),
 }
 
@@ -62,7 +62,7 @@ pub struct Filter {
     ///
     /// After `parse`, no component is empty or `.`.
     pub program: Text,
-    /// The name of the case, or `None` if the filter matches all cases of `program`.
+    /// The name of the case, or `None` if the filter matches all cases of the program or directory.
     pub case_name: Option<Text>,
 }
 
@@ -71,12 +71,12 @@ impl Filter {
 
     /// Parses `text` as a filter: `PROGRAM` or `PROGRAM:CASE` (kyua(1)).
     ///
-    /// The case follows the first colon. The filter's path lacks the components of `PROGRAM` that
-    /// are empty or `.`.
+    /// The case follows the first colon. Components of `PROGRAM` that are empty or `.` are dropped.
     ///
     /// # Errors
     ///
-    /// - `Empty`: nothing precedes the first colon, or each component of the path is empty or `.`.
+    /// - `Empty`: nothing precedes the first colon, or the path is relative and each component is
+    ///   empty or `.`.
     /// - `Absolute`: `text` begins with a slash.
     /// - `EmptyCase`: nothing follows the first colon.
     /// - `NoMemory`: an allocation fails.
@@ -119,7 +119,7 @@ impl Filter {
     }
 }
 
-/// Returns `EmptyCase` if `case_name` is an empty name, or else `None`.
+/// Returns `EmptyCase` if `case_name` is an empty name, otherwise `None`.
 fn case_fault(case_name: &Option<Text>) -> Option<FilterFault>
     ensures { result ≡ case_fault case_name.now }
 {
@@ -129,7 +129,8 @@ fn case_fault(case_name: &Option<Text>) -> Option<FilterFault>
     }
 }
 
-/// Returns the first error in the parts of a filter's text, `path` and `case_name`, if any.
+/// Returns the first error of a filter's text with the path `path` and the case `case_name`, if
+/// any.
 ///
 /// The errors are an empty path, an absolute path, and an empty name of the case.
 fn parts_fault(path: &Text, case_name: &Option<Text>) -> Option<FilterFault>
@@ -142,7 +143,7 @@ fn parts_fault(path: &Text, case_name: &Option<Text>) -> Option<FilterFault>
     }
 }
 
-/// Returns `true` if `component` is neither empty nor `.`.
+/// Returns `true` if the path component `component` is neither empty nor `.`.
 #[tactic(auto, unfolding(crate::proofs::Common::chars))]
 fn counts(component: &Text) -> bool
     ensures { result ≡ counts component.now }

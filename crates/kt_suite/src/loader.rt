@@ -10,7 +10,7 @@ use kt_base::{Items, NoMemory, Text};
 use kt_script::{ScriptFault, Stmt, parse};
 use std::alloc::Global;
 
-/// Returns the error of `file`, whose read failed with the error `why`.
+/// Returns the error of the Kyuafile `file`, whose read failed with the error `why`.
 fn unread(alloc: Global, file: &Text, why: ReadFault) -> SuiteFault
     ensures { IsNoMemory result ⊎ (result ≡ read_fault file.now why) }
 {
@@ -20,7 +20,7 @@ fn unread(alloc: Global, file: &Text, why: ReadFault) -> SuiteFault
     }
 }
 
-/// Returns the line of a script's error, from 1, or 0 if the error has no line.
+/// Returns the line of the error `why` of a script, from 1, or 0 if the error has no line.
 fn line_of(why: ScriptFault) -> u32
     ensures { result ≡ script_line why }
 {
@@ -31,7 +31,7 @@ fn line_of(why: ScriptFault) -> u32
     }
 }
 
-/// Returns the error of `file`, which is not a script because of the error `why`.
+/// Returns the error of the Kyuafile `file`, which is not a script because of the error `why`.
 fn unparsed(alloc: Global, file: &Text, why: ScriptFault) -> SuiteFault
     ensures { IsNoMemory result
         ⊎ (IsText why × (result ≡ fault_at file.now (script_line why) (Script why))) }
@@ -55,7 +55,7 @@ fn check_opening(alloc: Global, file: &Text, stmts: Items<Stmt>) -> Result<Items
     Ok(stmts)
 }
 
-/// Reads a file, and returns its statements, which begin with `syntax(2)`.
+/// Reads the Kyuafile `file`, and returns its statements, which begin with `syntax(2)`.
 ///
 /// The bytes of the file are freed before the function returns.
 ///
@@ -91,7 +91,8 @@ fn begin(registry: Registry, file: &Text) -> Result<Registry, NoMemory>
 
 /// Reads the Kyuafile `file` and all files that it includes, and registers their programs.
 ///
-/// The caller has counted `file` in `registry`, and has checked that it is not open.
+/// Returns `registry` with these files and programs. The caller has counted `file` in `registry`,
+/// and has checked that it is not open.
 fn read_file<T: Tree>(
     alloc: Global,
     tree: &mut T,
@@ -130,13 +131,12 @@ fn read_file<T: Tree>(
     Ok(registry.end())
 }
 
-/// Returns the programs that a tree of Kyuafiles registers, in the order of their statements
-/// (kyuafile(5)).
+/// Loads a tree of Kyuafiles, and returns the programs that it registers, in order (kyuafile(5)).
 ///
-/// `root` is the path of the root Kyuafile. The programs of an included file take the position of
-/// the `include` statement. An included file begins without a test suite, and does not change the
-/// test suite of the including file. The limits are this profile's: at most 32 open files, the root
-/// included, 10,000 files and 10,000 programs.
+/// `root` is the path of the root Kyuafile. The order is that of the statements, where the programs
+/// of an included file take the position of the `include` statement. An included file begins
+/// without a test suite, and does not change the test suite of the including file. The limits are
+/// this profile's: at most 32 open files, the root included, 10,000 files and 10,000 programs.
 ///
 /// # Errors
 ///
@@ -160,7 +160,7 @@ pub fn load<T: Tree>(alloc: Global, tree: &mut T, root: &Text) -> Result<Items<P
     }
 }
 
-/// Theorem: loading an unchanged tree always gives the same result.
+/// Theorem: loading an unchanged tree twice gives the same result, unless an allocation fails.
 pub fn registers_once()
     ensures steady { (first second : List Asked) (root : List ℕ) (r s : Outcome)
         → HasStableResults (first ++ second) → Registered first root r → Registered second root s → r ≡ s }

@@ -19,7 +19,7 @@ fn split_after_slash(path: &str) -> (&str, &str)
 
 /// Returns the part of `path` up to its last slash, with the slash, and the name after the slash.
 ///
-/// The first part is empty if `path` has no slash.
+/// If `path` has no slash, the first part is empty, and the name is all of `path`.
 ///
 /// # Errors
 ///
@@ -60,7 +60,7 @@ pub fn parent_path(alloc: Global, path: &Text) -> Result<Text, NoMemory>
     Text::from_str(alloc, parent(path.as_str()))
 }
 
-/// Returns the path of `name` in the directory of `file`.
+/// Returns the path of the file `name` in the directory of the file `file`.
 ///
 /// # Errors
 ///
@@ -74,7 +74,7 @@ pub fn sibling_path(alloc: Global, file: &Text, name: &Text) -> Result<Text, NoM
     Ok(path)
 }
 
-/// Returns `true` if `name` has a slash, or is `.` or `..`.
+/// Returns `true` if `name` contains a slash, or is `.` or `..`.
 #[tactic(auto, unfolding(crate::proofs::Common::chars))]
 pub fn has_directory_part(name: &Text) -> bool
     ensures { result ≡ has_directory name.now }
@@ -82,7 +82,7 @@ pub fn has_directory_part(name: &Text) -> bool
     has_slash(name.as_str()) || name.is_word(".") || name.is_word("..")
 }
 
-/// Returns `true` if `part` is neither empty, nor `.`, nor `..`.
+/// Returns `true` if the path component `part` is neither empty, nor `.`, nor `..`.
 #[tactic(auto, unfolding(crate::proofs::Common::chars))]
 fn is_component(part: &Text) -> bool
     ensures { result ≡ is_component part.now }

@@ -8,14 +8,13 @@ pub struct Registry {
     /// The paths of the open Kyuafiles: the root first, then each file after the file that includes
     /// it.
     pub reading: Items<Text>,
-    /// The number of Kyuafiles that were read or are read next, at most 10,000.
+    /// The number of Kyuafiles that are open or were read, or that are read next, at most 10,000.
     pub files: usize,
     /// The registered programs in order, at most 10,000.
     pub programs: Items<Program>,
 }
 
-/// Implemented manually for the prover: a drop is one call, and only this function takes the fields
-/// apart.
+/// A manual impl, so that the prover handles each drop as one call and sees the fields only here.
 impl Drop for Registry {
     fn drop(self) {
         let Registry {
@@ -39,7 +38,7 @@ impl Registry {
         programs
     }
 
-    /// Removes the file that was opened last from the open files, and returns the registry.
+    /// Removes the last of the open files, which has been read, and returns the registry.
     pub fn end(self) -> Registry
         ensures { result ≡ (record self { reading = take (length self.reading - 1) self.reading }) }
     {
@@ -58,11 +57,12 @@ impl Registry {
     }
 }
 
-/// A step that the loader takes after it executed a statement.
+/// A step of the loader after a statement.
 #[derive(Drop)]
 pub enum LoadStep {
-    /// Executes the next statement of the file.
+    /// The next statement of the file is executed, with this registry.
     Next(Registry),
-    /// Reads the Kyuafile at this path, and then executes the next statement of the including file.
+    /// The Kyuafile at this path is read, with this registry, before the next statement is
+    /// executed.
     Enter(Registry, Text),
 }

@@ -53,7 +53,7 @@ pub struct Item {
     pub case_name: Text,
 }
 
-/// A result of [`select`]: positions of items and of filters.
+/// The result of [`select`]: positions of items and of filters.
 #[derive(Drop)]
 pub struct Selection {
     /// The positions of the selected items, ascending, from 0.
@@ -79,7 +79,7 @@ fn first_match(filters: &[Filter], item: &Item) -> Option<usize>
     filters.iter().position(|filter| matches_item(item, filter))
 }
 
-/// Returns `true` if the filter at position `place` matches `item`.
+/// Returns `true` if `filters` has a filter at the position `place` that matches `item`.
 fn is_match(filters: &[Filter], item: &Item, place: usize) -> bool
     ensures { result ≡ is_match filters.now item.now place }
 {
@@ -89,7 +89,7 @@ fn is_match(filters: &[Filter], item: &Item, place: usize) -> bool
     }
 }
 
-/// Returns `true` if the filter at position `place` does not match `item`.
+/// Returns `true` if `filters` has no filter at the position `place` that matches `item`.
 ///
 /// `first` is the position of the first filter that matches `item`, so earlier filters are not
 /// compared again.
@@ -103,7 +103,7 @@ fn is_miss(filters: &[Filter], item: &Item, first: usize, place: usize) -> bool
     place != first && !is_match(filters, item, place)
 }
 
-/// Removes the positions of the filters that match `item` from `unmatched`.
+/// Removes the positions of the filters that match `item` from the positions `unmatched`.
 ///
 /// `first` is the position of the first filter that matches `item`.
 fn remove_matches(unmatched: &mut Vec<usize>, filters: &[Filter], item: &Item, first: usize)
@@ -113,10 +113,10 @@ fn remove_matches(unmatched: &mut Vec<usize>, filters: &[Filter], item: &Item, f
     unmatched.retain(|place| is_miss(filters, item, first, *place));
 }
 
-/// Returns `true` if `item` is selected, and removes the filters that match `item` from
-/// `unmatched`.
+/// Compares `item` with `filters`, and returns `true` if the filters select it.
 ///
-/// Without filters, each item is selected. Each filter is compared with `item` at most once.
+/// Removes the positions of the filters that match `item` from `unmatched`. Without filters, each
+/// item is selected. Each filter is compared with `item` at most once.
 fn compare_item(filters: &[Filter], item: &Item, unmatched: &mut Vec<usize>) -> bool
     ensures selected { result ≡ is_selected filters.now item.now }
     ensures unmatched { unmatched.new.items ≡ filter (is_miss filters.now item.now) unmatched.old.items }
@@ -130,7 +130,7 @@ fn compare_item(filters: &[Filter], item: &Item, unmatched: &mut Vec<usize>) -> 
     }
 }
 
-/// Returns the positions of all filters, ascending, from 0.
+/// Returns the positions of all filters in `filters`, ascending, from 0.
 fn all_positions(alloc: Global, filters: &[Filter]) -> Result<Vec<usize>, NoMemory>
     ensures { IfOk result (λ all. all.items ≡ all_positions filters.now) }
 {
@@ -143,9 +143,9 @@ fn all_positions(alloc: Global, filters: &[Filter]) -> Result<Vec<usize>, NoMemo
     Ok(all)
 }
 
-/// Returns the positions of the selected items, and of the filters that match no item.
+/// Returns the positions of the items that `filters` select, and of the filters that match no item.
 ///
-/// Reads `items` once. A filter is unmatched until an item matches it.
+/// Reads `items` once. A filter counts as unmatched until an item matches it.
 #[tactic(auto, using(crate::proofs::Picking::unmatched_of_all))]
 fn compare_items(alloc: Global, items: &[Item], filters: &[Filter]) -> Result<Selection, NoMemory>
     ensures cases { IfOk result (λ s. s.cases.items ≡ selected_positions items.now filters.now) }
@@ -163,10 +163,10 @@ fn compare_items(alloc: Global, items: &[Item], filters: &[Filter]) -> Result<Se
     Ok(Selection { cases, unmatched })
 }
 
-/// Returns the positions of the items that some filter matches, and of the filters that match no
-/// item.
+/// Returns the positions of the items that `filters` select, and of the filters that match no item.
 ///
-/// Without filters, each item is selected. Several filters may match the same item.
+/// An item is selected if a filter matches it. Without filters, each item is selected. Several
+/// filters may match the same item.
 ///
 /// # Errors
 ///

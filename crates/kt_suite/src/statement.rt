@@ -10,9 +10,9 @@ use kt_base::{NoMemory, Text};
 use kt_script::{Action, Arg, Literal};
 use std::alloc::Global;
 
-/// Returns the cause of the error if `action` is the first statement of a Kyuafile.
+/// Returns the cause of the error in a Kyuafile whose first statement has the action `action`.
 ///
-/// The result is `None` if `action` is `syntax(2)`.
+/// Returns `None` if `action` is the call `syntax(2)`.
 pub fn opening_cause(action: &Action) -> Option<SuiteCause>
     ensures { result ≡ opening_fault action.now }
 {
@@ -47,8 +47,8 @@ fn suite_call_meaning(alloc: Global, arg: &Arg) -> Result<Meaning, NoMemory>
 
 /// Returns the meaning of a call of `include` with the argument `arg`.
 ///
-/// The meaning is the error `BadInclude` if `arg` is a table, or if its text does not lead down. A
-/// path leads down if it is relative and no component is empty, `.` or `..`.
+/// The meaning is the error `BadInclude` if `arg` is a table, or if its text is an absolute path or
+/// has a component that is empty, `.` or `..`.
 fn include_call_meaning(alloc: Global, arg: &Arg) -> Result<Meaning, NoMemory>
     ensures { IfOk result (λ found. found ≡ include_meaning arg.now) }
 {
@@ -64,9 +64,9 @@ fn include_call_meaning(alloc: Global, arg: &Arg) -> Result<Meaning, NoMemory>
     }
 }
 
-/// Returns the meaning of a statement after the first statement of a Kyuafile.
+/// Returns the meaning of a statement with the action `action`, after a Kyuafile's first statement.
 ///
-/// `file` is the test suite that the statements before it set, if any.
+/// `file` is the test suite that the file has set before the statement, if any.
 ///
 /// # Errors
 ///

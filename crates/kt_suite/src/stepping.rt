@@ -28,9 +28,9 @@ fn is_among(files: &[Text], path: &Text) -> bool
     files.iter().any(|file| *path == *file)
 }
 
-/// Returns the cause of the error if the file at `path` may not be included while `files` are open.
+/// Returns the cause of the error of including the file at `path` while `files` are open.
 ///
-/// The result is `None` if the file may be included.
+/// Returns `None` if the file may be included.
 fn entry_cause(files: &[Text], path: &Text) -> Option<SuiteCause>
     ensures { result ≡ entry_fault files.now path.now }
 {
@@ -43,9 +43,10 @@ fn entry_cause(files: &[Text], path: &Text) -> Option<SuiteCause>
     }
 }
 
-/// Counts the file at `path` in `registry`, or returns the error if the file may not be included.
+/// Counts the included file at `path` in `registry`, or returns the error if it may not be
+/// included.
 ///
-/// The `include` is in line `line` of `file`.
+/// The `include` statement is in the line `line` of `file`.
 fn enter(
     alloc: Global,
     file: &Text,
@@ -66,9 +67,10 @@ fn enter(
     Ok(registry)
 }
 
-/// Returns the step that reads the file `name`, or the error if this file may not be included.
+/// Returns the step that reads the included file `name`, or the error if it may not be included.
 ///
-/// The `include` is in line `line` of `file`.
+/// The `include` statement is in the line `line` of `file`. `name` is relative to the directory of
+/// `file`.
 fn include(
     alloc: Global,
     file: &Text,
@@ -90,10 +92,11 @@ fn include(
     }
 }
 
-/// Registers the program `named`, whose path is still its name in the directory of `file`.
+/// Registers the program `named`, and returns the registry with this program.
 ///
-/// Fails if no regular file is at the path of the program, if 10,000 programs are already
-/// registered, or if an allocation fails.
+/// The path in `named` is a name in the directory of `file`, and the statement is in the line
+/// `line` of `file`. Fails if no regular file is at the path of the program, if 10,000 programs are
+/// already registered, or if an allocation fails.
 fn register<T: Tree>(
     alloc: Global,
     tree: &mut T,
@@ -124,14 +127,14 @@ fn register<T: Tree>(
     }
 }
 
-/// Executes a statement after the first of its file, and returns the next step.
+/// Executes `stmt`, a statement after the first one of `file`, and returns the next step.
 ///
-/// `suite` is the test suite of the next program, which the statement may set.
+/// `suite` is the test suite that `file` has set so far. The statement may change it.
 ///
 /// # Errors
 ///
-/// - [`SuiteFault`] with the line of the statement: the statement is wrong, the included file may
-///   not be included, or its program can't be registered.
+/// - [`SuiteFault`] with the line of the statement: the statement is wrong, the file may not be
+///   included, or the program can't be registered.
 /// - [`SuiteFault`] with the cause `NoMemory`: an allocation fails.
 pub fn step<T: Tree>(
     alloc: Global,

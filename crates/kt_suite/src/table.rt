@@ -11,7 +11,7 @@ use kt_metadata::{PropFault, Props, is_kyuafile_property};
 use kt_script::{Arg, Pair};
 use std::alloc::Global;
 
-/// A kind of key in the table of a program.
+/// A kind of key in the table of a call that registers a program.
 #[derive(Clone, Copy)]
 enum Key {
     /// The name of the program.
@@ -24,7 +24,7 @@ enum Key {
     Unknown,
 }
 
-/// Returns the kind of the key `name` in the table of a program.
+/// Returns the kind of the key `name` in the table of a call that registers a program.
 #[tactic(auto, unfolding(crate::proofs::Common::chars))]
 fn key_of(name: &Text) -> Key
     ensures { result ≡ key_named name.now }
@@ -40,19 +40,18 @@ fn key_of(name: &Text) -> Key
     }
 }
 
-/// A table of a program's call: the name, the test suite and the properties that it declares.
+/// The declarations in the table of a call that registers a program.
 pub struct ProgramTable {
     /// The name of the program, which may be empty, or `None` if the table has no key `name`.
     pub name: Option<Text>,
     /// The test suite of the program, which may be empty, or `None` if the table has no key
     /// `test_suite`.
     pub suite: Option<Text>,
-    /// The properties of the program.
+    /// The properties that the table sets for the program.
     pub props: Props,
 }
 
-/// Implemented manually for the prover: a drop is one call, and only this function takes the fields
-/// apart.
+/// A manual impl, so that the prover handles each drop as one call and sees the fields only here.
 impl Drop for ProgramTable {
     fn drop(self) {
         let ProgramTable {
@@ -68,7 +67,7 @@ impl ProgramTable {
 
     /// Returns the meaning of the table: the program that it declares, or the cause of its error.
     ///
-    /// `file` is the test suite of a program without its own test suite, if any.
+    /// `file` is the test suite that the file has set for programs without their own, if any.
     fn meaning(self, interface: Interface, file: &Option<Text>) -> Result<Meaning, NoMemory>
         ensures { IfOk result (λ meaning. meaning
             ≡ named interface file.now self.suite self.props self.name) }
@@ -98,7 +97,7 @@ impl ProgramTable {
 
 /// Returns the table `found` with the property `name` set to `value`.
 ///
-/// The inner error is `BadValue`, if the property does not accept `value`.
+/// Returns the cause `BadValue` if the property does not accept `value`.
 fn set_property(
     found: ProgramTable,
     name: &Text,
@@ -142,7 +141,7 @@ fn declare_pair(
     }
 }
 
-/// Returns the declarations of a table, or the cause of the error in its first rejected pair.
+/// Returns the declarations of a table, or the cause of the error in its first pair that has one.
 fn read_table(alloc: Global, pairs: &[Pair]) -> Result<Result<ProgramTable, SuiteCause>, NoMemory>
     ensures { IfOk result (λ found. found ≡ declared pairs.now) }
 {
@@ -162,8 +161,8 @@ fn read_table(alloc: Global, pairs: &[Pair]) -> Result<Result<ProgramTable, Suit
 
 /// Returns the meaning of a call that registers a program with the interface `interface`.
 ///
-/// `arg` is the argument of the call. `file` is the test suite of a program without its own test
-/// suite, if any.
+/// `arg` is the argument of the call. `file` is the test suite that the file has set for programs
+/// without their own, if any.
 ///
 /// # Errors
 ///

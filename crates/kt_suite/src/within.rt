@@ -3,7 +3,9 @@ ghost use Rattle.kt_suite.specs.Common.{is_within};
 
 use kt_base::Text;
 
-/// Returns `true` if the byte of `path` at `place` is a slash, or `path` has no byte at `place`.
+/// Returns `true` if a component of `path` can end at the index `place`.
+///
+/// The byte at `place` is a slash, or `path` has no byte there.
 fn ends_component_at(path: &[u8], place: usize) -> bool
     ensures { result ≡ is_within [] (drop place path.now) }
 {
@@ -13,7 +15,7 @@ fn ends_component_at(path: &[u8], place: usize) -> bool
     }
 }
 
-/// Returns `true` if `rest` is empty or begins with a slash.
+/// Returns `true` if a component can end before `rest`, which is empty or begins with a slash.
 fn ends_component(rest: &str) -> bool
     ensures { result ≡ is_within [] (chars rest.now) }
 {
@@ -23,10 +25,10 @@ fn ends_component(rest: &str) -> bool
     }
 }
 
-/// Returns `true` if `path` is `directory` or is below `directory`.
+/// Returns `true` if the path `path` is `directory` or is below `directory`.
 ///
-/// The paths are compared as texts. The byte at the length of `directory` is compared first, since
-/// this rejects most paths.
+/// The paths are compared as texts. The byte of `path` at the index of the length of `directory` is
+/// compared first, since this rejects most paths.
 pub fn is_within(directory: &Text, path: &Text) -> bool
     ensures { result ≡ is_within directory.now path.now }
 {

@@ -12,52 +12,55 @@ use Rattle.kt_suite.specs.Filters.{counts}
 use Rattle.kt_suite.specs.Selecting.{places, matches_item}
 use Rattle.kt_suite.specs.Tables.{value_cause, pair_fault, table_of, unless}
 
--- `props_with before pair`: the properties that the pairs `before` and then `pair` set, or the
--- cause of the error in `pair`.
+-- `props_with before pair`: the properties after the pairs `before` and then the pair `pair` have
+-- set them, or the cause of the error in `pair`.
 abbrev pub props_with : List Variable → Variable → Result (List Variable) SuiteCause
 props_with before pair =
     unless (value_cause (definition_fault pair.name pair.value)) (last_values (before ++ pair ∷ []))
 
--- `with_props found props`: the table `found` with the properties `props`, or the cause of their
--- error.
+-- `with_props found props`: the table `found` with the properties that `props` contains, or the
+-- cause of the error if `props` is an error.
 abbrev pub with_props : ProgramTable → Result (List Variable) SuiteCause → Result ProgramTable SuiteCause
 with_props found (Ok props) = Ok (record found { props = props })
 with_props found (Err cause) = Err cause
 
--- `table_with before pair`: the table of the pairs `before` and then `pair`, or the cause of the
--- error in `pair`.
+-- `table_with before pair`: the table of the pairs `before`, followed by the pair `pair`, or the
+-- cause of the error in `pair`.
 abbrev pub table_with : List Variable → Variable → Result ProgramTable SuiteCause
 table_with before pair = unless (pair_fault pair) (table_of (before ++ pair ∷ []))
 
--- `joined path component`: `path` with `component` appended, after a slash (47) unless `path` is
--- empty.
+-- `joined path component`: the path `path` with the component `component` appended. A slash (47)
+-- separates them unless `path` is empty.
 abbrev pub joined : List ℕ → List ℕ → List ℕ
 joined [] component = component
 joined (c ∷ path) component = c ∷ path ++ 47 ∷ component
 
--- `with_component path component`: `joined path component`, or `path` if `component` is empty or
--- `.`.
+-- `with_component path component`: the path `path` with the component `component` appended, or
+-- `path` alone if `component` is empty or `.`.
 abbrev pub with_component : List ℕ → List ℕ → List ℕ
 with_component path component = if counts component then joined path component else path
 
--- `all_positions filters`: the positions of all filters, ascending, from 0.
+-- `all_positions filters`: the positions of all filters in the list `filters`, ascending, from 0.
 abbrev pub all_positions : List Filter → List ℕ
 all_positions filters = places (λ filter. true) 0 filters
 
--- `first_match filters item`: the position of the first filter that matches `item`, if any.
+-- `first_match filters item`: the position of the first filter in the list `filters` that matches
+-- the item `item`, if any.
 abbrev pub first_match : List Filter → Item → Option ℕ
 first_match filters item = position (matches_item item) filters
 
--- `is_match filters item place`: the filter at position `place` exists and matches `item`.
+-- `is_match filters item place`: the list `filters` has a filter at the position `place`, and this
+-- filter matches the item `item`.
 abbrev pub is_match : List Filter → Item → ℕ → Bool
 is_match filters item place = option_map_or (matches_item item) (slice_get filters place) false
 
--- `is_miss filters item place`: the filter at position `place` does not match `item`.
+-- `is_miss filters item place`: the list `filters` has no filter at the position `place` that
+-- matches the item `item`.
 abbrev pub is_miss : List Filter → Item → ℕ → Bool
 is_miss filters item place = not (is_match filters item place)
 
--- `Blames file line cause fault`: `fault` is the error with the cause `cause` in line `line` of
--- `file`, or the error of a failed allocation.
+-- `Blames file line cause fault`: `fault` is the error with the cause `cause` in the line `line` of
+-- the file `file`, or the error of a failed allocation.
 abbrev pub Blames : List ℕ → ℕ → SuiteCause → SuiteFault → Type 0
 Blames file line cause fault = IsNoMemory fault ⊎ (fault ≡ fault_at file line cause)
 

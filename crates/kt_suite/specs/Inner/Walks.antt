@@ -13,8 +13,8 @@ use Rattle.kt_suite.specs.Marks.{Site, site_fault, lookup_mark, Mark, Asks, File
 use Rattle.kt_suite.specs.Meanings.{opening_fault}
 use Rattle.kt_suite.specs.Registered.{file_limit, program_limit, calls_in, Decides, IsNext}
 
--- `Counted r marks after`: `after` is the registry `r` with the files and programs of `marks`
--- added. No mark is an error or exceeds a limit.
+-- `Counted r marks after`: the registry `after` is the registry `r` with the files and programs of
+-- `marks` added. No mark is an error, and no file or program exceeds its limit.
 abbrev pub Counted : Registry → List Mark → Registry → Type 0
 Counted r [] after = after ≡ r
 Counted r (Asks question ∷ marks) after = Counted r marks after
@@ -23,10 +23,10 @@ Counted r (ProgramMark at program ∷ marks) after =
     (length r.programs < program_limit) × Counted (record r { programs = r.programs ++ program ∷ [] }) marks after
 Counted r (Fault fault ∷ marks) after = ⊥
 
--- `IsWalk leads old new Gives r result`: marks for which `Gives` holds were added to the registry
--- `r`, one by one. `result` is the registry after the last mark, the error of the mark that
--- decides, or the error of a failed allocation. The calls among the added marks lead from `old` to
--- `new`, two states of the tree.
+-- `IsWalk leads old new Gives r result`: marks that have the property `Gives` were added to the
+-- registry `r`, one by one. `result` is the registry after the last mark, the error of the mark
+-- that decides, or the error of a failed allocation. By the relation `leads`, the calls among the
+-- added marks lead from the tree's state `old` to its state `new`.
 pub data IsWalk {S : Type 0} (leads : S → Asked → S → Type 0) (old new : S) (Gives : List Mark → Type 0) (r : Registry)
     : Result Registry SuiteFault → Type 0 where
   through : (marks : List Mark) (after : Registry)
@@ -39,27 +39,30 @@ pub data IsWalk {S : Type 0} (leads : S → Asked → S → Type 0) (old new : S
       → Gives (front ++ back) → IsNext back more → Chain leads old (calls_in front ++ more) new → Counted r front mid
       → IsNoMemory fault → IsWalk leads old new Gives r (Err fault)
 
--- `FileGives files file marks`: `marks` are the marks of reading `file` while `files` are open.
+-- `FileGives files file marks`: `marks` are the marks of reading the file `file` while the files
+-- `files` are open.
 pub record FileGives (files : List (List ℕ)) (file : List ℕ) (marks : List Mark) : Type 0 where
   pub parts : List Part
   pub says : FileGivesParts file parts
   pub unfolds : Unfolds (files ++ file ∷ []) parts marks
 
--- `MeaningGives files at meaning marks`: `marks` are the marks of a statement at `at` with the
--- meaning `meaning`, read while `files` are open.
+-- `MeaningGives files at meaning marks`: `marks` are the marks of executing a statement at the site
+-- `at` with the meaning `meaning` while the files `files` are open.
 pub record MeaningGives (files : List (List ℕ)) (at : Site) (meaning : Meaning) (marks : List Mark) : Type 0 where
   pub there : Bool
   pub unfolds : Unfolds files (said at there meaning) marks
 
 module _ {S : Type 0} (leads : S → Asked → S → Type 0) (old new : S) where
-  -- `Adds at r program result`: `result` is the registry `r` with `program` appended, or the error
-  -- if its file is missing or it exceeds the limit. The statement at `at` registers it.
+  -- `Adds at r program result`: the statement at the site `at` registers the program `program`.
+  -- `result` is the registry `r` with the program appended, or the error if its file is missing, if
+  -- it exceeds the limit, or if an allocation failed.
   abbrev pub Adds : Site → Registry → Program → Result Registry SuiteFault → Type 0
   Adds at r program result =
       IsWalk leads old new (λ marks. (there : Bool) × (marks ≡ Asks (Exists program.path there) ∷ lookup_mark at program there ∷ [])) r result
 
--- `Enters at r path result`: `result` is the registry `r` with the file at `path` counted, or the
--- error if the include at `at` is rejected.
+-- `Enters at r path result`: the statement at the site `at` includes the file at the path `path`.
+-- `result` is the registry `r` with this file counted, or the error if the file may not be included
+-- or an allocation failed.
 pub data Enters (at : Site) (r : Registry) (path : List ℕ) : Result Registry SuiteFault → Type 0 where
   refuses : (cause : SuiteCause) → entry_fault r.reading path ≡ Some cause → Enters at r path (Err (site_fault at cause))
   exceeds : entry_fault r.reading path ≡ None → file_limit ≤ r.files → Enters at r path (Err (site_fault at TooMany))
@@ -67,14 +70,15 @@ pub data Enters (at : Site) (r : Registry) (path : List ℕ) : Result Registry S
       → Enters at r path (Ok (record r { files = r.files + 1 }))
   scant : (fault : SuiteFault) → IsNoMemory fault → Enters at r path (Err fault)
 
--- `EntersFile at r path step`: `step` reads the file at `path` next, with the registry `r` in which
--- this file is counted.
+-- `EntersFile at r path step`: the step `step` of the statement at the site `at` reads the file at
+-- the path `path` next. This file is counted in the step's registry, which is `r` otherwise.
 abbrev pub EntersFile : Site → Registry → List ℕ → LoadStep → Type 0
 EntersFile at r path step = (next : Registry) × Enters at r path (Ok next) × (step ≡ Enter next path)
 
--- `StepsTo leads old new r at meaning result`: the statement at `at` with the meaning `meaning` was
--- executed in the registry `r`, with calls from `old` to `new`. `result` is the next step, which
--- reads an included file, or the error.
+-- `StepsTo leads old new r at meaning result`: a statement at the site `at` with the meaning
+-- `meaning` was executed with the registry `r`. By the relation `leads`, its calls lead from the
+-- tree's state `old` to its state `new`. `result` is the next step of the loader, or the error of
+-- the statement.
 pub data StepsTo {S : Type 0} (leads : S → Asked → S → Type 0) (old new : S) (r : Registry) (at : Site)
     (meaning : Meaning) : Result LoadStep SuiteFault → Type 0 where
   goes : (after : Registry) → IsWalk leads old new (MeaningGives r.reading at meaning) r (Ok after)
@@ -85,8 +89,9 @@ pub data StepsTo {S : Type 0} (leads : S → Asked → S → Type 0) (old new : 
   fails : (fault : SuiteFault) → IsWalk leads old new (MeaningGives r.reading at meaning) r (Err fault)
       → StepsTo leads old new r at meaning (Err fault)
 
--- `ChecksOpening file stmts result`: `result` is `stmts` if they begin with `syntax(2)`, else the
--- error of `file`.
+-- `ChecksOpening file stmts result`: `result` has the statements `stmts` of the file `file` if they
+-- begin with `syntax(2)`, otherwise the error of `file`. It may also be the error of a failed
+-- allocation.
 pub data ChecksOpening (file : List ℕ) (stmts : List Stmt) : Result (List Stmt) SuiteFault → Type 0 where
   well : (first : Stmt) (rest : List Stmt) → stmts ≡ first ∷ rest → opening_fault first.action ≡ None
       → ChecksOpening file stmts (Ok stmts)
@@ -96,8 +101,9 @@ pub data ChecksOpening (file : List ℕ) (stmts : List Stmt) : Result (List Stmt
       → ChecksOpening file stmts (Err (fault_at file first.line cause))
   unclear : (fault : SuiteFault) → IsNoMemory fault → ChecksOpening file stmts (Err fault)
 
--- `Opened leads old new file result`: `file` was read, and `result` is its statements, which begin
--- with `syntax(2)`, or its error.
+-- `Opened leads old new file result`: the file `file` was read, by a call that leads from the
+-- tree's state `old` to its state `new` by the relation `leads`. `result` has the file's
+-- statements, which begin with `syntax(2)`, is its error, or is the error of a failed allocation.
 pub data Opened {S : Type 0} (leads : S → Asked → S → Type 0) (old new : S) (file : List ℕ)
     : Result (List Stmt) SuiteFault → Type 0 where
   opens : (text : List ℕ) (first : Stmt) (rest : List Stmt)
