@@ -51,8 +51,8 @@ by_stop (Some p) = go (find (λ s. answers_to p.0 (label_of s)) (built kyua_app)
 
 -- ---- the result for it
 
--- `Fits entered r`: the run number of the result `r` is in its range, and `r` is not `Usage` if
--- `entered` is true.
+-- `Fits entered r`: the run number of the result `r`, if it has one, is 1 to 1,000,000. If
+-- `entered`, so that a command was found, `r` is not `Usage`.
 abbrev Fits : Bool → Result Command CommandFault → Type 0
 Fits entered (Ok c) = HasRunNumber c
 Fits entered (Err (fault.Usage message)) = entered ≡ false

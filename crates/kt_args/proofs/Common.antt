@@ -1,4 +1,4 @@
--- Re-exports the names that most proofs of this crate cite. Declares nothing.
+-- Exports the names that most proofs of this crate cite. Declares nothing.
 pub use Rattle.std.proofs.lemmas.Iterator.{YieldsList-from_slice, items_from_collect}
 pub use Rattle.std.specs.List.{list_all}
 unfoldable pub use Rattle.std.specs.Str.{chars}

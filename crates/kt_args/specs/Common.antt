@@ -1,4 +1,4 @@
--- Re-exports the names that the clauses of this crate cite. Declares nothing.
+-- Exports the definitions that the clauses of this crate cite. Declares nothing.
 pub use Rattle.std.specs.IoError.{error_kind}
 pub use Rattle.std.specs.Option.{option_copied}
 pub use Rattle.std.specs.String.{string_bytes}

@@ -3,7 +3,7 @@ use Rattle.std.specs.Prelude.{ℕ, List, codes}
 use Rattle.kt_args.specs.declared.command_fault.CommandFault.{CommandFault}
 use Rattle.kt_args.specs.declared.command_fault.CommandFault.TheVariants.{NoMemory, Usage, BadKind, BadRun}
 
--- `new_command fault`: the message of `fault`.
+-- `new_command fault`: the message that is printed for the error `fault` of a command line.
 abbrev pub new_command : CommandFault → List ℕ
 new_command (NoMemory shortage) = codes "out of memory"
 new_command (Usage text) = text

@@ -19,7 +19,9 @@ pub const RESULTS: &str = "kyua.db";
 const OPTIONS_HINT: &str =
     "The options -c FILE and -v NAME=VALUE stand before the command; see 'kyua --help'.";
 
-/// Creates an option `--LONG VALUE` whose value is stored as `id`.
+/// Creates the option `--LONG VALUE`, where `long` is `LONG` and `value` is `VALUE`.
+///
+/// Its value is stored under the name `id`.
 fn option_arg<'a>(alloc: Global, id: &'a str, long: &'a str, value: &'a str) -> Arg<'a>
     ensures rule { rule_of result ≡ option_rule id.entry.now long.entry.now }
     ensures own { result.global ≡ false }
@@ -107,7 +109,7 @@ fn case_arg<'a>(alloc: Global) -> Arg<'a>
         .help("The test case to run")
 }
 
-/// Creates the option `--run N` of the reports.
+/// Creates the option `--run N` of `report` and `report-junit`.
 fn run_arg<'a>(alloc: Global) -> Arg<'a>
     ensures rule { rule_of result ≡ run_rule }
     ensures own { result.global ≡ false }
@@ -141,7 +143,7 @@ fn verbose_arg<'a>(alloc: Global) -> Arg<'a>
 /// A command line of `clap` that is being built, or the error of a failed allocation.
 type ClapCommand<'a> = Result<clap::Command<'a>, NoMemory>;
 
-/// Returns both values, or the error of the first result that failed.
+/// Returns the values of `first` and `second`, or the error of the first of them that failed.
 fn both<A: Drop, B: Drop>(
     first: Result<A, NoMemory>,
     second: Result<B, NoMemory>,
@@ -153,7 +155,7 @@ fn both<A: Drop, B: Drop>(
 
 /// Returns `line` with the option `option`, or the error of a failed allocation.
 ///
-/// The option must not be global, which means valid in each command.
+/// The option must not be global: a global option is valid in each command.
 fn with_option<'a>(line: ClapCommand<'a>, option: Arg<'a>) -> ClapCommand<'a>
     requires { option.global ≡ false }
     ensures app { (app : App) → (rule : Rule) → rule_of option.entry ≡ rule
@@ -179,7 +181,7 @@ fn with_command<'a>(line: ClapCommand<'a>, command: ClapCommand<'a>) -> ClapComm
     Ok(line.subcommand(command)?)
 }
 
-/// Creates the command `name` without options, with the description `about`.
+/// Creates the command `name` with the description `about` and without options.
 ///
 /// Its help ends with a line about the options before the command.
 fn new_command<'a>(alloc: Global, name: &'a str, about: &'a str) -> ClapCommand<'a>
@@ -268,7 +270,7 @@ fn junit_command<'a>(alloc: Global) -> ClapCommand<'a>
     with_option(line, run_arg(alloc))
 }
 
-/// Creates the command line of `kyua` without its options and commands.
+/// Creates the command line of `kyua`, still without options and commands.
 ///
 /// Its arguments don't include the program's own name, and a command is required.
 fn bare_command<'a>(alloc: Global) -> ClapCommand<'a>

@@ -3,31 +3,31 @@ use kt_base::{Items, Kind, Text};
 
 /// A command of kyua(1), with the values of its options.
 pub enum Command {
-    /// Lists test cases.
+    /// `list`: lists test cases.
     List(CaseOptions),
-    /// Runs test cases and records their results in a file.
+    /// `test`: runs test cases and records their results in a file.
     Test {
-        /// The options that select the cases.
+        /// The options that `test` shares with `list` and `debug`.
         options: CaseOptions,
         /// The path of the results file (`-r`).
         results: Text,
     },
-    /// Runs one test case and shows its output.
+    /// `debug`: runs one test case and shows its output.
     Debug(CaseOptions),
-    /// Shows a recorded run as text.
+    /// `report`: shows a recorded run as text.
     Report {
-        /// The options that select the run.
+        /// The options that `report` shares with `report-junit`.
         options: ReportOptions,
         /// The result kinds whose cases are listed (`--results-filter`).
         kinds: Items<Kind>,
         /// `true` if the properties of each case follow its line (`--verbose`).
         verbose: bool,
     },
-    /// Shows a recorded run as a JUnit report.
+    /// `report-junit`: shows a recorded run as a JUnit report.
     ReportJunit(ReportOptions),
 }
 
-/// Written out instead of derived: for the prover, a drop is then one call.
+/// A manual impl, so that the prover handles each drop as one call.
 impl Drop for Command {
     fn drop(self) {
         match self {
@@ -53,7 +53,7 @@ impl Command {
 
     /// Returns the path of the results file that the command reads or writes.
     ///
-    /// The result is `None` for `list` and `debug`.
+    /// Returns `None` for `list` and `debug`, which use no results file.
     pub fn results(&self) -> Option<&Text>
         ensures { option_copied result ≡ results_of self.now }
     {

@@ -28,12 +28,13 @@ struct RefusedAllocation;
 pub enum CommandFault {
     /// An allocation failed.
     NoMemory(ParserOutOfMemory),
-    /// The arguments are not a command line, or `--help` is given. The text is `clap`'s message or
-    /// help.
+    /// The arguments are not UTF-8 or not a command line, or `--help` is given.
+    ///
+    /// The text is `clap`'s message or help.
     Usage(Text),
     /// An element of a results filter is not `passed`, `skipped`, `xfail`, `broken` or `failed`.
     BadKind,
-    /// The run number is not decimal digits of 1 to 1,000,000.
+    /// The run number is not a decimal number from 1 to 1,000,000.
     BadRun,
 }
 
@@ -48,10 +49,9 @@ impl From<NoMemory> for CommandFault {
 }
 
 impl CommandFault {
-    /// Returns the message of the error (this profile): for `Usage`, the message or the help of
-    /// `clap`.
+    /// Returns the message of the error (this profile), which `Display` prints.
     ///
-    /// `Display` prints the same text.
+    /// The message of `Usage` is the message or the help of `clap`.
     #[tactic(auto, unfolding(crate::proofs::Common::chars))]
     pub fn words(&self) -> &str
         ensures { chars result.now ≡ new_command self.now }
@@ -64,8 +64,10 @@ impl CommandFault {
         }
     }
 
-    /// Converts an error of `clap` to `Usage` with its message, or to `NoMemory` if an allocation
-    /// failed.
+    /// Converts the error `error` of `clap` to `Usage` with its message.
+    ///
+    /// Returns `NoMemory` if `error` is a failed allocation, or if an allocation for the message
+    /// fails.
     pub(crate) fn from_clap(alloc: Global, error: clap::Error) -> CommandFault
         ensures { RefusesArgs (kind_of error ≡ OutOfMemory) result }
     {

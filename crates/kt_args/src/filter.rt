@@ -14,14 +14,16 @@ const KINDS: [(&str, Kind); 5] = [
     ("failed", Kind::Failed),
 ];
 
-/// Returns the result kind that `word`, an element of `--results-filter`, names, if any.
+/// Returns the result kind that `word` names, or `None` if it is not a kind's name.
+///
+/// `word` is an element of the value of `--results-filter`.
 fn kind_of(word: &[u8]) -> Option<Kind>
     ensures { result ≡ kind_of_element word.now }
 {
     named_bytes(word, &KINDS)
 }
 
-/// Returns the elements of `words`, a comma-separated list.
+/// Splits `words` at each comma and returns the elements.
 fn elements(alloc: Global, words: &[u8]) -> Result<Vec<&[u8]>, NoMemory>
     ensures { IfOk result (λ elements.
         map (λ element. element.now) elements.items ≡ comma_elements words.now) }
@@ -29,7 +31,7 @@ fn elements(alloc: Global, words: &[u8]) -> Result<Vec<&[u8]>, NoMemory>
     Ok(words.split(|c| *c == b',').collect(alloc)?)
 }
 
-/// Parses a results filter: one or more result kinds, separated by commas.
+/// Parses `words` as a results filter: one or more result kinds, separated by commas.
 ///
 /// Returns the kinds in their order. A kind may be given several times.
 ///

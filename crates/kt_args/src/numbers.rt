@@ -6,7 +6,7 @@ use kt_base::{decimal_up_to, is_digit};
 /// The greatest run number (this profile).
 const LAST_RUN: u64 = 1_000_000;
 
-/// Returns `true` if `word` is one or more decimal digits.
+/// Returns `true` if `word` consists of one or more decimal digits.
 fn is_number(word: &[u8]) -> bool
     ensures { result ≡ is_number word.now }
 {
@@ -20,7 +20,9 @@ fn unless_zero(number: u64) -> Option<u64>
     if number == 0 { None } else { Some(number) }
 }
 
-/// Parses a run number, or returns `None` if `word` is not decimal digits of 1 to 1,000,000.
+/// Parses `word` as a run number: a decimal number from 1 to 1,000,000.
+///
+/// Leading zeros are allowed. Returns `None` for another text.
 pub fn run_number(word: &[u8]) -> Option<u64>
     ensures { result ≡ run_number_of word.now }
 {

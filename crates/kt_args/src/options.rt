@@ -1,6 +1,6 @@
 use kt_base::{Items, Text};
 
-/// A set of options of `list`, `test` or `debug` (kyua(1)).
+/// The values of the options and arguments of `list`, `test` or `debug` (kyua(1)).
 pub struct CaseOptions {
     /// The path of the configuration file (`-c`), if it is given.
     pub config: Option<Text>,
@@ -14,7 +14,7 @@ pub struct CaseOptions {
     pub filters: Items<Text>,
 }
 
-/// Written out instead of derived: for the prover, a drop is then one call.
+/// A manual impl, so that the prover handles each drop as one call.
 impl Drop for CaseOptions {
     fn drop(self) {
         let CaseOptions {
@@ -27,7 +27,7 @@ impl Drop for CaseOptions {
     }
 }
 
-/// A set of options of `report` or `report-junit` (kyua(1)).
+/// The values of the options that `report` and `report-junit` share (kyua(1)).
 pub struct ReportOptions {
     /// The path of the configuration file (`-c`), if it is given. Reports ignore the file.
     pub config: Option<Text>,
@@ -35,11 +35,11 @@ pub struct ReportOptions {
     pub variables: Items<Text>,
     /// The path of the results file (`-r`).
     pub results: Text,
-    /// The number of the run (`--run`), 1 to 1,000,000. Without it, the last run is shown.
+    /// The number of the run (`--run`), 1 to 1,000,000, or `None` for the last run.
     pub run: Option<u64>,
 }
 
-/// Written out instead of derived: for the prover, a drop is then one call.
+/// A manual impl, so that the prover handles each drop as one call.
 impl Drop for ReportOptions {
     fn drop(self) {
         let ReportOptions {

@@ -15,14 +15,16 @@ use std::io;
 /// The message for arguments that are not UTF-8, as `clap` prints it.
 const INVALID_UTF8: &str = "invalid UTF-8 was detected in one or more arguments";
 
-/// Returns the first value of the option `name` that `clap` found, if any.
+/// Returns the first value that `clap` found for the option `name`, or `None` if it found none.
 fn first_option_value<'a>(matches: &ArgMatches<'a>, name: &str) -> Option<&'a str>
     ensures { option_map (λ word. word.now) result ≡ first_of name.now (rows_of (found_of matches.now)) }
 {
     matches.get_str(name)
 }
 
-/// Returns the values of the option or argument `name` that `clap` found, or `None` without values.
+/// Returns the values that `clap` found for the option or argument `name`.
+///
+/// Returns `None` if it found none.
 fn all_values<'b, 'a>(matches: &'b ArgMatches<'a>, name: &str) -> Option<&'b [&'a str]>
     ensures { option_map (λ words. map (λ word. word.now) words.now) result
         ≡ all_of name.now (rows_of (found_of matches.now)) }
@@ -32,7 +34,7 @@ fn all_values<'b, 'a>(matches: &'b ArgMatches<'a>, name: &str) -> Option<&'b [&'
 
 /// Returns a copy of the value of the option `name`, or of `instead` if the option has no value.
 ///
-/// `clap` has the same default: it prints the default in its help, and fills it in. That `clap`
+/// `instead` is the option's default, which `clap` prints in its help and fills in. That `clap`
 /// fills it in for each option is not proved, so this function applies the default too.
 fn text_or<'a>(
     alloc: Global,
@@ -49,7 +51,7 @@ fn text_or<'a>(
     }
 }
 
-/// Returns a copy of the value of the option `name`, if `clap` found a value.
+/// Returns a copy of the value that `clap` found for the option `name`, or `None` if it found none.
 fn option_text<'a>(
     alloc: Global,
     matches: &ArgMatches<'a>,
@@ -63,7 +65,7 @@ fn option_text<'a>(
     }
 }
 
-/// Copies each of `words` into a `Text`, in order.
+/// Copies the arguments `words` into texts, in order.
 fn texts(alloc: Global, words: &[&str]) -> Result<Items<Text>, NoMemory>
     ensures { IfOk result (λ texts. texts ≡ map (λ word. chars word.now) words.now) }
 {
@@ -74,7 +76,7 @@ fn texts(alloc: Global, words: &[&str]) -> Result<Items<Text>, NoMemory>
     Ok(texts)
 }
 
-/// Returns copies of all values of the repeatable option or argument `name`, in order.
+/// Returns copies of all values that `clap` found for the option or argument `name`, in order.
 fn option_texts<'a>(
     alloc: Global,
     matches: &ArgMatches<'a>,
@@ -88,7 +90,7 @@ fn option_texts<'a>(
     }
 }
 
-/// Parses the run number of `--run`, or returns `None` if the option is not given.
+/// Parses the value of `--run` as a run number, or returns `None` if the option is not given.
 ///
 /// Fails with `BadRun` if the value is not a run number.
 fn run_of<'a>(matches: &ArgMatches<'a>) -> Result<Option<u64>, CommandFault>
@@ -103,7 +105,7 @@ fn run_of<'a>(matches: &ArgMatches<'a>) -> Result<Option<u64>, CommandFault>
     }
 }
 
-/// Returns the result kinds that `--results-filter` names, or the default kinds without the option.
+/// Parses the value of `--results-filter`, or returns the default kinds without the option.
 ///
 /// Fails with `BadKind` if an element does not name a kind.
 fn kinds_of<'a>(alloc: Global, matches: &ArgMatches<'a>) -> Result<Items<Kind>, CommandFault>
@@ -128,7 +130,7 @@ fn is_verbose<'a>(matches: &ArgMatches<'a>) -> bool
     }
 }
 
-/// Returns the options of `list`, `test` or `debug`.
+/// Returns the values of the options of `list`, `test` or `debug`.
 ///
 /// `before` has the options before the command (`-c` and `-v`), and `own` has the options after it.
 fn case_options<'a>(
@@ -160,7 +162,7 @@ fn results_of<'a>(alloc: Global, own: &ArgMatches<'a>) -> Result<Text, NoMemory>
     text_or(alloc, own, "results", RESULTS)
 }
 
-/// Returns the options of `report` or `report-junit`, with the run number `run`.
+/// Returns the values of the options of `report` or `report-junit`, with the run number `run`.
 ///
 /// `before` has the options before the command (`-c` and `-v`), and `own` has the options after it.
 fn report_options<'a>(
@@ -185,7 +187,8 @@ fn report_options<'a>(
 
 /// Returns the command `report` with the values of its options.
 ///
-/// A wrong results filter is reported before a wrong run number.
+/// `before` has the options before the command, and `own` has the options after it. A wrong results
+/// filter is reported before a wrong run number.
 fn read_report<'a>(
     alloc: Global,
     before: &ArgMatches<'a>,
@@ -206,7 +209,8 @@ fn read_report<'a>(
 
 /// Returns the command `report-junit` with the values of its options.
 ///
-/// Fails with `BadRun` if the run number is wrong.
+/// `before` has the options before the command, and `own` has the options after it. Fails with
+/// `BadRun` if the run number is wrong.
 fn read_junit<'a>(
     alloc: Global,
     before: &ArgMatches<'a>,
@@ -222,7 +226,8 @@ fn read_junit<'a>(
 
 /// Returns the command `name` with the values of its options.
 ///
-/// Fails with `Usage` and no text if `name` is not a command. `clap` accepts no such name.
+/// `before` has the options before the command, and `own` has the options after it. Fails with
+/// `Usage` and an empty text if `name` is not a command, but `clap` accepts no such name.
 fn read_named<'a>(
     alloc: Global,
     before: &ArgMatches<'a>,
@@ -254,7 +259,9 @@ fn read_named<'a>(
     Err(CommandFault::Usage(Text::new(alloc)))
 }
 
-/// Returns the name of the command that `clap` found, with the values after the name, if any.
+/// Returns the name of the command that `clap` found, with the values after this name.
+///
+/// Returns `None` if `clap` found no command.
 fn found_subcommand<'b, 'a>(matches: &'b ArgMatches<'a>) -> Option<(&'a str, &'b ArgMatches<'a>)>
     ensures { option_map (λ entered. (entered.0.now, rows_of (found_of entered.1.now))) result
         ≡ subcommand_rows_of matches.now }
@@ -264,7 +271,8 @@ fn found_subcommand<'b, 'a>(matches: &'b ArgMatches<'a>) -> Option<(&'a str, &'b
 
 /// Returns the command that `clap` found, with the values of its options.
 ///
-/// Fails with `Usage` and no text if `clap` found no command. `clap` accepts no such command line.
+/// Fails with `Usage` and an empty text if `clap` found no command, but `clap` accepts no such
+/// command line.
 fn read_matches<'a>(alloc: Global, matches: &ArgMatches<'a>) -> Result<Command, CommandFault>
     ensures { Answers (command_in (rows_of (found_of matches.now))
         (subcommand_rows_of matches.now)) result }
@@ -275,7 +283,7 @@ fn read_matches<'a>(alloc: Global, matches: &ArgMatches<'a>) -> Result<Command, 
     }
 }
 
-/// Parses the arguments after the program's own name as a command of kyua(1).
+/// Parses `words`, the arguments after the program's own name, as a command of kyua(1).
 ///
 /// Values are not interpreted here, not even empty ones: the command parses its variables, filters
 /// and paths when it runs. A missing option gets its default (this profile). A report without
@@ -288,7 +296,7 @@ fn read_matches<'a>(alloc: Global, matches: &ArgMatches<'a>) -> Result<Command, 
 /// - `Usage`: the arguments are not a command line of kyua(1), or `--help` is given.
 /// - `BadKind`: an element of the results filter is not `passed`, `skipped`, `xfail`, `broken` or
 ///   `failed`.
-/// - `BadRun`: the run number is not decimal digits of 1 to 1,000,000.
+/// - `BadRun`: the run number is not a decimal number from 1 to 1,000,000.
 /// - `NoMemory`: an allocation fails.
 pub fn read_command<'a>(alloc: Global, words: &'a [String]) -> Result<Command, CommandFault>
     ensures value { Reads (map (λ word. string_bytes word) words.entry.now) result }
@@ -301,7 +309,7 @@ pub fn read_command<'a>(alloc: Global, words: &'a [String]) -> Result<Command, C
     }
 }
 
-/// Creates the error of arguments that are not UTF-8: a `Usage` with a message in `clap`'s form.
+/// Creates the error for arguments that are not UTF-8: `Usage` with a message in `clap`'s form.
 fn utf8_error(alloc: Global) -> Result<CommandFault, NoMemory>
     ensures { IfOk result (λ fault. RefusesArgs ⊥ fault) }
 {
@@ -310,7 +318,7 @@ fn utf8_error(alloc: Global) -> Result<CommandFault, NoMemory>
     Ok(CommandFault::from_clap(alloc, error))
 }
 
-/// Creates the error of arguments that are not UTF-8, or `NoMemory` if an allocation fails.
+/// Creates the error for arguments that are not UTF-8, or `NoMemory` if an allocation fails.
 fn utf8_or_memory_error(alloc: Global) -> CommandFault
     ensures { RefusesArgs ⊥ result }
 {
@@ -322,7 +330,8 @@ fn utf8_or_memory_error(alloc: Global) -> CommandFault
 
 /// Converts `error`, the error of reading the arguments of the process, to a `CommandFault`.
 ///
-/// The result is `NoMemory` if an allocation failed. Otherwise, an argument is not UTF-8.
+/// Returns `NoMemory` if `error` is a failed allocation, otherwise the error for arguments that are
+/// not UTF-8.
 fn args_error(alloc: Global, error: &io::Error) -> CommandFault
     ensures { RefusesArgs (error_kind error.now ≡ OutOfMemory) result }
 {
@@ -342,7 +351,7 @@ fn args_error(alloc: Global, error: &io::Error) -> CommandFault
 ///   `--help` is given.
 /// - `BadKind`: an element of the results filter is not `passed`, `skipped`, `xfail`, `broken` or
 ///   `failed`.
-/// - `BadRun`: the run number is not decimal digits of 1 to 1,000,000.
+/// - `BadRun`: the run number is not a decimal number from 1 to 1,000,000.
 /// - `NoMemory`: an allocation fails.
 pub fn read_words(alloc: Global, words: io::Result<Args>) -> Result<Command, CommandFault>
     ensures value { IfOk words (λ all.
@@ -365,7 +374,7 @@ pub fn read_words(alloc: Global, words: io::Result<Args>) -> Result<Command, Com
     }
 }
 
-/// Collects the remaining arguments of the iterator `words`, in order.
+/// Collects the remaining arguments of the iterator `words` into a vector, in order.
 fn collected(alloc: Global, words: Args) -> Result<Vec<String>, NoMemory>
     ensures { IfOk result (λ all. all.items ≡ into_iter_items words) }
 {
