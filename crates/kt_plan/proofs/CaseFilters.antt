@@ -8,13 +8,13 @@ use Rattle.kt_plan.specs.declared.stop.Stop.TheVariants as stop
 
 -- ---- the number of filters
 
--- One meaning before the others adds one to their number.
+-- A value before others adds one to their number.
 length_in_front : {A : Type 0} (m : Result A Stop) (rest : Result (List A) Stop) (all : List A) (n : ℕ) → cons_result m rest ≡ Ok all → ((more : List A) → rest ≡ Ok more → n ≡ length more) → suc n ≡ length all
 length_in_front (Err fault) rest all n e f = absurd (cc)
 length_in_front (Ok one) (Err fault) all n e f = absurd (cc)
 length_in_front {A} (Ok one) (Ok more) all n e f = let same : one ∷ more ≡ all = cc in ap suc (f more refl) ∙ ap (λ (xs : List A). length xs) same
 
--- Each argument has one meaning.
+-- The values of several arguments are as many as the arguments.
 pub length_of_each : {A : Type 0} (meaning : List ℕ → Result A Stop) (words : List (List ℕ)) (all : List A) → each_of meaning words ≡ Ok all → length words ≡ length all
 length_of_each {A} meaning [] all e = let same : [] ≡ all = cc in ap (λ (xs : List A). length xs) same
 length_of_each meaning (word ∷ words) all e = length_in_front (meaning word) (each_of meaning words) all (length words) e (λ more m. length_of_each meaning words more m)
@@ -26,7 +26,7 @@ position_found : (position : ℕ) (filter : Filter) (found : Option Filter) (fau
 position_found position filter None fault e = absurd (cc)
 position_found position filter (Some earlier) fault e = let same : of.clash position filter earlier ≡ fault = cc in rw (← same) (grind arith)
 
--- An error that is found at a position names that position, which is one of the list.
+-- An error that is found at a position names that position, which is a position of the list.
 fault_found : (filters : List Filter) (position : ℕ) (o : Option Filter) (fault : FilterFault) → slice_get filters position ≡ o
     → option_and_then (λ (filter : Filter). option_map (of.clash position filter) (find (overlap filter) (take position filters))) o ≡ Some fault
     → (position_in fault ≡ position) × (position < length filters)
@@ -58,7 +58,8 @@ names_word words filters fault n found word same f at read copied =
 -- ---- the filters of a command
 
 module _ (needs_case : Bool) (words : List (List ℕ)) where
-  -- `Reads result`: `result` is the result of `Filters`, or the error of a failed allocation.
+  -- `Reads result`: `result` has the filters of the arguments, is their first error as `Filters`
+  -- says, or is the error of a failed allocation.
   abbrev pub Reads : Result (List Filter) Stop → Type 0
   Reads result = IsShort result ⊎ Filters needs_case words result
 

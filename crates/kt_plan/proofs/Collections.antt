@@ -16,7 +16,7 @@ loaded_all : (programs : List Program) (asked : List Asked) (kyuafile : List ℕ
 loaded_all programs asked kyuafile (inl s) = let e = s.0.2 in absurd (cc)
 loaded_all programs asked kyuafile (inr l) = l
 
--- A selection has at most as many cases as there are.
+-- A selection from at most 100,000 cases has at most 100,000 cases.
 pub few_chosen : (filters : List Filter) (found : List Candidate) (r : Result Chosen Stop) → IfOk r (λ c. c ≡ chosen_of filters found) → OnOk r (length found ≤ item_limit) → IfOk r (λ c. length c.cases ≤ item_limit)
 few_chosen filters found (Ok c) e few =
     let test : Candidate → Bool = λ candidate. is_selected filters (item_of candidate) in
@@ -44,7 +44,8 @@ module _ {W : Type 0} (asks : W → Asked → W → Type 0) (replies : W → Rep
     loads : Loads kyuafile a.asked (Ok programs)
     loads = loaded_all programs a.asked kyuafile a.holds
 
-    -- A failed allocation during the lists leaves the first calls of the selection.
+    -- If an allocation fails while programs list their cases, the calls so far are a prefix of
+    -- those of the selection.
     pub lists_stopped : (shown : List Program) (r : Result Chosen Stop) (why : Stop) → shown ≡ programs → Answered replies mid new (λ answers. OffersFirst settings.config settings.filters shown answers) → r ≡ Err why → StopsForMemory why
         → Collected asks replies settings kyuafile old new r
     lists_stopped shown r why same b e short = record {

@@ -1,4 +1,4 @@
--- The names that most proofs of this crate cite, re-exported. Declares nothing.
+-- Exports the names that most proofs of this crate cite. Declares nothing.
 pub use Rattle.std.proofs.lemmas.Grind.{common_steps}
 pub use Rattle.std.proofs.lemmas.Result.{err_from_is_err_and}
 unfoldable pub use Rattle.std.specs.Str.{chars}

@@ -16,13 +16,13 @@ behind-cons_result before one (Err fault) = refl
 
 -- ---- the configuration file
 
--- All calls for the configuration file are first calls, too.
+-- All calls for the configuration file can also be those before a failed allocation.
 pub file_first : (path : Option (List ℕ)) (answers : List Reply) (meant : Result (List Definition) Stop) → ReadsConfig path answers meant → ReadsFirst path answers
 file_first _ _ _ none = before_file None
 file_first _ _ _ (unread path fault u) = after_file path (Err fault)
 file_first _ _ _ (seen path bytes meant c) = after_file path (Ok bytes)
 
--- All calls for the configuration are first calls, too.
+-- All calls for the configuration can also be those before a failed allocation.
 pub configuration_first : (options : CaseOptions) (answers : List Reply) (meant : Result (List Definition) Stop) → Configures options answers meant → ReadsFirst options.config answers
 configuration_first options answers _ (stopped fault r) = file_first options.config answers (Err fault) r
 configuration_first options answers _ (defined before r) = file_first options.config answers (Ok before) r
@@ -31,7 +31,7 @@ configuration_first options answers _ (defined before r) = file_first options.co
 pub read_config_file : (bytes : List ℕ) (config : Values) → IsRead bytes config → HasConfiguration (IsConfiguration bytes) (Ok config)
 read_config_file bytes config r = record { meant = Ok r.1; means = read r.0 r.1 r.2 r.3; gives = r.4 }
 
--- A configuration file with an error gives its `Stop`.
+-- A configuration file with an error gives the error of the command.
 pub refused_config_file : (bytes : List ℕ) (fault : ConfigFault) → IsDue bytes fault → HasConfiguration (IsConfiguration bytes) (Err (stop.Configuration fault))
 refused_config_file bytes fault d = record { meant = Err (stop.Configuration fault); means = refused fault d; gives = refl }
 
@@ -40,17 +40,17 @@ pub none_given : (path : Option (List ℕ)) (config : Values) → path ≡ None 
 none_given path config e h = record { meant = Ok []; means = subst (λ (p : Option (List ℕ)). ReadsConfig p [] (Ok [])) (sym e) none; gives = h }
 
 module _ {W : Type 0} (replies : W → Reply → W → Type 0) (old new : W) where
-  -- `Reads path outcome`: `outcome` is the configuration of the file at `path` or its `Stop`, or
-  -- the error of a failed allocation.
+  -- `Reads path outcome`: `outcome` is the configuration of the optional file at `path`, the error
+  -- of this file, or the error of a failed allocation.
   abbrev pub Reads : Option (List ℕ) → Result Values Stop → Type 0
   Reads path outcome = Answered replies old new (λ answers. HoldsOrShort outcome path answers (HasConfiguration (ReadsConfig path answers) outcome))
 
-  -- `Configuration options outcome`: `outcome` is the configuration of a command or its `Stop`, or
-  -- the error of a failed allocation.
+  -- `Configuration options outcome`: `outcome` is the configuration of a command with the options
+  -- `options`, its first error, or the error of a failed allocation.
   abbrev pub Configuration : CaseOptions → Result Values Stop → Type 0
   Configuration options outcome = Answered replies old new (λ answers. HoldsOrShort outcome options.config answers (HasConfiguration (Configures options answers) outcome))
 
-  -- A configuration file that can't be read gives its `Stop`.
+  -- A configuration file that can't be read gives the error of the command.
   pub file_unread : (path : List ℕ) (answer : Result (List ℕ) ReadFault) (fault : ReadFault) → replies old (ReadConfig path answer) new → answer ≡ Err fault → Reads (Some path) (Err (config_read_stop fault))
   file_unread path answer fault t e =
       answered-once (ReadConfig path (Err fault)) (subst (λ (a : Result (List ℕ) ReadFault). replies old (ReadConfig path a) new) e t) (by fault)
@@ -71,7 +71,7 @@ module _ {W : Type 0} (replies : W → Reply → W → Type 0) (old new : W) whe
       answered-once (ReadConfig path (Ok bytes)) (subst (λ (a : Result (List ℕ) ReadFault). replies old (ReadConfig path a) new) e t)
       (inr (record { meant = c.meant; means = seen path bytes c.meant c.means; gives = c.gives }))
 
-  -- The `Stop` of the configuration file is the `Stop` of the configuration.
+  -- The error of the configuration file is the error of the configuration.
   pub configured_not : (options : CaseOptions) (found outcome : Result Values Stop) (fault : Stop) → found ≡ Err fault → IsErrAnd outcome (λ e. e ≡ fault) → Reads options.config found
       → Configuration options outcome
   configured_not options found outcome fault e r a =
@@ -117,7 +117,8 @@ module _ {W : Type 0} (replies : W → Reply → W → Type 0) (old new : W) whe
 
 -- ---- the arguments of `-v`
 
--- `HasSet first config words rest`: `config` is `first` after the arguments before `rest`.
+-- `HasSet first config words rest`: the arguments of `words` before its suffix `rest` changed the
+-- configuration from `first` to `config`.
 pub record HasSet (first config : Values) (words rest : List (List ℕ)) : Type 0 where
   pub so_far : (before : List Definition) → Holds first before
       → (all : List Definition) × Holds config all × (behind before (argument_definitions words) ≡ behind all (argument_definitions rest))

@@ -6,7 +6,8 @@ use Rattle.kt_suite.specs.Registered.{Outcome, Registered, Unfinished}
 use Rattle.kt_plan.specs.Listings.{unnamed}
 
 module _ {T : Type 0} (asks : T → Asked → T → Type 0) (kyuafile : List ℕ) where
-  -- `Loaded old new outcome`: the calls from `old` to `new` load the Kyuafile with `outcome`.
+  -- `Loaded old new outcome`: calls that lead the tree from the state `old` to the state `new` load
+  -- the Kyuafile, with the result `outcome`.
   abbrev Loaded : T → T → Outcome → Type 0
   Loaded old new outcome = Answered asks old new (λ asked. LoadsOrShort kyuafile asked outcome)
 

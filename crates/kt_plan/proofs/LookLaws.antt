@@ -6,7 +6,7 @@ use Rattle.std.specs.List.{list_any}
 use Rattle.std.proofs.lemmas.List.Folds.{list_any-append}
 use Rattle.std.proofs.Math.Bool.{or-false, and-true, and-false, or_assoc}
 
--- Recording two lists of results, one after the other, is recording both.
+-- A host that records two lists of results, one after the other, records the joined list.
 notes_more : (answers more : List Reply) (a b d : Host) → RecordsFound answers a b → RecordsFound more b d → RecordsFound (answers ++ more) a d
 notes_more answers more a b d h k = record {
   found = λ need word.
@@ -51,7 +51,7 @@ asks_all (first ∷ needs) = let rest = asks_all needs in (Finds first.0 first.1
 rejoined : (a b d e : List Reply) → a ++ ((b ++ d) ++ e) ≡ (a ++ b) ++ (d ++ e)
 rejoined a b d e = ap (λ (ts : List Reply). a ++ ts) (append_assoc b d e) ∙ sym (append_assoc a b (d ++ e))
 
--- All calls to the host are first calls, too.
+-- All calls to the host are also a prefix of these calls.
 pub all_surveyed : (cases : List Candidate) (answers : List Reply) (host : Host) → Surveys cases answers host → SurveysFirst cases answers
 all_surveyed cases answers host s = record {
   root = host.root;
@@ -75,13 +75,14 @@ module _ {W : Type 0} (replies : W → Reply → W → Type 0) where
   word_there need name old new was now answer there h n =
       answered-once (Finds need name true) (subst (λ (b : Bool). replies old (Finds need name b) new) there h) (asked need name [] true [] nothing, notes_there need name was now n)
 
-  -- A check after which an allocation fails is the first call.
+  -- If an allocation fails after a check, this check is the only call so far.
   pub word_asked : (need : Need) (name : List ℕ) (old new : W) (answer : Bool) → replies old (Finds need name answer) new → Answered replies old new (λ answers. IsCallPrefix (ChecksNeeds ((need, name) ∷ [])) answers)
   word_asked need name old new answer h = answered-once (Finds need name answer) h ([], asked need name [] answer [] nothing)
 
   module _ (needs : List (Need × List ℕ)) (old : W) (was : Host) where
-    -- `Looking rest new now`: the checks so far led the world to the state `new`, and `now` is
-    -- their record. With the checks of `rest`, they are all checks.
+    -- `Looking rest new now`: the checks so far led the world to the state `new`, and the host
+    -- `now` has their results. With checks of the remaining requirements `rest`, they are all
+    -- checks.
     abbrev pub Looking : List (Need × List ℕ) → W → Host → Type 0
     Looking rest new now =
         Answered replies old new (λ answers. ((more : List Reply) → ChecksNeeds rest more → ChecksNeeds needs (answers ++ more)) × RecordsFound answers was now)
@@ -94,7 +95,7 @@ module _ {W : Type 0} (replies : W → Reply → W → Type 0) where
       notes_more answers own was then now g.1 h.1,
     ))
 
-    -- The checks before a failed allocation are the first calls.
+    -- The checks before a failed allocation are a prefix of all checks.
     pub looking_stopped : (rest some after : List (Need × List ℕ)) (mid new : W) (then : Host) → rest ≡ some ++ after → Looking rest mid then
         → Answered replies mid new (λ answers. IsCallPrefix (ChecksNeeds some) answers) → Answered replies old new (λ answers. IsCallPrefix (ChecksNeeds needs) answers)
     looking_stopped rest some after mid new then e l a =
@@ -104,7 +105,7 @@ module _ {W : Type 0} (replies : W → Reply → W → Type 0) where
           subst (λ (ts : List Reply). ChecksNeeds needs ts) (rejoined answers own h.0 others.0) (g.0 ((own ++ h.0) ++ others.0) (rw e (looks_append some after (own ++ h.0) others.0 h.1 others.1))),
         ))
 
-    -- Without remaining requirements, the checks so far are all.
+    -- If no requirement remains, the checks so far are all checks.
     pub looking_all : (rest : List (Need × List ℕ)) (new : W) (now : Host) → rest ≡ [] → Looking rest new now → Answered replies old new (λ answers. ChecksNeeds needs answers × RecordsFound answers was now)
     looking_all rest new now e l = answered-as l (λ answers g. (rw append-nil at (g.0 [] (rw e nothing)), g.1))
 
@@ -123,7 +124,7 @@ module _ {W : Type 0} (replies : W → Reply → W → Type 0) where
     };
   }
 
-  -- The calls to the host before a failed allocation are the first calls.
+  -- The calls to the host before a failed allocation are a prefix of all these calls.
   pub survey_stopped : (cases : List Candidate) (old a b d new : W) (root : Bool) (memory disk : Option ℕ) → replies old (IsRoot root) a → replies a (HasMemory memory) b → replies b (HasDisk disk) d
       → Answered replies d new (λ answers. IsCallPrefix (ChecksNeeds (needs_of cases)) answers) → Answered replies old new (λ answers. SurveysFirst cases answers)
   survey_stopped cases old a b d new root memory disk x y z h = record {

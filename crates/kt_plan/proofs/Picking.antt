@@ -13,12 +13,12 @@ module _ (filters : List Filter) (candidate : Candidate) (rest : List Candidate)
   abbrev after : List ℕ
   after = places_from filters (place + 1) rest
 
-  -- `Keeps old new left`: the step for `candidate` changes the kept cases from `old` to `new`, and
-  -- leaves the indexes `left` for the cases after it.
+  -- `Keeps old new left`: the step for the current candidate changes the selected cases from `old`
+  -- to `new`, and leaves the indexes `left` for the cases after it.
   abbrev pub Keeps : List Candidate → List Candidate → List ℕ → Type 0
   Keeps old new left = (left ≡ after) × (new ++ selected_cases filters rest ≡ old ++ selected_cases filters (candidate ∷ rest))
 
-  -- A case with the next index is appended.
+  -- A case whose index is the next selected index is appended.
   pub picked : (cases new : List Candidate) (now others : List ℕ) → now ≡ place ∷ others → new ≡ cases ++ candidate ∷ [] → now ≡ places_from filters place (candidate ∷ rest) → Keeps cases new others
   picked cases new now others is grown h =
       let same : place ∷ others ≡ places_from filters place (candidate ∷ rest) = sym is ∙ h in
@@ -26,7 +26,7 @@ module _ (filters : List Filter) (candidate : Candidate) (rest : List Candidate)
       let selected : is_selected filters (item_of candidate) ≡ true = grind (arith, later) in
       (grind (arith, later), grind (arith, common_steps, append_assoc cases (candidate ∷ []) (selected_cases filters rest)))
 
-  -- A case without the next index is dropped.
+  -- A case whose index is not the next selected index is dropped.
   pub passed : (cases : List Candidate) (now : List ℕ) → ((others : List ℕ) → now ≡ place ∷ others → ⊥) → now ≡ places_from filters place (candidate ∷ rest) → Keeps cases cases now
   passed cases now other h =
       let left_out : is_selected filters (item_of candidate) ≡ false = grind (arith, other after) in

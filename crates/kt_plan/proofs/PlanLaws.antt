@@ -16,7 +16,9 @@ module _ (config : Values) (host : Host) where
   length_from k _ _ (no_job _) = refl
   length_from k _ _ (planned _ candidate cases first plan is rest) = ap suc (length_from (suc k) cases plan rest)
 
-  -- `Jobs cases position rest plan`: `plan`, with the jobs of `rest`, is the plan of `cases`.
+  -- `Jobs cases position rest plan`: `plan` has the jobs of the cases before the remaining cases
+  -- `rest`, whose first has the position `position`. With the jobs of `rest`, it is the plan of
+  -- `cases`.
   pub record Jobs (cases : List Candidate) (position : ℕ) (rest : List Candidate) (plan : List Job) : Type 0 where
     pub goes : (more : List Job) → ArePlanned config host position rest more → ArePlanned config host 0 cases (plan ++ more)
     pub room : position + length rest ≤ 100000
@@ -34,7 +36,7 @@ module _ (config : Values) (host : Host) where
       room = omega (arith, j.room, ap (λ (cs : List Candidate). length cs) e);
     }
 
-    -- Without remaining cases, the plan so far is the whole plan.
+    -- If no case remains, the plan so far is the whole plan.
     pub jobs_all : (position : ℕ) (rest : List Candidate) (plan : List Job) → length rest ≡ 0 → Jobs cases position rest plan → ArePlanned config host 0 cases plan
     jobs_all position rest plan e j =
         subst (λ (jobs : List Job). ArePlanned config host 0 cases jobs) (append-nil plan) (j.goes [] (subst (λ (cs : List Candidate). ArePlanned config host position cs []) (sym (nil_from_length rest e)) (no_job position)))

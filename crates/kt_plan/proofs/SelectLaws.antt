@@ -20,7 +20,7 @@ module _ {W : Type 0} (asks : W → Asked → W → Type 0) (replies : W → Rep
   settled_is needed options answers settings (inl s) = absurd s.0
   settled_is needed options answers settings (inr s) = s
 
-  -- Calls to the host, to the tree and for the lists are calls to the world.
+  -- Calls to the host, then to the tree, then for the lists are one list of calls to the world.
   chain_to : (answers : List Reply) (asked : List Asked) (lists : List Reply) (a b d e : W) → Chain replies a answers b → Chain asks b asked d → Chain replies d lists e
       → Chain (leads_by asks replies) a (host_calls answers ++ (tree_calls asked ++ host_calls lists)) e
   chain_to answers asked lists a b d e x y z =
@@ -43,7 +43,7 @@ module _ {W : Type 0} (asks : W → Asked → W → Type 0) (replies : W → Rep
   collects_is settings kyuafile asked lists chosen (inl s) = absurd s.0
   collects_is settings kyuafile asked lists chosen (inr s) = s
 
-  -- Settings and selected cases are a selection.
+  -- Settings and selected cases give the selection of the command.
   pub selected_answer : (needed : Bool) (options : CaseOptions) (old mid new : W) (settings : Settings) (chosen : Chosen)
       → Answered replies old mid (λ answers. ReadsSettingsOrShort needed options answers (Ok settings))
       → Collected asks replies settings options.kyuafile mid new (Ok chosen)

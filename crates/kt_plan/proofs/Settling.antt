@@ -6,15 +6,15 @@ use Rattle.kt_plan.specs.declared.stop.Stop.TheVariants as stop
 use Rattle.kt_plan.proofs.Chains.{answered-as}
 use Rattle.kt_plan.proofs.Configurations.{Configuration, configuration_first, with_definitions}
 
--- The error of a failed allocation is `IsShort`.
+-- A result that is the error of a failed allocation meets `IsShort`.
 pub stops_short : {T : Type 0} (result : Result T Stop) (refusal : OutOfMemory) → IsErrAnd result (λ e. e ≡ stop.NoMemory refusal) → IsShort result
 stops_short {T} result refusal r =
     let p = err_from_is_err_and result r in
     subst (λ (o : Result T Stop). IsShort o) (sym p.1) (refusal, p.2)
 
 module _ {W : Type 0} (replies : W → Reply → W → Type 0) (old new : W) (needs_case : Bool) (options : CaseOptions) where
-  -- `Settled result`: the calls from `old` to `new` give the settings `result` of the command, or
-  -- its error.
+  -- `Settled result`: the calls from the state `old` to the state `new` give `result`: the settings
+  -- of the command, or its error.
   abbrev pub Settled : Result Settings Stop → Type 0
   Settled result = Answered replies old new (λ answers. ReadsSettingsOrShort needs_case options answers result)
 
@@ -48,7 +48,7 @@ module _ {W : Type 0} (replies : W → Reply → W → Type 0) (old new : W) (ne
         by answers definitions m (inl s) = inl (s, configuration_first options answers (Ok definitions) m)
         by answers definitions m (inr w) = inr (unfiltered definitions fault m w)
 
-    -- A configuration and filters are settings.
+    -- A configuration and filters without an error give the settings.
     pub all_settled : (read : Result (List Filter) Stop) (filters : List Filter) → read ≡ Ok filters → IsShort read ⊎ Filters needs_case options.filters read
         → Settled (Ok (record { config = config; filters = filters }))
     all_settled read filters f h =

@@ -15,7 +15,7 @@ none_in one h = absurd (let less : h.0 < 0 = h.1 in omega (arith, less))
 only_in : (f one : Filter) → Contains (f ∷ []) one → f ≡ one
 only_in f one h = elim (Contains-push_cases [] f one h) [ inl c ↦ absurd (none_in one c) | inr e ↦ e ]
 
--- `AreAmong rest all`: each filter of `rest` is one of `all`.
+-- `AreAmong rest all`: each filter in the list `rest` is in the list `all`.
 abbrev pub AreAmong : List Filter → List Filter → Type 0
 AreAmong rest all = (one : Filter) → Contains rest one → Contains all one
 
@@ -23,8 +23,8 @@ AreAmong rest all = (one : Filter) → Contains rest one → Contains all one
 pub among_after : (f : Filter) (after rest all : List Filter) → rest ≡ f ∷ after → AreAmong rest all → AreAmong after all
 among_after f after rest all e h one c = h one (subst (λ (xs : List Filter). Contains xs one) (sym e) (Contains-append_right (f ∷ []) after one c))
 
--- `IsAhead rest all path`: if a filter of `all` may match a case of the program at `path`, a filter
--- of `rest` may.
+-- `IsAhead rest all path`: if a filter in `all` may match a case of the program at `path`, a filter
+-- in `rest` may match one, too.
 abbrev pub IsAhead : List Filter → List Filter → List ℕ → Type 0
 IsAhead rest all path = AnyMatches all path → AnyMatches rest path
 

@@ -1,4 +1,4 @@
--- The names that the clauses of this crate cite, re-exported. Declares nothing.
+-- Exports the definitions that the clauses of this crate cite. Declares nothing.
 pub use Rattle.std.specs.List.{Contains}
 pub use Rattle.kt_base.specs.Moments.{IsMoment}
 pub use Rattle.kt_base.specs.declared.child.Role.{Role}

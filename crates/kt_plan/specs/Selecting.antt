@@ -7,9 +7,10 @@ use Rattle.kt_plan.specs.Questions.{WorldCall, tree_calls, host_calls}
 use Rattle.kt_plan.specs.Stops.{IsShort}
 use Rattle.kt_plan.specs.Reply.{Reply}
 
--- `Selects needed options questions result`: `result` has the cases that `options` select by the
--- calls `questions`, or the first error. The configuration and the filters are read first, then the
--- tree and its lists.
+-- `Selects needed options questions result`: `result` has the cases that a command with the options
+-- `options` selects, by the calls `questions`, or is its first error. The configuration and the
+-- filters are read first, then the tree and the lists of programs. If `needed`, exactly one filter
+-- is required, which names a test case.
 pub data Selects (needed : Bool) (options : CaseOptions) : List WorldCall → Result CommandSelection Stop → Type 0 where
   unsettled : (answers : List Reply) (fault : Stop) → ReadsSettings needed options answers (Err fault) → Selects needed options (host_calls answers) (Err fault)
   uncollected : (answers : List Reply) (settings : Settings) (asked : List Asked) (lists : List Reply) (fault : Stop) → ReadsSettings needed options answers (Ok settings)
@@ -18,14 +19,17 @@ pub data Selects (needed : Bool) (options : CaseOptions) : List WorldCall → Re
       → Collects settings options.kyuafile asked lists (Ok chosen)
       → Selects needed options (host_calls answers ++ (tree_calls asked ++ host_calls lists)) (Ok (record { settings = settings; chosen = chosen }))
 
--- `SelectsFirst needed options questions`: `questions` are the first calls of a selection, before
--- an allocation failed.
+-- `SelectsFirst needed options questions`: `questions` are the calls of a selection with the
+-- options `options` before an allocation failed. If `needed`, exactly one filter is required, which
+-- names a test case.
 pub data SelectsFirst (needed : Bool) (options : CaseOptions) : List WorldCall → Type 0 where
   settling : (answers : List Reply) → ReadsFirst options.config answers → SelectsFirst needed options (host_calls answers)
   collecting : (answers : List Reply) (settings : Settings) (asked : List Asked) (lists : List Reply) → ReadsSettings needed options answers (Ok settings)
       → CollectsFirst settings options.kyuafile asked lists → SelectsFirst needed options (host_calls answers ++ (tree_calls asked ++ host_calls lists))
 
--- `SelectsOrShort needed options questions result`: `result` is the result of `Selects`, or the
--- error of a failed allocation. In that case, `questions` are the first calls.
+-- `SelectsOrShort needed options questions result`: `result` has the cases that a command with the
+-- options `options` selects, by the calls `questions`, or is its first error. It may also be the
+-- error of a failed allocation, if `questions` are the calls before it. If `needed`, exactly one
+-- filter is required, which names a test case.
 abbrev pub SelectsOrShort : Bool → CaseOptions → List WorldCall → Result CommandSelection Stop → Type 0
 SelectsOrShort needed options questions result = (IsShort result × SelectsFirst needed options questions) ⊎ Selects needed options questions result

@@ -1,16 +1,16 @@
--- The error messages of a `Stop`.
+-- The messages of errors that stop a command.
 use Rattle.std.specs.Prelude.{ℕ, List, ◌++◌, codes}
 use Rattle.kt_plan.specs.Types.{Stop}
 use Rattle.kt_config.specs.FaultWords.{config_message}
 use Rattle.kt_suite.specs.FaultWords.{fault_words, filter_words}
 use Rattle.kt_plan.specs.declared.stop.Stop.TheVariants as stop
 
--- `quoted_words what word fault`: the message of an error in the argument `word`, which is a
--- `what`. `fault` is the message of the error without the argument.
+-- `quoted_words what word fault`: the message of an error in the argument `word`. `what` is the
+-- kind of the argument, such as `filter`, and `fault` is the message without the argument.
 abbrev pub quoted_words : List ℕ → List ℕ → List ℕ → List ℕ
 quoted_words what word fault = what ++ codes " '" ++ word ++ codes "': " ++ fault
 
--- `stop_words stop`: the error message of `stop`.
+-- `stop_words stop`: the message of the error `stop`, which stops a command.
 abbrev pub stop_words : Stop → List ℕ
 stop_words (stop.NoMemory refusal) = codes "out of memory"
 stop_words stop.UnreadConfiguration = codes "configuration: could not be read"

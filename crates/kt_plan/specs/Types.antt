@@ -1,4 +1,4 @@
--- The types that the definitions of this crate cite, re-exported. Declares nothing.
+-- Exports the types that the definitions of this crate name. Declares nothing.
 pub use Rattle.kt_base.specs.declared.child.Interface.TheVariants.{Atf}
 pub use Rattle.kt_base.specs.declared.no_memory.NoMemory.{NoMemory}
 pub use Rattle.kt_base.specs.declared.variable.Variable.{Variable}

@@ -9,8 +9,7 @@ use kt_config::ConfigFault;
 use kt_suite::{FilterFault, SelectFault, SuiteFault};
 use std::io::Write;
 
-/// Errors returned by [`select_cases`](crate::select_cases): the first error of a command over test
-/// cases.
+/// Errors returned by [`select_cases`](crate::select_cases), each of which stops a command.
 #[derive(Drop)]
 pub enum Stop {
     /// An allocation failed.
@@ -22,9 +21,9 @@ pub enum Stop {
     /// An argument of `-v` has an error. The text is the name of the variable, or the whole
     /// argument if it lacks a `=`.
     Variable(Text, ConfigFault),
-    /// A filter has an error. The text is the argument as it was given.
+    /// A filter has an error, or matches a case of an earlier filter. The text is its argument.
     Filter(Text, FilterFault),
-    /// The arguments of `debug` are not exactly one filter that names a case.
+    /// The command is `debug`, and there is not exactly one filter that names a case.
     NeedsCase,
     /// A Kyuafile has an error.
     Tree(SuiteFault),
@@ -33,11 +32,11 @@ pub enum Stop {
 }
 
 impl Stop {
-    /// Writes the message of the error, without a newline (this profile).
+    /// Writes the message of the error to `out`, without a newline (this profile).
     ///
     /// # Errors
     ///
-    /// - `OutputFault`: a write fails. A proper prefix of the text has been written.
+    /// - `OutputFault`: a write fails. A proper prefix of the message was written.
     pub fn print<W: Write>(&self, out: &mut W) -> Result<(), OutputFault>
         ensures { Shows (W.contents out.old) (W.contents out.new) (is_err result)
             (utf8 (stop_words self.now)) }
@@ -55,7 +54,7 @@ impl Stop {
     }
 }
 
-/// Writes the message of an error in the configuration file.
+/// Writes the message of `fault`, an error in the configuration file, to `out`.
 fn print_configuration<W: Write>(fault: ConfigFault, out: &mut W) -> Result<(), OutputFault>
     ensures { Shows (W.contents out.old) (W.contents out.new) (is_err result)
         (utf8 (stop_words (stop.Configuration fault))) }
@@ -63,9 +62,10 @@ fn print_configuration<W: Write>(fault: ConfigFault, out: &mut W) -> Result<(), 
     emit_all(&[b"configuration: ", fault.words().as_bytes()], out)
 }
 
-/// Writes the message of an error in an argument: `WHAT 'WORD': FAULT`.
+/// Writes the message of an error in an argument to `out`: `WHAT 'WORD': FAULT`.
 ///
-/// `what` is the kind of the argument, and `fault` is the message of its error.
+/// `what` is the kind of the argument, `word` is the argument, and `fault` is the message of its
+/// error.
 fn print_quoted<W: Write>(
     what: &str,
     word: &Text,
@@ -87,7 +87,8 @@ fn print_quoted<W: Write>(
     )
 }
 
-/// Writes the message of an error in an argument of `-v`.
+/// Writes the message of `fault`, an error in the argument of `-v` for the variable `name`, to
+/// `out`.
 fn print_variable<W: Write>(name: &Text, fault: ConfigFault, out: &mut W) -> Result<(), OutputFault>
     ensures { Shows (W.contents out.old) (W.contents out.new) (is_err result)
         (utf8 (stop_words (stop.Variable name.now fault))) }
@@ -95,7 +96,7 @@ fn print_variable<W: Write>(name: &Text, fault: ConfigFault, out: &mut W) -> Res
     print_quoted("variable", name, fault.words(), out)
 }
 
-/// Writes the message of an error in a filter.
+/// Writes the message of `fault`, an error in the filter `word`, to `out`.
 fn print_filter<W: Write>(word: &Text, fault: FilterFault, out: &mut W) -> Result<(), OutputFault>
     ensures { Shows (W.contents out.old) (W.contents out.new) (is_err result)
         (utf8 (stop_words (stop.Filter word.now fault))) }

@@ -4,20 +4,19 @@ use kt_metadata::Need;
 use kt_sched::Launcher;
 use kt_suite::{Program, ReadFault, Tree};
 
-/// An interface to the environment of a command: the files of a test suite, a launcher of test
-/// programs, and the host.
+/// An interface to the environment of a command: test suite files, a launcher, and the host.
 pub trait World: Tree + Launcher {
     ghost use Rattle.std.specs.Prelude.{ℕ, ◌≡◌};
     ghost use Rattle.kt_plan.specs.Common.{Role, IsIdle, IsMoment, Asked, Reply, ReadConfig, Lists, Finds, IsRoot, HasMemory, HasDisk, Now};
 
-    /// `replies old reply new`: the call to the host with its result in `reply` may lead the world
-    /// from the state `old` to the state `new`.
+    /// `replies old reply new`: the call `reply` to the host, which has its result, may lead the
+    /// world from the state `old` to the state `new`.
     ghost replies: { Self → Reply → Self → Type 0 };
 
-    /// Reads a configuration file.
+    /// Returns the bytes of the configuration file at `path`.
     ///
-    /// A relative path starts at the working directory. The bytes of a longer file may end after
-    /// 1,048,577 bytes, which is one byte more than a script may have (1 MiB).
+    /// A relative path starts at the working directory. Of a longer file, only the first 1,048,577
+    /// bytes may be returned. This is one byte more than a script may have (1 MiB).
     ///
     /// # Errors
     ///
@@ -27,19 +26,24 @@ pub trait World: Tree + Launcher {
     fn config(&mut self, path: &Text) -> Result<Bytes, ReadFault>
         ensures { replies self.old (ReadConfig path.now result) self.new };
 
-    /// Lists the test cases of an ATF program by running it with the variables of its test suite.
+    /// Lists the test cases of the ATF program `program` by running it, and returns the listing.
     ///
-    /// No other test program may be running.
+    /// `variables` are the variables of the program's test suite. No other test program may be
+    /// running.
     fn list(&mut self, program: &Program, variables: &Variables) -> Listing
         requires { IsIdle (Self.running self.old) (Self.pending self.old) }
         ensures { replies self.old (Lists program.now variables.now result) self.new };
 
-    /// Returns `true` if a file is at the absolute path `path` (`required_files` of kyuafile(5)).
+    /// Returns `true` if a file of any type exists at the absolute path `path`.
+    ///
+    /// This meets a requirement of `required_files` (kyuafile(5)).
     fn file_exists(&mut self, path: &Text) -> bool
         ensures { replies self.old (Finds Need.File path.now result) self.new };
 
-    /// Returns `true` if the host has the program `name`: an absolute path, or a name in a
-    /// directory of `PATH` (`required_programs` of kyuafile(5)).
+    /// Returns `true` if the program `name`, an executable regular file, exists.
+    ///
+    /// `name` is an absolute path, or a name in a directory of `PATH`. This meets a requirement of
+    /// `required_programs` (kyuafile(5)).
     fn program_found(&mut self, name: &Text) -> bool
         ensures { replies self.old (Finds Need.Program name.now result) self.new };
 
@@ -62,19 +66,19 @@ pub trait World: Tree + Launcher {
         ensures reply { replies self.old (Now result) self.new }
         ensures moment { IsMoment result };
 
-    /// `runs_on`: no call to the tree changes the running children.
+    /// No call to the tree changes the running children.
     ghost runs_on: { (s t : Self) (q : Asked) → Self.asks s q t → (k : ℕ) (r : Role)
         → Self.running t k r ≡ Self.running s k r };
 
-    /// `pends_on`: no call to the tree changes the pending cleanups.
+    /// No call to the tree changes the pending cleanups.
     ghost pends_on: { (s t : Self) (q : Asked) → Self.asks s q t → (k : ℕ)
         → Self.pending t k ≡ Self.pending s k };
 
-    /// `runs_by_reply`: no call to the host changes the running children.
+    /// No call to the host changes the running children.
     ghost runs_by_reply: { (s t : Self) (q : Reply) → Self.replies s q t → (k : ℕ) (r : Role)
         → Self.running t k r ≡ Self.running s k r };
 
-    /// `pends_by_reply`: no call to the host changes the pending cleanups.
+    /// No call to the host changes the pending cleanups.
     ghost pends_by_reply: { (s t : Self) (q : Reply) → Self.replies s q t → (k : ℕ)
         → Self.pending t k ≡ Self.pending s k };
 }

@@ -11,36 +11,40 @@ use Rattle.kt_plan.specs.Stops.{IsShort}
 use Rattle.kt_plan.specs.Reply.{Reply, Lists}
 use Rattle.kt_plan.specs.Collecting.{Collects, CollectsFirst, item_of, variables_for}
 
--- `LoadStopsForMemory outcome`: `outcome` is the error of an allocation that failed while the tree was
--- loaded.
+-- `LoadStopsForMemory outcome`: the result `outcome` of loading a tree is the error of a failed
+-- allocation.
 abbrev pub LoadStopsForMemory : Outcome → Type 0
 LoadStopsForMemory outcome = (fault : SuiteFault) × IsNoMemory fault × (outcome ≡ Err fault)
 
--- `LoadsOrShort kyuafile asked outcome`: `outcome` is the result of loading `kyuafile` by the calls
--- `asked`, or the error of a failed allocation. In that case, `asked` are the first calls.
+-- `LoadsOrShort kyuafile asked outcome`: `outcome` is the result of loading the Kyuafile `kyuafile`
+-- by the calls `asked` to the tree, or the error of a failed allocation. In the second case,
+-- `asked` are the calls before this failure.
 abbrev pub LoadsOrShort : List ℕ → List Asked → Outcome → Type 0
 LoadsOrShort kyuafile asked outcome = (LoadStopsForMemory outcome × LoadsFirst kyuafile asked) ⊎ Loads kyuafile asked outcome
 
--- `places_from filters place cases`: the indexes of those `cases` that `filters` select. The first
--- case has the index `place`.
+-- `places_from filters place cases`: the indexes of the candidates in `cases` that the filters
+-- `filters` select. The first candidate has the index `place`.
 abbrev pub places_from : List Filter → ℕ → List Candidate → List ℕ
 places_from filters place cases = places (is_selected filters) place (map item_of cases)
 
--- `ListsFirst config program replies`: `replies` are the first calls for the cases of `program`
--- before an allocation failed: no call, or the list of the program.
+-- `ListsFirst config program replies`: the calls `replies` can be those for the cases of the
+-- program `program` before an allocation failed: none, or only the call by which the program lists
+-- its cases. `config` is the configuration.
 pub data ListsFirst (config : Values) (program : Program) : List Reply → Type 0 where
   before_list : ListsFirst config program []
   after_list : (listing : Listing) → ListsFirst config program (Lists program (variables_for config program.suite) listing ∷ [])
 
--- `CollectsOrShort settings kyuafile asked answers result`: `result` is the result of `Collects`,
--- or the error of a failed allocation. In that case, `asked` and `answers` are the first calls of
--- the selection.
+-- `CollectsOrShort settings kyuafile asked answers result`: `result` is the result of a selection
+-- with the settings `settings` from the tree of the Kyuafile `kyuafile`, by the calls `asked` to
+-- the tree and the calls `answers` by which programs list their cases. It may also be the error of
+-- a failed allocation, if these are the calls before it.
 abbrev pub CollectsOrShort : Settings → List ℕ → List Asked → List Reply → Result Chosen Stop → Type 0
 CollectsOrShort settings kyuafile asked answers result = (IsShort result × CollectsFirst settings kyuafile asked answers) ⊎ Collects settings kyuafile asked answers result
 
 module _ {W : Type 0} (asks : W → Asked → W → Type 0) (replies : W → Reply → W → Type 0) where
-  -- `Collected settings kyuafile old new result`: the calls to the tree and then the lists of
-  -- programs lead the world from `old` to `new`, with the selection or the error `result`.
+  -- `Collected settings kyuafile old new result`: `result` is the result of a selection with the
+  -- settings `settings` from the tree of the Kyuafile `kyuafile`. Its calls, first to the tree and
+  -- then for the lists of programs, lead the world from the state `old` to the state `new`.
   pub record Collected (settings : Settings) (kyuafile : List ℕ) (old new : W) (result : Result Chosen Stop) : Type 0 where
     pub asked : List Asked
     pub answers : List Reply

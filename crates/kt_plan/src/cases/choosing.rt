@@ -7,7 +7,7 @@ use kt_base::{Items, NoMemory};
 use kt_suite::{Filter, Item, SelectFault, select};
 use std::alloc::Global;
 
-/// Returns copies of the program path and the name of each case, which filters need.
+/// Creates the items with which filters are compared: copies of each case's program path and name.
 fn items_of(alloc: Global, candidates: &[Candidate]) -> Result<Vec<Item>, NoMemory>
     ensures { IfOk result (λ items. items.items ≡ map item_of candidates.now) }
 {
@@ -20,7 +20,7 @@ fn items_of(alloc: Global, candidates: &[Candidate]) -> Result<Vec<Item>, NoMemo
     Ok(items)
 }
 
-/// Appends `candidate` to `cases` if `place`, its index, is the first of `places`.
+/// Appends `candidate` to `cases` if its index `place` is the first of the indexes `places`.
 ///
 /// Returns the indexes in `places` that remain for the cases after it.
 fn keep<'a>(
@@ -44,7 +44,7 @@ fn keep<'a>(
     }
 }
 
-/// Returns the cases of `found` whose indexes are in `places`, which is ascending.
+/// Returns the cases of `found` whose indexes are in `places`. The indexes must be ascending.
 fn kept(
     alloc: Global,
     found: Items<Candidate>,
@@ -64,7 +64,7 @@ fn kept(
     Ok(cases)
 }
 
-/// Selects the cases of `found` that some filter matches, or all cases without filters.
+/// Selects the cases of `found` that one of `filters` matches, or all cases without filters.
 ///
 /// # Errors
 ///

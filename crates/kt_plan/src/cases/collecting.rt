@@ -25,7 +25,7 @@ fn out_of_memory(alloc: Global, refusal: NoMemory) -> SuiteFault
 
 /// Creates the error with the cause `cause` of the Kyuafile `file`, without a line.
 ///
-/// If `file` can't be copied, the result is the error of a failed allocation.
+/// If the allocation for a copy of `file` fails, returns the error of that failure.
 fn fault_of(alloc: Global, file: &Text, cause: SuiteCause) -> SuiteFault
     ensures { Blames file.now 0 cause result }
 {
@@ -39,14 +39,14 @@ fn fault_of(alloc: Global, file: &Text, cause: SuiteCause) -> SuiteFault
     }
 }
 
-/// Returns the programs that the Kyuafile and the files that it includes register, in order.
+/// Returns the programs that `kyuafile` and the files that it includes register, in order.
 ///
-/// The directory of the Kyuafile must be the root of `tree`.
+/// The directory of `kyuafile` must be the root of `tree`.
 ///
 /// # Errors
 ///
-/// - [`SuiteFault`] with the first error of the Kyuafiles. A path that ends in a slash has the
-///   cause `Unreadable`.
+/// - [`SuiteFault`] with the first error of the Kyuafiles. Its cause is `Unreadable` if `kyuafile`
+///   has no file name, for example if it ends in a slash.
 /// - [`SuiteFault`] with the cause `NoMemory`: an allocation fails.
 pub fn load_programs<T: Tree>(
     alloc: Global,
@@ -67,7 +67,7 @@ pub fn load_programs<T: Tree>(
     load(alloc, tree, &root)
 }
 
-/// Returns the `Stop` of a command whose Kyuafiles have the error `fault`.
+/// Converts `fault`, the error of the Kyuafiles, to the error of the command.
 fn tree_stop(fault: SuiteFault) -> Stop
     ensures { ((refusal : OutOfMemory) × (result ≡ stop.NoMemory refusal)
         × (fault.cause ≡ SuiteCause.NoMemory refusal))
@@ -79,10 +79,10 @@ fn tree_stop(fault: SuiteFault) -> Stop
     }
 }
 
-/// Selects test cases by the settings of a command (kyua(1)).
+/// Selects test cases by the settings `settings` of a command (kyua(1)).
 ///
-/// Reads the Kyuafiles, lists the cases of each ATF program that the filters do not exclude, and
-/// applies the filters to all cases.
+/// Reads `kyuafile` and its includes, lists the cases of each ATF program that the filters do not
+/// exclude, and applies the filters to all cases.
 ///
 /// All Kyuafiles are read first, so no program starts if a Kyuafile has an error. A list that can't
 /// be used gives one case, which will be reported as broken, so the other programs are still
@@ -114,7 +114,7 @@ pub fn collect<W: World>(
     choose(alloc, settings.filters.as_slice(), found)
 }
 
-/// Selects the test cases that the options of a command name.
+/// Selects the test cases of a command with the options `options`.
 ///
 /// `needed` is `true` if the command needs exactly one filter that names a case.
 ///

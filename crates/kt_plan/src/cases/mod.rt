@@ -21,8 +21,7 @@ pub struct Candidate {
     pub case: CaseDef,
 }
 
-/// Implemented manually for the prover: a drop is one call, and only this function takes the fields
-/// apart.
+/// A manual impl, so that the prover handles each drop as one call and sees the fields only here.
 impl Drop for Candidate {
     fn drop(self) {
         let Candidate {
@@ -43,7 +42,7 @@ pub struct Chosen {
     pub unmatched: Items<usize>,
 }
 
-/// A selection of cases, with the settings of its command.
+/// A selection of cases, together with the settings of its command.
 #[derive(Drop)]
 pub struct CommandSelection {
     /// The settings of the command.

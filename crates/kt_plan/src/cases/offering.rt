@@ -9,7 +9,7 @@ use kt_config::Config;
 use kt_suite::{Filter, Program};
 use std::alloc::Global;
 
-/// Lists the cases of an ATF program by running it with the variables of its suite.
+/// Lists the cases of the ATF program `program` by running it with the variables of its suite.
 fn listed_cases<W: World>(
     alloc: Global,
     config: &Config,
@@ -28,10 +28,9 @@ fn listed_cases<W: World>(
     Ok(found)
 }
 
-/// Returns the cases of a program.
+/// Returns the cases of the program `program`.
 ///
-/// The result is empty for an ATF program of which no filter may match a case. Such a program is
-/// not run.
+/// If no filter may match a case of an ATF program, the program is not run, and has no cases here.
 fn cases_of_program<W: World>(
     alloc: Global,
     settings: &Settings,
@@ -81,7 +80,7 @@ fn add_candidates(
     Ok(())
 }
 
-/// Returns the cases of the programs, in the order of the programs.
+/// Returns the cases of all programs in `programs`, in the order of the programs.
 ///
 /// Each list is made while no other program is running.
 ///
@@ -120,7 +119,7 @@ fn any_may_match(filters: &[Filter], path: &Text) -> bool
     false
 }
 
-/// Returns `true` if there is no filter, or if a filter may match a case of the program.
+/// Returns `true` if there is no filter, or if one of `filters` may match a case of `program`.
 ///
 /// Allocates nothing.
 fn is_wanted(filters: &[Filter], program: &Program) -> bool

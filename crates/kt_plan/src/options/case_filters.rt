@@ -8,7 +8,8 @@ use std::alloc::Global;
 
 /// Parses the argument `word` as a filter.
 ///
-/// The inner error is the `Stop` of an argument that is not a filter.
+/// The inner error is that of an argument which is not a filter. The outer error is a failed
+/// allocation.
 fn filter_of(alloc: Global, word: &Text) -> Result<Result<Filter, Stop>, NoMemory>
     ensures { IfOk result (λ outcome. outcome ≡ filter_of word.now) }
 {
@@ -21,7 +22,8 @@ fn filter_of(alloc: Global, word: &Text) -> Result<Result<Filter, Stop>, NoMemor
 
 /// Parses the arguments `words` as filters, in order.
 ///
-/// The inner error is the `Stop` of the first argument that is not a filter.
+/// The inner error is that of the first argument which is not a filter. The outer error is a failed
+/// allocation.
 fn parse_filters(alloc: Global, words: &[Text]) -> Result<Result<Items<Filter>, Stop>, NoMemory>
     ensures { IfOk result (λ outcome. outcome ≡ filters_of words.now) }
 {
@@ -35,7 +37,7 @@ fn parse_filters(alloc: Global, words: &[Text]) -> Result<Result<Items<Filter>, 
     Ok(Ok(filters))
 }
 
-/// Returns the position of the filter in `Repeated` or `NotDisjoint`, or 0 for another error.
+/// Returns the position of the filter that `fault` names, or 0 if it names no filter.
 fn position_of(fault: FilterFault) -> usize
     ensures { result ≡ position_in fault }
 {
@@ -45,9 +47,9 @@ fn position_of(fault: FilterFault) -> usize
     }
 }
 
-/// Returns the `Stop` of the first filter that matches a case of an earlier filter, if any.
+/// Returns the error of the first filter that matches a case of an earlier filter, or `None`.
 ///
-/// `words` are the arguments of `filters`.
+/// `words` are the arguments from which `filters` were parsed.
 fn overlap_stop(words: &[Text], filters: &[Filter]) -> Result<Option<Stop>, NoMemory>
     requires { length words.now ≡ length filters.now }
     ensures { IfOk result (λ found. ChecksTogether words.now filters.now found) }
@@ -61,7 +63,7 @@ fn overlap_stop(words: &[Text], filters: &[Filter]) -> Result<Option<Stop>, NoMe
     }
 }
 
-/// Returns `true` if there is exactly one filter and it names a case.
+/// Returns `true` if `filters` has exactly one filter and this filter names a case.
 fn names_one_case(filters: &[Filter]) -> bool
     ensures { result ≡ names_one_case filters.now }
 {
@@ -71,7 +73,7 @@ fn names_one_case(filters: &[Filter]) -> bool
     }
 }
 
-/// Returns `true` if `needs_case` is `true` and there is not exactly one filter that names a case.
+/// Returns `true` if `needs_case` is `true` but `filters` is not one filter that names a case.
 fn lacks_case(needs_case: bool, filters: &[Filter]) -> bool
     ensures { result ≡ lacks_case needs_case filters.now }
 {

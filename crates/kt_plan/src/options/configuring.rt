@@ -9,9 +9,9 @@ use kt_config::{Config, ConfigFault};
 use kt_suite::ReadFault;
 use std::alloc::Global;
 
-/// Returns a copy of the configuration variables of the test suite `suite`.
+/// Returns a copy of the variables that `config` sets for the test suite `suite`.
 ///
-/// The result is empty if `config` has none for the test suite.
+/// The list is empty if `config` sets none.
 ///
 /// # Errors
 ///
@@ -27,7 +27,7 @@ pub fn variables_for(alloc: Global, config: &Config, suite: &Text) -> Result<Var
 
 /// Sets the variable `name` of the configuration to `value`.
 ///
-/// Returns a `Stop` with the name if the configuration rejects the variable.
+/// Returns the error with the name if the configuration rejects the variable, otherwise `None`.
 fn set(config: &mut Config, name: Text, value: &Text) -> Result<Option<Stop>, NoMemory>
     ensures { IfOk result (λ stop. AppendsDefinition config.old (config_or_stop config.new stop)
         (or_stop (Stop.Variable name) (definition_named name value.now))) }
@@ -39,9 +39,10 @@ fn set(config: &mut Config, name: Text, value: &Text) -> Result<Option<Stop>, No
     }
 }
 
-/// Sets the variable of `word`, an argument `NAME=VALUE`.
+/// Sets the variable of the argument `word`, which has the form `NAME=VALUE`.
 ///
-/// Returns a `Stop` if the argument lacks a `=`, or if the configuration rejects the variable.
+/// Returns the error if the argument lacks a `=` or the configuration rejects the variable,
+/// otherwise `None`.
 fn set_argument(config: &mut Config, word: &Text) -> Result<Option<Stop>, NoMemory>
     ensures { IfOk result (λ stop.
         AppendsDefinition config.old (config_or_stop config.new stop) (argument_definition word.now)) }
@@ -53,9 +54,9 @@ fn set_argument(config: &mut Config, word: &Text) -> Result<Option<Stop>, NoMemo
     }
 }
 
-/// Parses the bytes of a configuration file.
+/// Parses `bytes`, the contents of a configuration file.
 ///
-/// The inner error is the `Stop` of a file that is not valid.
+/// The inner error is that of a file which is not valid. The outer error is a failed allocation.
 fn config_of(alloc: Global, bytes: &[u8]) -> Result<Result<Config, Stop>, NoMemory>
     ensures { IfOk result (HasConfiguration (IsConfiguration bytes.now)) }
 {
@@ -66,7 +67,7 @@ fn config_of(alloc: Global, bytes: &[u8]) -> Result<Result<Config, Stop>, NoMemo
     }
 }
 
-/// Returns the `Stop` of a command that can't read its configuration file because of `fault`.
+/// Converts `fault`, with which the read of the configuration file failed, to the command's error.
 fn config_read_stop(fault: ReadFault) -> Stop
     ensures { result ≡ config_read_stop fault }
 {
@@ -76,7 +77,7 @@ fn config_read_stop(fault: ReadFault) -> Stop
     }
 }
 
-/// Reads and parses a configuration file.
+/// Reads the configuration file at `path` and parses it.
 fn read_config<W: World>(alloc: Global, path: &Text, world: &mut W) -> Result<Config, Stop>
     ensures { Answered W.replies world.old world.new (λ answers. HoldsOrShort result (Some path.now)
         answers (HasConfiguration (ReadsConfig (Some path.now) answers) result)) }
@@ -87,8 +88,9 @@ fn read_config<W: World>(alloc: Global, path: &Text, world: &mut W) -> Result<Co
     }
 }
 
-/// Reads and parses the configuration file of a command, or creates an empty configuration if no
-/// file is given.
+/// Reads and parses the configuration file that `options` name.
+///
+/// Creates an empty configuration if `options` name no file.
 fn read_given_config<W: World>(
     alloc: Global,
     options: &CaseOptions,
@@ -103,9 +105,10 @@ fn read_given_config<W: World>(
     }
 }
 
-/// Sets the variables of the arguments of `-v`, in order.
+/// Sets the variables of `words`, the arguments of `-v`, in order, and returns the configuration.
 ///
-/// The inner error is the `Stop` of the first argument with an error.
+/// The inner error is that of the first argument that has one. The outer error is a failed
+/// allocation.
 fn set_arguments(config: Config, words: &[Text]) -> Result<Result<Config, Stop>, NoMemory>
     ensures { IfOk result (λ outcome. AppendsDefinitions config outcome (argument_definitions words.now)) }
 {
@@ -118,7 +121,9 @@ fn set_arguments(config: Config, words: &[Text]) -> Result<Result<Config, Stop>,
     Ok(Ok(config))
 }
 
-/// Creates the configuration of a command: reads its file, and then sets the variables of `-v`.
+/// Creates the configuration of a command with the options `options`.
+///
+/// Reads the configuration file, and then sets the variables of `-v`.
 fn configure<W: World>(alloc: Global, options: &CaseOptions, world: &mut W) -> Result<Config, Stop>
     ensures { Answered W.replies world.old world.new (λ answers. HoldsOrShort result
         options.now.config answers (HasConfiguration (Configures options.now answers) result)) }

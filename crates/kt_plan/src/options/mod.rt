@@ -7,7 +7,7 @@ use kt_base::Items;
 use kt_config::Config;
 use kt_suite::Filter;
 
-/// A configuration of a command over test cases, with its filters.
+/// The settings of a command over test cases: its configuration and its filters.
 #[derive(Drop)]
 pub struct Settings {
     /// The configuration, from the configuration file and the arguments of `-v`.

@@ -6,7 +6,7 @@ use kt_base::{NoMemory, Text};
 use kt_metadata::{Host, Need};
 use std::alloc::Global;
 
-/// Returns `true` if the host has the required file or program `word`.
+/// Returns `true` if the host has the required file or program `word`, as `need` selects.
 fn is_found<W: World>(need: Need, word: &Text, world: &mut W) -> bool
     ensures { W.replies world.old (Finds need word.now result) world.new }
 {
@@ -16,7 +16,9 @@ fn is_found<W: World>(need: Need, word: &Text, world: &mut W) -> bool
     }
 }
 
-/// Checks that the required file or program `word` exists, and records it in `host` if it does.
+/// Records in `host` that the required file or program `word` exists, if it does.
+///
+/// `need` is the kind of `word`.
 fn check_need<W: World>(
     need: Need,
     word: &Text,
@@ -34,9 +36,9 @@ fn check_need<W: World>(
     Ok(())
 }
 
-/// Checks which of the required files or programs `words` exist, in order.
+/// Records in `host` those of the required files or programs `words` that exist.
 ///
-/// Records those that exist in `host`.
+/// Checks them in order. `need` is the kind of `words`.
 fn check_needs<W: World>(
     need: Need,
     words: &[Text],
@@ -53,9 +55,9 @@ fn check_needs<W: World>(
     Ok(())
 }
 
-/// Returns the kinds of requirements that must be checked for a case.
+/// Returns the kinds of requirements that must be checked for the case `candidate`.
 ///
-/// The result is empty if the list of the case's program has an error.
+/// The slice is empty if the list of the case's program has an error.
 fn kinds_of(candidate: &Candidate) -> &'static [Need]
     ensures { needs_among result.now (meta_in candidate.now)
         ≡ needs_by candidate.now.case.fault (meta_in candidate.now) }
@@ -66,9 +68,9 @@ fn kinds_of(candidate: &Candidate) -> &'static [Need]
     }
 }
 
-/// Checks which of the files and programs that a case requires exist, in order.
+/// Records in `host` the required files and programs of the case `candidate` that exist.
 ///
-/// Records those that exist in `host`.
+/// Checks them in order, kind after kind.
 fn check_case_needs<W: World>(
     candidate: &Candidate,
     world: &mut W,
@@ -87,9 +89,9 @@ fn check_case_needs<W: World>(
     Ok(())
 }
 
-/// Checks which of the files and programs that the cases require exist, in the order of the cases.
+/// Records in `host` the required files and programs of the cases `cases` that exist.
 ///
-/// Records those that exist in `host`.
+/// Checks them in the order of the cases.
 fn check_all_needs<W: World>(
     cases: &[Candidate],
     world: &mut W,
@@ -105,9 +107,9 @@ fn check_all_needs<W: World>(
     Ok(())
 }
 
-/// Reads the properties of the host that cases may require.
+/// Reads the properties of the host that the cases `cases` may require.
 ///
-/// The properties are whether the user is root, the memory, the disk space, and the required files
+/// The properties are: the user (root or not), the memory, the disk space, and the required files
 /// and programs.
 ///
 /// The user, the memory and the disk space are read even if no case requires them. Cases whose list

@@ -11,7 +11,7 @@ use kt_metadata::{Host, Meta, unmet};
 use kt_sched::Job;
 use std::alloc::Global;
 
-/// Returns a copy of `reason`, with its own text.
+/// Returns a copy of `reason`, with a copy of its text if it has one.
 fn copy_of_reason(reason: &Reason) -> Result<Reason, NoMemory>
     ensures { IfOk result (λ copy. copy ≡ reason.now) }
 {
@@ -24,7 +24,7 @@ fn copy_of_reason(reason: &Reason) -> Result<Reason, NoMemory>
     }
 }
 
-/// Returns `true` if a case with the properties `meta` declares a cleanup.
+/// Returns `true` if a case with the effective properties `meta` declares a cleanup.
 ///
 /// Only cases of ATF programs may have cleanups.
 fn declares_cleanup(interface: Interface, meta: &Meta) -> bool
@@ -38,7 +38,8 @@ fn declares_cleanup(interface: Interface, meta: &Meta) -> bool
 
 /// Returns the verdict of a case that must not be started, or `None` for another case.
 ///
-/// A case is broken if its list has an error, and otherwise skipped if a requirement is not met.
+/// A case is broken if the list of its program has an error. Otherwise, it is skipped if a
+/// requirement is not met.
 fn decided(
     alloc: Global,
     candidate: &Candidate,
@@ -58,7 +59,7 @@ fn decided(
     }
 }
 
-/// Returns copies of a case's program path and name.
+/// Returns copies of the program path and of the name of the case `candidate`.
 fn names_of(candidate: &Candidate) -> Result<(Text, Text), NoMemory>
     ensures { IfOk result (λ names. (names.0 ≡ candidate.now.path)
         × (names.1 ≡ candidate.now.case.name)) }
@@ -66,9 +67,10 @@ fn names_of(candidate: &Candidate) -> Result<(Text, Text), NoMemory>
     Ok((candidate.path.copy()?, candidate.case.name.copy()?))
 }
 
-/// Creates the job of a case with the variables `vars` and the effective properties `meta`.
+/// Creates the job of the case `candidate` at the position `position` of a plan.
 ///
-/// `decided` is the verdict of a case that must not be started.
+/// `vars` are the variables of the case's test suite, and `meta` are its effective properties.
+/// `decided` is its verdict if it must not be started.
 fn job_of(
     position: u32,
     candidate: &Candidate,
@@ -98,9 +100,9 @@ fn job_of(
     })
 }
 
-/// Creates the job of a case at a position of the plan.
+/// Creates the job of the case `candidate` at the position `position` of a plan.
 ///
-/// `vars` are the configuration variables of the case's test suite.
+/// `vars` are the variables that `config` sets for the case's test suite.
 fn job_at(
     alloc: Global,
     config: &Config,
@@ -119,10 +121,10 @@ fn job_at(
 
 /// Creates the plan of at most 100,000 cases: one job for each case, in order.
 ///
-/// A case whose list has an error is broken, and is not started. Otherwise, a case with an unmet
-/// requirement is skipped. The host is not checked again during the run, so a file that one case
-/// creates meets no requirement of another. Adjacent cases of one test suite share the memory of
-/// its variables.
+/// A case is broken, and is not started, if the list of its program has an error. Otherwise, a case
+/// with an unmet requirement is skipped. The host is not checked again during the run, so a file
+/// that one case creates meets no requirement of another. Adjacent cases of one test suite share
+/// the memory of its variables.
 ///
 /// # Errors
 ///

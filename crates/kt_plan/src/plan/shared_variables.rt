@@ -3,7 +3,7 @@ use kt_base::{NoMemory, Text, Variables};
 use kt_config::Config;
 use std::alloc::Global;
 
-/// A list of a test suite's variables, whose memory the jobs of its cases share.
+/// The variables of a test suite, in memory that the jobs of its cases share.
 #[derive(Drop)]
 pub struct SharedVariables {
     /// The name of the test suite.
@@ -35,7 +35,7 @@ impl SharedVariables {
 
     /// Returns the shared variables of `suite`, the test suite of the next case.
     ///
-    /// The result is `self` if `self` has the variables of this test suite.
+    /// Returns `self` if it has the variables of this test suite. Otherwise, creates new ones.
     ///
     /// # Errors
     ///

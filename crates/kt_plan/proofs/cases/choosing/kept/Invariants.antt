@@ -2,7 +2,7 @@ use Rattle.std.proofs.Common.{◌≡◌, ◌++◌, ◌+◌, ◌≤◌, List, len
 use Rattle.kt_plan.proofs.Common.{Filter, selected_cases, places_from}
 use Rattle.kt_plan.proofs.cases.choosing.kept.Given as goal
 
--- The cases so far, with the selected remaining ones, are all selected cases.
+-- The cases so far, followed by the selected ones of the remaining cases, are all selected cases.
 abbrev pub invariant-loop-candidate : goal.invariant-loop-candidate
 invariant-loop-candidate l = record {
   room : l.place + length l.candidate-iterator.rest.items ≤ 100000;
