@@ -1,4 +1,4 @@
--- Re-exports of the names that most proofs of this crate cite. Declares nothing.
+-- Re-exports the names that most proofs of this crate cite. Declares nothing.
 pub use Rattle.std.proofs.Common.{Bool, Equal, Err, Greater, IfErr, IfOk, IfSome, IsPermutation, IsSome, IsTrue, Less, List, None, Ok, OnOk, Option, Ordering, Result, Some, [], ap, append-nil, ap₂, arith, codes, cond, drop, false, filter, get_or, inl, inr, is_err, length, length-append, map, nat_lt, ne_eqb, not, option_map, pos, refl, reverse, rules, slice_get, subst, subst₂, suc, sym, take, true, true≢false, w64, zero, ℕ, ℤ, ◌%◌, ◌&&◌, ◌++◌, ◌+◌, ◌-◌, ◌<◌, ◌==◌, ◌∙◌, ◌∷◌, ◌≡◌, ◌≢◌, ◌≤◌, ◌⊎◌}
 pub use Rattle.std.proofs.Math.Logic.{∥∥₁_elim, ∥∥₁_map}
 pub use Rattle.std.proofs.lemmas.Bool.{and_parts, cases_eq, cond-true, eq-eqb, not-true, or_right}

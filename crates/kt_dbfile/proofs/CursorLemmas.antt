@@ -77,7 +77,7 @@ module _ (key : Row) where
   past : (es : List Row) → AllByRecursion (λ e. begins key e ≡ false) (filter beyond es)
   past es = all_weaker _ (λ e. begins key e ≡ false) (λ e h. not_equal (prefix_cmp plain e key) h) (filter beyond es) (all_kept beyond es)
 
--- ---- the rows that a key finds
+-- ---- the rows whose index entries begin with a key
 
 same_rest : (r : Row) → drop 1 r ≡ drop 1 (back (drop 1 r))
 same_rest [] = refl
@@ -109,7 +109,7 @@ module _ (columns : List ℕ) (key : Row) (all mine table index : List Row) (are
         past = past key index;
       }
 
--- ---- the index entries of rows rise with their columns, for any rowids
+-- ---- the index entries of rows ascend with their columns, for any rowids
 
 abbrev Below : List ℕ → Row → Row → Type 0
 Below columns x y = (a b : Value) → entry_cmp plain (entry_of columns (a ∷ x)) (entry_of columns (b ∷ y)) ≡ Less

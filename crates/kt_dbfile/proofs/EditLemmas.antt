@@ -19,7 +19,7 @@ use Rattle.kt_store.proofs.PutLemmas.{put_rows, put_works}
 use Rattle.kt_store.proofs.RunsByNumber.{number_at}
 use Rattle.kt_store.proofs.Values.{cast_int, cast_null}
 
--- the conditions as if its trees were numbered, which no clause of a write requires
+-- `numbered v`: the view `v` as if its trees were numbered, which no clause of a write requires
 abbrev numbered : View → View
 numbered v = record v { is_numbered = true }
 
@@ -63,12 +63,12 @@ stands_again a b schema same stands =
 abbrev in_trees : Trees → Database
 in_trees trees = record { schema = schema_2; trees = trees }
 
--- no foreign key refers to pairs
+-- writing pairs causes no work for foreign keys, since none refers to the table of pairs
 props_works : (olds news : List Row) → works schema_2 Enforced 0 5 olds news ≡ []
 props_works olds [] = refl
 props_works olds (x ∷ news) = let some : (length (x ∷ news) == 0) ≡ false = grind (arith, nat_tests) in rw some refl
 
--- trees that keep runs are those of the tables, and list their schema alone
+-- the trees of a database with runs are the trees of its tables, and list only its schema
 pub tables_in : (runs : List Run) (trees : Trees) → Keeps runs trees → Tables (in_trees trees) runs
 tables_in runs trees k = subst (λ (db : Database). Tables db runs) (ap₂ (λ (s : Schema) (t : Trees). record { schema = s; trees = t }) k.3.schema (sym k.2)) k.3
 

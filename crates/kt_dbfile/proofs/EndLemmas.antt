@@ -17,7 +17,7 @@ open_if_sound v law sound = elim v.is_open as (λ b. (b ≡ false → IsTrue v.i
 pub sound_of : (v : View) (schema : Schema) → (v.is_open ≡ false → IsTrue v.is_broken) → IsSettledStore v schema → IsClean v → v.is_broken ≡ false → IsSound schema v.trees
 sound_of v schema law is clean sound = subst (IsSound schema) (sym (is.settled clean sound)) (is.sound (open_if_sound v law sound))
 
--- the trees of a settled store are those of the runs that it represents
+-- a settled store shows the trees of the runs that it represents
 pub has_runs : (v : View) (schema : Schema) → (v.is_open ≡ false → IsTrue v.is_broken) → IsSettledStore v schema → (runs : List Run) → HasCommitted v runs → HasRuns v runs
 has_runs v schema law is runs has clean sound = subst (Keeps runs) (sym (is.settled clean sound)) (has (open_if_sound v law sound))
 
@@ -125,7 +125,7 @@ module _ {S : Type 0} (g : Ghosts S) (dirty : (s : S) → (g.view s).is_clean �
 
 -- ---- the results of a connection, by the trees of its store
 
--- the listed schema is the one that the trees obey
+-- a settled store obeys the schema that its trees list
 pub settled_by : (v : View) (listed : Schema) → (v.trees ≡ v.committed) → Lists (v.trees catalog_tree) listed → (IsTrue v.is_open → (schema : Schema) × IsSound schema v.committed) → IsTrue v.is_open → IsSound listed v.committed
 settled_by v listed same lists has opened =
     let it = has opened in

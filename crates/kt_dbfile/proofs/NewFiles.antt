@@ -33,7 +33,7 @@ page_is_first =
       empty = leaf.1;
     }
 
--- the only page of a file that has this page alone
+-- the only page of a file that consists of this page
 only : (n : ℕ) (bytes : List ℕ) → only_page page n ≡ Some bytes → page ≡ bytes
 only n bytes is = elim (cases_eq n 1) [
   | inl one ↦ let e : Some page ≡ Some bytes = rw one at is in cc

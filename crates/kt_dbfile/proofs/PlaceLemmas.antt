@@ -3,7 +3,8 @@ use Rattle.kt_dbfile.proofs.Common.{AllByRecursion, AreNumbered, Backward, Int, 
 use Rattle.sqlite_trees.specs.View.{View, Advances, with_cursor}
 
 module _ (columns cs : List ℕ) (key : Row) (mine table index : List Row) (p : Places cs key mine table index) where
-  -- a cursor with these index entries left, once these rows were returned
+  -- `Halfway now shown`: a cursor has the index entries `now` left, and `shown` has the columns of
+  -- the rows that it has returned
   pub record Halfway (now shown : List Row) : Type 0 where
     pub done : List Row
     pub left : List Row
@@ -43,7 +44,7 @@ module _ (columns cs : List ℕ) (key : Row) (mine table index : List Row) (p : 
               shown_is = ap (λ l. l ++ in_columns columns row ∷ []) h.shown_is ∙ ap (λ x. map (in_columns columns) h.done ++ in_columns columns x ∷ []) (sym same) ∙ sym (map-append (in_columns columns) h.done (r ∷ []));
             }
 
-    -- the row of the first index entry
+    -- the row of the first index entry from the key on is the first of the rows under the key
     pub first_row : from_key plain key index ≡ place ∷ new → Some (drop 1 row) ≡ slice_get mine 0
     first_row is = go p.rows p.are p.each (sym is ∙ p.found)
       where
@@ -67,9 +68,10 @@ module _ (columns cs : List ℕ) (key : Row) (mine table index : List Row) (p : 
       go [] split hits at = (p.rows, p.are, h.shown_is ∙ ap (map (in_columns columns)) (sym (split ∙ append-nil h.done)))
       go (r ∷ left) split hits at = absurd (true≢false (sym hits.0 ∙ (subst (λ l. AllByRecursion (λ e. begins key e ≡ false) (take 1 l)) at none).0))
 
--- ---- the number of index entries that begin with a key, and the last row of the runs
+-- ---- the number of index entries that begin with a key
 
--- a cursor went over this number of index entries that begin with the key, and has these left
+-- `Passed key index now n`: a cursor over `index` passed `n` entries that begin with `key`, and has
+-- the entries `now` left
 pub record Passed (key : Row) (index now : List Row) (n : ℕ) : Type 0 where
   pub done : List Row
   pub split : from_key plain key index ≡ done ++ now
@@ -125,7 +127,7 @@ last_is runs table front row h are is =
 pub none_is : (runs : List Run) (table : List Row) → table ≡ map run_row runs → table ≡ [] → 0 ≡ length runs
 none_is runs table are is = ap length (sym is ∙ are) ∙ length-map runs run_row
 
--- the row that a cursor returned that goes backward from the end
+-- a cursor that moves backward from the end returns the last row, or none if there are no rows
 pub sought_none : (old mid new : View) (rows : List Row) (row : Row) → mid ≡ with_cursor old 0 (sought plain Backward [] rows) → Advances mid new 0 row false → rows ≡ []
 sought_none old mid new rows row is end =
     let e : Some (reverse (up_to_key plain [] rows)) ≡ Some [] = sym (ap (λ (v : View). v.cursors 0) is) ∙ end.0 in

@@ -6,7 +6,7 @@ use Rattle.kt_store.proofs.EntryLemmas.{back}
 use Rattle.kt_store.proofs.RunLemmas.{found_run, none_there, some_there}
 use Rattle.kt_store.proofs.PairsLemmas.{all_columns}
 
--- columns without the rowid
+-- `LeavesRowid columns`: the values of a row in `columns` don't depend on its rowid
 abbrev pub LeavesRowid : List ℕ → Type 0
 LeavesRowid columns = (r : Row) → in_columns columns r ≡ in_columns columns (back (drop 1 r))
 
@@ -34,11 +34,12 @@ seen_entries n es shown h = seen entry_places entries_leave _ shown h ∙ map-ma
 pub seen_pairs : (n p : ℕ) (vs : List Variable) (shown : List Row) → SelectsColumns pair_places (pair_rows_from n p 0 vs) shown → shown ≡ map pair_columns vs
 seen_pairs n p vs shown h = seen pair_places pairs_leave _ shown h ∙ all_columns (λ r. in_columns pair_places (back r)) n p (λ k v. refl) 0 vs
 
--- the rows of runs, in the tree of their table
+-- the tree of the table of runs has the rows of the runs
 pub rows_of_runs : (runs : List Run) (trees : Trees) → Keeps runs trees → trees 2 ≡ map run_row runs
 rows_of_runs runs trees keeps = ap (λ (t : Trees). t 2) keeps.2 ∙ keeps.3.runs_are
 
--- a run is found by its rowid
+-- the row that is found by a run's number is the run's row, and if none is found, the run doesn't
+-- exist
 pub there_is : (runs : List Run) (n : ℕ) (table : List Row) (row : Row) → AreNumbered 1 runs → table ≡ map run_row runs → Finds table (pos n) row true → (r : Run) × (run_at runs n ≡ Some r) × (row ≡ run_row r)
 there_is runs n table row numbered are found =
     some_there run_row (run_at runs n) (row ∷ []) row (sym (sym (found_run n runs numbered) ∙ ap (filter (has_rowid (pos n))) (sym are) ∙ found)) refl
@@ -84,7 +85,7 @@ module _ {S : Type 0} (g : Ghosts S) where
     outcomes = λ db found. first.outcomes db (second.outcomes db found);
   }
 
-  -- cursors have moved at most
+  -- a call after which at most cursors have moved only reads the store
   pub looked : (old new : S) → IsQuiet g.view g.faults g.recovers g.is_shielded old new → KeepsSchema (g.view old) (g.view new) → (IsClean (g.view new) → g.view new ≡ record (g.view old) { cursors = (g.view new).cursors }) → OnlyReadsStore g old new
   looked old new quiet schema moves = record {
     clean = λ clean. let falls = quiet.clean in omega arith;
@@ -94,7 +95,8 @@ module _ {S : Type 0} (g : Ghosts S) where
     outcomes = quiet.outcomes;
   }
 
-  -- a call that only reads serves a store that still has its runs
+  -- for a call from the store `old` to `new` that only reads: it serves a store if it still has its
+  -- runs
   module _ (old new : S) (looks : OnlyReadsStore g old new) where
     pub read_serves : (Has : View → List Run → Type 0) → ((runs : List Run) → Has (g.view old) runs → Has (g.view new) runs) → (call : StoreCall) → ((runs : List Run) → runs_after call runs ≡ runs)
         → ((runs : List Run) (may : List (List Run)) → ((by_trees g Has).leaves old may → (by_trees g Has).leaves new may) → SurvivesCrash (by_trees g Has).leaves call runs may old new)

@@ -1,4 +1,4 @@
--- Definitions for private functions. No public clause cites them.
+-- Definitions that only private functions cite.
 pub mod Cursors
 pub mod Edits
 pub mod Known

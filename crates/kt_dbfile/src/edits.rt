@@ -62,7 +62,7 @@ fn pair_row(
     )
 }
 
-/// Creates the rows of the pairs of an entry.
+/// Creates the rows of `pairs`, the pairs of the entry at `position` of a run, without rowids.
 fn rows_of_pairs(
     alloc: Global,
     run: u32,
@@ -83,7 +83,8 @@ fn rows_of_pairs(
     Ok(rows)
 }
 
-/// Creates the row of an entry of a run.
+/// Creates the row of an entry of a run, without a rowid. `reason` is the text of the entry's
+/// reason.
 fn row_of_entry<'a>(
     alloc: Global,
     run: u32,
@@ -135,7 +136,9 @@ fn next_number<S: Alter>(store: &mut S, alloc: Global) -> Result<u64, StoreFault
     Ok(last + 1)
 }
 
-/// Writes an unfinished run after the last run, and returns its number.
+/// Writes an unfinished run after the last run, and returns its number. The run has `total`
+/// selected cases and the start timestamp `moment`. Fails with `StoreFull` if there are 1,000,000
+/// runs.
 pub(crate) fn write_run<S: Alter>(
     store: &mut S,
     alloc: Global,
@@ -217,7 +220,8 @@ fn check_entry<S: Alter>(
     Ok(())
 }
 
-/// Checks that a run accepts an entry, and writes the entry and its pairs.
+/// Checks that a run accepts an entry, and writes the entry and its pairs. Fails with the first of
+/// `NoRun`, `RunClosed`, `BadPosition` and `RepeatedPosition` that applies.
 pub(crate) fn write_entry<S: Alter>(
     store: &mut S,
     alloc: Global,
@@ -254,7 +258,8 @@ pub(crate) fn write_entry<S: Alter>(
     Ok(())
 }
 
-/// Creates the row of a finished run, after its rowid, from the row of the unfinished one.
+/// Creates the row of a finished run from the row of the unfinished run, with the rowid as an extra
+/// first column.
 fn finished_row(alloc: Global, row: &Row) -> Result<Row, NoMemory>
     ensures { (r : Run) → row.now ≡ run_row r → IfOk result (λ done. done ≡ finished_run_row r) }
 {
@@ -306,7 +311,8 @@ fn check_run<S: Alter>(store: &mut S, alloc: Global, run: u64) -> Result<Row, St
     Ok(row)
 }
 
-/// Marks a run as finished, in its row. Fails if the run lacks an entry.
+/// Marks a run as finished, in its row. Fails with the first of `NoRun`, `RunClosed` and
+/// `Incomplete` that applies.
 pub(crate) fn write_finish<S: Alter>(
     store: &mut S,
     alloc: Global,

@@ -1,8 +1,8 @@
 //! Checks of the ends of the tables and of their indexes.
 //!
 //! The checks are made before runs are shown and before a run begins: the ends agree, and a run has
-//! the entries that it must have. A page that the disk lost, or an outdated page, seldom hides a
-//! result. The size of the file doesn't matter.
+//! the entries that it must have. A lost or outdated page then seldom hides a result. The cost of
+//! the checks hardly grows with the size of the file.
 
 ghost use Rattle.std.specs.Prelude.{◌≡◌, ◌<◌, ◌≤◌, [], ◌∷◌, Some, length, map, option_map, true, IfOk};
 ghost use Rattle.kt_dbfile.specs.Common.{AllByRecursion, Entry as Stored, IsAscending, OnlyReadsStore, Through, HoldsForTrees, Run, ends_with, head_of, last_run, outlined, run_at};
@@ -47,8 +47,8 @@ fn last_place<S: Store>(
     Ok(columns_of(alloc, &place, &[0, 1])?)
 }
 
-/// Returns `true` if the index of a table has the key of the table's last row, or if the table is
-/// empty.
+/// Returns `true` if the index of a table has the key of the table's last row exactly once, or if
+/// the table is empty.
 fn is_last_row_placed<S: Store>(
     store: &mut S,
     alloc: Global,
@@ -64,8 +64,8 @@ fn is_last_row_placed<S: Store>(
     Ok(count == 1)
 }
 
-/// Returns the run and the position of the last index key of a table. Fails if the index lacks the
-/// key of the table's last row.
+/// Returns the run and the position of the last index key of a table. Fails unless the index has
+/// the key of the table's last row exactly once.
 fn end_of<S: Store>(store: &mut S, alloc: Global, table: &TreeTable) -> Result<Row, StoreFailure>
     ensures looks { OnlyReadsStore S.Store store.old store.new }
 {
@@ -73,8 +73,9 @@ fn end_of<S: Store>(store: &mut S, alloc: Global, table: &TreeTable) -> Result<R
     last_place(store, alloc, table, &Row::new(alloc))
 }
 
-/// Returns `true` if `end` can be the last key of the index of entries after the last run `last`.
-/// It is the last position if the run is finished, and otherwise any key before the total.
+/// Returns `true` if `end` can be the last key of the index of entries after the last run `last`. A
+/// finished run with cases ends at its last position. Otherwise, any key before the position of the
+/// run's total is possible.
 fn is_end(alloc: Global, end: &Row, last: RunHead) -> Result<bool, NoMemory>
     ensures { last.number ≤ last_run → IfOk result (λ is. is ≡ ends_with last end.now) }
 {
@@ -87,7 +88,8 @@ fn is_end(alloc: Global, end: &Row, last: RunHead) -> Result<bool, NoMemory>
     Ok(end.cmp_prefix(Order::PLAIN, &past) == Ordering::Less)
 }
 
-/// Returns `true` if the entry of a pair exists, or if there is no pair.
+/// Returns `true` if the entry of a pair exists, or if there is no pair. `pair` has the run and the
+/// position of the entry, or NULL.
 fn has_entry<S: Store>(store: &mut S, alloc: Global, pair: &Row) -> Result<bool, StoreFailure>
     ensures through { Through S.Store store.old store.new result }
     ensures looks { OnlyReadsStore S.Store store.old store.new }
@@ -118,8 +120,8 @@ fn check_last_pair<S: Store>(store: &mut S, alloc: Global) -> Result<(), StoreFa
     sure(has_entry(store, alloc, &pair)?)
 }
 
-/// Checks that the tables and their indexes have the same ends, and that these agree with the last
-/// run.
+/// Checks that the tables of entries and pairs end as their indexes do. Also checks that the last
+/// entry can be that of the last run `last`, and that the last pair has its entry.
 pub(crate) fn check_ends<S: Store>(
     store: &mut S,
     alloc: Global,
@@ -205,7 +207,7 @@ fn is_possible_entry_list(head: RunHead, entries: &[Entry]) -> bool
     }
 }
 
-/// Returns the number of index entries for the pairs of these entries of a run.
+/// Returns the number of pairs that the index of `table` has for these entries of a run.
 fn count_pairs<S: Store>(
     store: &mut S,
     alloc: Global,
@@ -223,7 +225,7 @@ fn count_pairs<S: Store>(
     Ok(count)
 }
 
-/// Returns `true` if each pair of the run with this head belongs to one of its entries. A finished
+/// Returns `true` if each pair of the run with this head belongs to one of `entries`. A finished
 /// run has all its entries, so only its last pair is checked.
 fn are_of_entries<S: Store>(
     store: &mut S,

@@ -11,7 +11,8 @@ use sqlite_pager::Options;
 use std::alloc::Global;
 use std::marker::PhantomData;
 
-/// Returns the value of a call. If the call failed, the returned argument is dropped.
+/// Returns the value of a successful call. Drops the argument that a failed call gave back with its
+/// error.
 fn done<T, L: Drop>(returned: Result<T, (Error, L)>) -> Result<T, StoreFailure>
     ensures ok { IfOk result (λ it. returned ≡ Ok it) }
 {
@@ -21,13 +22,14 @@ fn done<T, L: Drop>(returned: Result<T, (Error, L)>) -> Result<T, StoreFailure>
     }
 }
 
-/// Evidence of a failed open, which consumed a value of `S`. Only [`open_both`] creates it.
+/// A token of a failed open, which consumed a value of `S`. Only [`open_both`] creates it.
 #[derive(Drop)]
 pub struct OpenFailure<S> {
     marker: PhantomData<S>,
 }
 
-/// Opens a file and its log. Creates them if they are missing.
+/// Opens a file and its log. Creates them if they are missing. Only contracts use `start`: it
+/// represents the initial contents of both.
 pub(crate) fn open_both<S: Start>(
     rt: &HostRuntime,
     file: &Text,

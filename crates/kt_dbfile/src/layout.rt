@@ -30,7 +30,7 @@ const ENTRY_COLUMNS: [&str; 12] = [
 
 const PAIR_COLUMNS: [&str; 5] = ["run", "position", "place", "name", "value"];
 
-/// Returns `true` if a table has columns with these names, in this order.
+/// Returns `true` if a table has exactly the columns with these names, in this order.
 fn has_columns(table: &Table, names: &[&str]) -> bool
     ensures { length names.now ≡ length table.now.columns
         → AreNamed table.now 0 (map (λ name. name.now) names.now) → result ≡ true }
@@ -48,7 +48,8 @@ fn has_columns(table: &Table, names: &[&str]) -> bool
     true
 }
 
-/// Returns `true` if the table with this name has this index, this tree and these columns.
+/// Returns `true` if the table `name` is at the index `at` of a schema, with this tree and exactly
+/// these columns.
 fn has_table(schema: &Schema, name: &str, at: usize, tree: u32, columns: &[&str]) -> bool
     ensures { (t : TableOf) → table_named schema.now name.now ≡ Some at
         → slice_get schema.now.tables at ≡ Some t → t.tree ≡ tree
@@ -63,7 +64,7 @@ fn has_table(schema: &Schema, name: &str, at: usize, tree: u32, columns: &[&str]
         && has_columns(table, columns)
 }
 
-/// Returns `true` if the index with this name has this tree.
+/// Returns `true` if a schema has an index `name` with this tree.
 fn has_index(schema: &Schema, name: &str, tree: u32) -> bool
     ensures { (at : ℕ) (i : IndexOf) → index_named schema.now name.now ≡ Some at
         → slice_get schema.now.indexes at ≡ Some i → i.tree ≡ tree → result ≡ true }

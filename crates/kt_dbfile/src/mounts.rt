@@ -6,11 +6,12 @@ use std::os::fd::AsRawFd;
 use std::rt::Files;
 use std::str;
 
-/// The length of the start of a file's `fdinfo` that is read, in bytes. The mount's number is in
-/// its third line.
+/// The number of bytes that are read from the start of a file's `fdinfo`. The mount's number is in
+/// the third line.
 const INFO_BYTES: usize = 256;
 
-/// Returns the number of a mount in the text of a file's `fdinfo` (proc_pid_fdinfo(5)).
+/// Returns the number of the mount in the text of a file's `fdinfo` (proc_pid_fdinfo(5)), or `None`
+/// if the text has none.
 fn mount_in(info: &str) -> Option<u64> {
     for line in info.split('\n') {
         if let Some(number) = line.strip_prefix("mnt_id:\t") {
@@ -20,8 +21,8 @@ fn mount_in(info: &str) -> Option<u64> {
     None
 }
 
-/// Returns the number of the mount that contains an open file. Returns `None` if `/proc` doesn't
-/// have it.
+/// Returns the number of the mount that contains an open file, or `None` if it can't be read from
+/// `/proc`.
 fn mount_of<R: Files<File = File> + AllocGlobal>(rt: &R, file: &File) -> Option<u64> {
     let path = format!(in rt.alloc(); "/proc/self/fdinfo/{}", file.as_raw_fd()).ok()?;
     let mut list = File::open(rt, path.as_str()).ok()?;
@@ -30,8 +31,8 @@ fn mount_of<R: Files<File = File> + AllocGlobal>(rt: &R, file: &File) -> Option<
     mount_in(str::from_utf8(&info[..count]).ok()?)
 }
 
-/// Returns `true` if a regular file is in another mount than its directory. Returns `None` if one
-/// of both can't be opened.
+/// Returns `true` if a regular file is in another mount than its directory. Returns `None` if the
+/// path isn't a regular file, or if a mount can't be determined.
 fn is_apart<R: Files<File = File> + AllocGlobal>(rt: &R, path: &str) -> Option<bool> {
     if !fs::symlink_metadata(rt, path).ok()?.is_file() {
         return None;
@@ -43,8 +44,9 @@ fn is_apart<R: Files<File = File> + AllocGlobal>(rt: &R, path: &str) -> Option<b
 
 /// Returns `true` if a path, or the target of a symbolic link, is mounted as a single file.
 ///
-/// Such a file has its log next to each path that names it, so a log that a killed command left
-/// next to one path is missed at another. The result is `false` if there is no file.
+/// Such a file has its log next to each path that names it. A log that a killed command left next
+/// to one path is then missed at another. The result is `false` if there is no regular file, or if
+/// a mount can't be determined.
 // Tested, not proved: results_file_mounted_alone_exits_2.
 pub(crate) fn is_mounted_alone<R: Files<File = File> + AllocGlobal>(rt: &R, file: &Text) -> bool {
     match fs::canonicalize(rt, file.as_str()) {

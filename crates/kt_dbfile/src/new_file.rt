@@ -20,8 +20,8 @@ pub(crate) const SHORTEST_LOG: usize = 56;
 /// The owner's permissions to read and write a file.
 const OWNER_RIGHTS: u32 = 0o600;
 
-/// The first bytes of a file: its format, pages of 0x0400 bytes, a log for writers and readers, no
-/// reserved bytes in a page, and the payload fractions.
+/// The first 24 bytes of a new file: the format, pages of 0x0400 bytes, a log for writers and
+/// readers, no reserved bytes in a page, and the payload fractions.
 const HEADER: [u8; 24] = *b"SQLite format 3\0\x04\x00\x02\x02\x00\x40\x20\x20";
 
 /// Returns the only page of an empty database (SQLite's "Database File Format", sections 1.3 and
@@ -96,8 +96,9 @@ fn may_have_frames<R: Files>(rt: &R, file: &Text) -> Result<bool, NoMemory> {
     })
 }
 
-/// Opens the file for the first page: a new file, or a file that a killed process left. Returns
-/// `None` if something other than a regular file has the path, or if the open fails.
+/// Opens the file at the path `name` for the first page: a new file, or a file that a killed
+/// process left. Returns `None` if something other than a regular file has the path, or if the open
+/// fails.
 // Tested, not proved: results_file_creation_is_atomic.
 fn open_new<R: Files<File = File>>(rt: &R, results: &Text, name: &Text) -> Option<File>
     requires { IsNewNameOf results.now name.now }
@@ -139,7 +140,7 @@ fn name_results<R: Files>(rt: &R, results: &Text, name: &Text) -> bool
     fs::hard_link(rt, name.as_str(), results.as_str()).is_ok()
 }
 
-/// Removes the `-new` path of the results.
+/// Removes the `-new` path of the results file. Ignores a failure.
 fn remove_new<R: Files>(rt: &R, results: &Text, name: &Text)
     requires { IsNewNameOf results.now name.now }
 {
@@ -194,7 +195,8 @@ struct FirstName {
     id: FileId,
 }
 
-/// Returns the `-new` path of a file, if a file has that path.
+/// Returns the `-new` path of `file` with the identity of its file, or `None` if no file is found
+/// there.
 fn first_name<R: Files>(rt: &R, file: &Text) -> Option<FirstName>
     ensures { IfSome result (λ it. IsNewNameOf file.now it.name) }
 {
@@ -204,7 +206,7 @@ fn first_name<R: Files>(rt: &R, file: &Text) -> Option<FirstName>
     Some(FirstName { name, id })
 }
 
-/// Removes a `-new` path of the results file.
+/// Removes a `-new` path of the results file. Ignores a failure.
 fn remove_new_path<R: Files>(rt: &R, results: FileId, file: &Text, first: &FirstName)
     requires name { IsNewNameOf file.now first.now.name }
     requires same { first.now.id ≡ results }
@@ -212,7 +214,7 @@ fn remove_new_path<R: Files>(rt: &R, results: FileId, file: &Text, first: &First
     let _ = fs::remove_file(rt, first.name.as_str());
 }
 
-/// Returns the directory of a file.
+/// Returns the directory of the path `file`, which is `.` if the path has no slash.
 pub(crate) fn directory_of(file: &str) -> &str {
     match file.rsplit_once('/') {
         Some(("", _)) => "/",
@@ -221,7 +223,8 @@ pub(crate) fn directory_of(file: &str) -> &str {
     }
 }
 
-/// Removes a path if it ends in `-new` and is a link to the results file.
+/// Removes a path if it ends in `-new` and is a link to the results file. Returns `None` if an
+/// allocation failed.
 fn remove_if_first<R: Files + AllocGlobal>(rt: &R, path: &str, results: FileId) -> Option<()> {
     let Some(front) = path.strip_suffix("-new") else {
         return Some(());
@@ -236,7 +239,8 @@ fn remove_if_first<R: Files + AllocGlobal>(rt: &R, path: &str, results: FileId) 
 }
 
 /// Removes the `-new` paths that a killed process left for a results file, also if the file was
-/// renamed since. A file with two paths can't be opened.
+/// renamed since. A file with two paths can't be opened. Returns `None` if the directory can't be
+/// read to its end.
 fn remove_first_name<R: Files + AllocGlobal + Clone + Drop>(
     rt: &R,
     file: &Text,

@@ -16,8 +16,9 @@ use sqlite_trees::store::Alter;
 use sqlite_value::row::Row;
 use std::alloc::Global;
 
-/// An edit of one table of the schema. It removes the rows with the rowids `gone`, and adds the
-/// rows `sources`, each read from the column `from`.
+/// An edit of the table at the index `place` of the schema. It removes the rows with the rowids
+/// `gone`, and adds the rows `sources`, each read from the column `from`. `rowids` decides whether
+/// a row without a rowid gets one.
 #[derive(Clone, Copy)]
 pub(crate) struct TableEdit<'a> {
     pub(crate) place: usize,

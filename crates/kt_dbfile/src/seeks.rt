@@ -29,7 +29,7 @@ pub(crate) fn last_number<S: Store>(store: &mut S, alloc: Global) -> Result<u64,
 }
 
 /// Returns the head of a run, or of the last run if `number` is `None`. Returns `None` if there is
-/// no such run. Fails if the file lacks a run with a number up to the last one.
+/// no such run. Fails if `number` is at most that of the last run, but the file lacks the run.
 pub(crate) fn head<S: Store>(
     store: &mut S,
     alloc: Global,
@@ -108,8 +108,9 @@ fn all_entries<S: Store>(store: &mut S, alloc: Global, run: u32) -> Result<Vec<E
     outline_in(alloc, &rows)
 }
 
-/// Reads the entries of a run without their pairs and outputs, ordered by position. Fails if a
-/// finished run or a pair shows that an entry is missing.
+/// Reads the entries of a run without their pairs and outputs, ordered by position. Fails with
+/// `NoRun` if no run has the number. Also fails if a finished run or a pair shows that an entry is
+/// missing.
 pub(crate) fn outline<S: Store>(
     store: &mut S,
     alloc: Global,
@@ -136,7 +137,7 @@ fn key_before_entry(alloc: Global, run: u32, position: u32) -> Result<row::Row, 
     entry_place(alloc, run, position - 1)
 }
 
-/// Reads the pairs of the entry of a run at a position. Returns no pairs if the run has no such
+/// Reads the pairs of the entry at `position` of a run. Returns no pairs if the run has no such
 /// entry.
 pub(crate) fn find_pairs<S: Store>(
     store: &mut S,
@@ -169,7 +170,7 @@ fn stored_outputs(alloc: Global, row: &row::Row) -> Result<CaseOutputs, StoreFau
     Ok(CaseOutputs { body, cleanup })
 }
 
-/// Reads the outputs of the entry of a run at a position. Fails with `NoRun` if the run has no such
+/// Reads the outputs of the entry at `position` of a run. Fails with `NoRun` if the run has no such
 /// entry.
 pub(crate) fn find_outputs<S: Store>(
     store: &mut S,

@@ -21,10 +21,10 @@ pub(crate) const ENTRIES_AT: usize = 2;
 /// The index of the table of pairs in the schema.
 pub(crate) const PAIRS_AT: usize = 3;
 
-/// The tree of the table of runs.
+/// The number of the tree that has the table of runs.
 pub(crate) const RUNS: u32 = 2;
 
-/// Returns the table of entries with its index.
+/// Returns the description of the table of entries and of its index.
 pub(crate) fn entry_table() -> TreeTable<'static>
     ensures tree { result.tree ≡ 3 }
     ensures index { result.index ≡ 4 }
@@ -37,7 +37,7 @@ pub(crate) fn entry_table() -> TreeTable<'static>
     }
 }
 
-/// Returns the table of pairs with its index.
+/// Returns the description of the table of pairs and of its index.
 pub(crate) fn pair_table() -> TreeTable<'static>
     ensures tree { result.tree ≡ 5 }
     ensures index { result.index ≡ 6 }
@@ -59,7 +59,7 @@ pub(crate) fn entry_place(alloc: Global, run: u32, position: u32) -> Result<Row,
     Ok(place)
 }
 
-/// Returns the row of a table with the highest rowid, if there is one.
+/// Returns the row with the highest rowid in the table of `tree`, or `None` if the table is empty.
 pub(crate) fn last_row<S: Store>(
     store: &mut S,
     alloc: Global,

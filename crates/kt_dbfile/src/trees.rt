@@ -21,8 +21,8 @@ use sqlite_value::value::ValueRef;
 use std::alloc::Global;
 use std::cmp::Ordering;
 
-/// A table's tree and the index of its key, with the columns of the key and the columns that are
-/// blobs.
+/// A description of a table: the numbers of its tree and of its key's index, the columns of the
+/// key, and the columns that are blobs.
 #[derive(Clone, Copy)]
 pub(crate) struct TreeTable<'a> {
     pub(crate) tree: u32,
@@ -31,7 +31,8 @@ pub(crate) struct TreeTable<'a> {
     pub(crate) blobs: &'a [usize],
 }
 
-/// Copies the bytes in a column of a stored row. An output is copied only here.
+/// Copies the bytes in a column of a stored row. Fails if the column isn't a blob. An output is
+/// copied only here.
 pub(crate) fn stored_bytes(alloc: Global, row: &row::Row, at: usize) -> Result<Bytes, StoreFailure>
     ensures bytes { (b : List ℕ) → column row.now at ≡ Blob b → IfOk result (λ x. x ≡ b) }
 {
@@ -63,7 +64,7 @@ pub(crate) fn number_row(alloc: Global, number: u32) -> Result<row::Row, NoMemor
     Ok(key)
 }
 
-/// Copies columns of a stored row.
+/// Copies the values of a stored row in `columns`, in this order.
 pub(crate) fn columns_of(
     alloc: Global,
     row: &row::Row,
@@ -78,7 +79,7 @@ pub(crate) fn columns_of(
     Ok(values)
 }
 
-/// Copies columns of a stored row into a row of a query result.
+/// Copies the values of a stored row in `columns` into a row of a query result.
 pub(crate) fn shown(alloc: Global, row: &row::Row, columns: &[usize]) -> Result<Row, NoMemory>
     ensures { IfOk result (λ it. it ≡ in_columns columns.now row.now) }
 {
@@ -87,7 +88,7 @@ pub(crate) fn shown(alloc: Global, row: &row::Row, columns: &[usize]) -> Result<
     Ok(row)
 }
 
-/// Appends columns of a stored row to `found`.
+/// Appends the values of a stored row in `columns` to `found`, as one element.
 fn add_shown<T: FromRow>(
     alloc: Global,
     row: &row::Row,
@@ -136,7 +137,7 @@ fn has_blobs(row: &row::Row, columns: &[usize]) -> bool {
 
 /// Reads the next index entry of the cursor into `place`, and its row into `row`. Returns `true` if
 /// the entry begins with the key, and `false` if it doesn't or if there is no entry. Fails if the
-/// entry isn't that of its row, or if the row has another form.
+/// entry isn't that of its row, or if a blob column of the row has another value.
 pub(crate) fn next_row<S: Store>(
     store: &mut S,
     alloc: Global,
@@ -192,8 +193,8 @@ pub(crate) fn row_under_key<S: Store>(
     Ok(Some(row))
 }
 
-/// Reads columns of the rows of a table under an index key, in the order of the index. Holds one
-/// row at a time.
+/// Reads the values in `columns` of the rows of a table under an index key, in the order of the
+/// index. Holds one row at a time.
 fn rows_under_key<S: Store>(
     store: &mut S,
     alloc: Global,
@@ -225,8 +226,8 @@ fn rows_under_key<S: Store>(
     Err(OTHER_FAILURE)
 }
 
-/// Reads columns of the rows of a table under an index key. First reads the last index entry at or
-/// before the key `before`, and its row: a damaged entry there could be a match.
+/// Reads the values in `columns` of the rows of a table under an index key. First reads the last
+/// index entry at or before the key `before`, and its row: a damaged entry there could be a match.
 pub(crate) fn rows_after<S: Store>(
     store: &mut S,
     alloc: Global,
@@ -279,7 +280,7 @@ pub(crate) fn count_under<S: Store>(
     Err(OTHER_FAILURE)
 }
 
-/// Copies columns of each of these rows.
+/// Copies the values of each of `rows` in `columns`.
 pub(crate) fn all_shown<T: FromRow>(
     alloc: Global,
     rows: &[row::Row],

@@ -19,43 +19,49 @@ use Rattle.kt_store.specs.StoreCalls.{StoreCall}
 use Rattle.kt_store.specs.Types.{Entry, Ghosts, Int, IsClean, Null, Row, Run, Trees, View}
 use Rattle.kt_store.specs.declared.store_fault.StoreFault.{StoreFault}
 
--- `ObeysSchema v schema`: the transaction is not broken, and its trees list `schema` and obey it
+-- `ObeysSchema v schema`: in the view `v` of a store, the transaction is not broken, and the trees
+-- list `schema` and obey it.
 pub record ObeysSchema (v : View) (schema : Schema) : Type 0 where
   pub unbroken : v.is_broken ≡ false
   pub sound : IsSound schema v.trees
 
--- `IsSettledStore v schema`: the store shows its last commit, unless its transaction is broken, and
--- the commit obeys `schema`
+-- `IsSettledStore v schema`: a store with the view `v` shows its last commit, unless its
+-- transaction is broken. If the store is open, the commit lists `schema` and obeys it.
 pub record IsSettledStore (v : View) (schema : Schema) : Type 0 where
   pub settled : IsClean v → v.is_broken ≡ false → v.trees ≡ v.committed
   pub sound : IsTrue v.is_open → IsSound schema v.committed
 
 module _ (schema : Schema) where
-  -- `PutsRows schema place gone rowids from sources old new`: the table at index `place` lost the
-  -- rows with the rowids `gone`, and got the rows `sources`, each read from the column `from`
+  -- `PutsRows schema place gone rowids from sources old new`: `old` and `new` are the trees before
+  -- and after an edit of the table at the index `place` of `schema`. The table loses the rows with
+  -- the rowids `gone`, and gets a row for each of `sources`. A source is read from the column
+  -- `from` on. `rowids` decides whether a row without a rowid gets one. Foreign keys are enforced.
   abbrev pub PutsRows : ℕ → List ℤ → Rowids → ℕ → List Row → Trees → Trees → Type 0
   PutsRows place gone rowids from sources old new =
       (table : Table) → slice_get schema.tables place ≡ Some table → Writes schema Enforced old (edit_of old table gone rowids from sources) (Ok new)
 
--- `unnumbered row`: `row` without a rowid yet
+-- `unnumbered row`: the values `row` after a NULL, which a rowid replaces when the row is written.
 abbrev pub unnumbered : Row → Row
 unnumbered row = Null ∷ row
 
--- `new_run_row total started`: the row of a new run, without a rowid
+-- `new_run_row total started`: the row of a new run without a rowid. The run selected `total`
+-- cases, and began at the timestamp `started`.
 abbrev pub new_run_row : ℕ → ℕ → Row
 new_run_row total started = Null ∷ Null ∷ Int (pos started) ∷ Int (pos total) ∷ Int (pos 0) ∷ []
 
--- `WritesEntryRows schema run e old new`: the entry `e` was written into its table, then its pairs
--- into their table
+-- `WritesEntryRows schema run e old new`: `old` and `new` are the trees before and after the entry
+-- `e` of run `run` is written. Its row is added to the table of entries of `schema`, and then the
+-- rows of its pairs to theirs.
 abbrev pub WritesEntryRows : Schema → ℕ → Entry → Trees → Trees → Type 0
 WritesEntryRows schema run' e old new =
     HasTexts e × ((mid : Trees) × PutsRows schema 2 [] Chosen 0 (unnumbered (entry_row run' e) ∷ []) old mid
     × PutsRows schema 3 [] Chosen 0 (map unnumbered (pair_rows run' e)) mid new)
 
 module _ {S : Type 0} (g : Ghosts S) (schema : Schema) where
-  -- `WritesRows g schema call old new result`: a call wrote its rows or failed, and committed nothing.
-  -- The last commit is unchanged, and a crash leaves what it left before. On success, the trees are
-  -- those of the changed runs.
+  -- `WritesRows g schema call old new result`: the call `call result` of the store `old`, which
+  -- left the store `new`, wrote its rows or failed, and committed nothing. On success, the trees
+  -- obey `schema` and show the changed runs. The last commit is unchanged, and a crash leaves only
+  -- what it might leave before. `g` is the specification of the store.
   pub record WritesRows {T : Type 0} (call : Result T StoreFault → StoreCall) (old new : S) (result : Result T StoreFault) : Type 0 where
     pub clean : IsClean (g.view new) → IsClean (g.view old)
     pub held : IsClean (g.view new) → HoldsCommit (g.view old) (g.view new)
@@ -65,8 +71,10 @@ module _ {S : Type 0} (g : Ghosts S) (schema : Schema) where
     pub rows : (runs : List Run) → HasRuns (g.view old) runs → IsClean (g.view new) → OnOk result (Keeps (runs_after (call result) runs) (g.view new).trees)
 
 module _ {S : Type 0} (g : Ghosts S) where
-  -- `EndsTransaction g old new written result`: the written rows were committed. If `written` is an error or
-  -- the commit failed, the transaction was rolled back.
+  -- `EndsTransaction g old new written result`: a call ended the transaction of the store `old`,
+  -- and left the store `new`. If `written`, the result of writing the rows, is a success, the rows
+  -- are committed. If `written` is an error, or if the commit fails, the transaction is rolled
+  -- back. `result` is the result of writing and committing. `g` is the specification of the store.
   pub record EndsTransaction {T : Type 0} (old new : S) (written result : Result T StoreFault) : Type 0 where
     pub numbered : StaysNumbered (g.view old) (g.view new)
     pub value : IfOk result (λ value. written ≡ Ok value)

@@ -8,19 +8,20 @@ use Rattle.sqlite_schema.specs.Names.{column_named}
 use Rattle.sqlite_schema.specs.declared.schema.Table.{Table}
 use Rattle.kt_store.specs.Types.{Ghosts, IsClean, Run, Trees, View}
 
--- `HasRuns v runs`: while the disk is clean and the store is not broken, its trees are those of a
--- database with `runs`
+-- `HasRuns v runs`: a store with the view `v` shows the trees of a database with `runs`. Nothing is
+-- stated if the store is broken, or if the disk has returned wrong data.
 abbrev pub HasRuns : View → List Run → Type 0
 HasRuns v runs = IsClean v → v.is_broken ≡ false → Keeps runs v.trees
 
--- `HoldsForTrees g old new P`: `P` holds for the runs that the trees represented before a call, if the
--- disk is clean after the call
+-- `HoldsForTrees g old new P`: `P` holds for the runs that the trees of the store `old` represent.
+-- `new` is the store after a call. Nothing is stated if the disk has returned wrong data by then.
+-- `g` is the specification of the store.
 abbrev pub HoldsForTrees : {S : Type 0} → Ghosts S → S → S → (List Run → Type 0) → Type 0
 HoldsForTrees g old new P = (runs : List Run) → HasRuns (g.view old) runs → IsClean (g.view new) → P runs
 
 module _ {S : Type 0} (g : Ghosts S) where
-  -- `by_trees Has`: the specification of a store that represents `runs` if `Has` holds for its view
-  -- and `runs`
+  -- `by_trees g Has`: the specification of a store that represents runs if `Has` holds for its view
+  -- and the runs. `g` is the specification of its trees.
   abbrev pub by_trees : (View → List Run → Type 0) → store.Ghosts S
   by_trees Has = record {
     answers = λ old _ new. StaysNumbered (g.view old) (g.view new);
@@ -31,15 +32,18 @@ module _ {S : Type 0} (g : Ghosts S) where
     ordered = λ s runs h sound. h.2 sound;
   }
 
-  -- the specification of a store that is only read
+  -- `readings g`: the specification of a store that is only read. It represents the runs that its
+  -- trees show. `g` is the specification of its trees.
   abbrev pub readings : store.Ghosts S
   readings = by_trees HasRuns
 
-  -- the specification of a store that is read and written by its trees
+  -- `runs_file g`: the specification of a store that is read and written. It represents the runs of
+  -- its last commit. `g` is the specification of its trees.
   abbrev pub runs_file : store.Ghosts S
   runs_file = by_trees HasCommitted
 
--- `AreNamed table at names`: the columns of `table` from the index `at` have `names`
+-- `AreNamed table at names`: from the index `at` on, the columns of `table` have the names `names`,
+-- in order.
 abbrev pub AreNamed : Table → ℕ → List (List ℕ) → Type 0
 AreNamed table at [] = ⊤
 AreNamed table at (name ∷ names) = (column_named table name ≡ Some at) × AreNamed table (suc at) names

@@ -15,7 +15,7 @@ returns-then-entry-head-clause-refused g c runs has clean =
     let it = c.in_ok-head.ensures.found runs has clean in
     inr (refused_past runs c.args.run c.args.entry.now it.0 it.1 (sym (ap (λ (h : RunHead). h.finished) it.2) ∙ c.if-head.false) (omega (arith, c.if-entry-head.true, ap (λ (h : RunHead). h.total) it.2)))
 
--- the run exists, and whether it has an entry at the position
+-- the run exists, and the result of `is_put` is whether it has an entry at the position
 looked : (g : Over) (c : In_ok-is_put g) (runs : List Run) → HasRuns (g.S.Store.view c.args.store.now) runs → IsClean (g.S.Store.view c.is_put.new.store)
     → (r : Run) × (run_at runs c.args.run ≡ Some r) × (c.in_ok-head.head ≡ head_of r) × AreRuns runs
     × (c.in_ok-is_put.field-0 ≡ has_position c.args.entry.now.position (entries_of (run_at runs c.args.run)))

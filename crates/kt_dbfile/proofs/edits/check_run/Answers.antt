@@ -11,7 +11,7 @@ returns-then-head-clause-refused g c runs has clean =
     let head = c.in_ok-head.ensures.head it.0 it.2 in
     inr (closed_already runs c.args.run it.0 it.1 (sym (ap (λ (h : RunHead). h.finished) head) ∙ c.if-head.true))
 
--- the run exists, and this number of its entries was counted
+-- the run exists, and the result of `count_of` is the number of its entries
 counted : (g : Over) (c : In_ok-count_of g) (runs : List Run) → HasRuns (g.S.Store.view c.args.store.now) runs → IsClean (g.S.Store.view c.count_of.new.store)
     → (r : Run) × (run_at runs c.args.run ≡ Some r) × (c.in_ok-row.row ≡ run_row r) × (c.in_ok-head.head ≡ head_of r) × AreRuns runs
     × (c.in_ok-count_of.field-0 ≡ length (entries_of (run_at runs c.args.run)))

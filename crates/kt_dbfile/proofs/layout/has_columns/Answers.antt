@@ -2,7 +2,7 @@ use Rattle.kt_dbfile.proofs.Common.{AreNamed, List, Some, [], ap, arith, column_
 use Rattle.sqlite_schema.specs.declared.schema.Table.{Table}
 use Rattle.kt_dbfile.proofs.layout.has_columns.Goals as goal
 
--- one of the names is found at its index
+-- each of the names is that of the column at its index
 named : {T : Type 0} (name : T → List ℕ) (d : T) (table : Table) (at i : ℕ) (names : List T) → i < length names → AreNamed table at (map name names) → column_named table (name (get_or names i d)) ≡ Some (at + i)
 named name d table at i [] low are = absurd (omega (arith, low))
 named name d table at zero (x ∷ names) low are = are.0 ∙ ap (λ n. Some n) (omega arith)

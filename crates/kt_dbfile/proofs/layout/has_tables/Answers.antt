@@ -3,7 +3,7 @@ use Rattle.std.specs.Fmt.{digits}
 use Rattle.sqlite_schema.specs.Names.{index_named, same_name, table_named}
 use Rattle.kt_dbfile.proofs.layout.has_tables.Goals as goal
 
--- the tables of schema 2, by name
+-- the tables of schema 2 have these columns, and are found by name
 run_columns : AreNamed runs_1 0 (codes "id" ∷ codes "started" ∷ codes "total" ∷ codes "finished" ∷ [])
 unfolding same_name
 run_columns = (refl, (refl, (refl, (refl, tt))))

@@ -5,7 +5,7 @@ use Rattle.kt_dbfile.proofs.seeks.last_number.Given.{Over}
 use Rattle.kt_dbfile.proofs.seeks.last_number.Goals.{In_ok-row}
 use Rattle.kt_dbfile.proofs.seeks.last_number.Goals as goal
 
--- the rows of runs are in the tree of their table
+-- the runs are numbered, and the tree of their table has their rows
 rows_are : (g : Over) (c : In_ok-row g) (runs : List Run) → HasRuns (g.S.Store.view c.args.store.now) runs → IsClean (g.S.Store.view c.last_row.new.store)
     → AreNumbered 1 runs × ((g.S.Store.view c.args.store.now).trees 2 ≡ map run_row runs)
 rows_are g c runs has clean =

@@ -6,7 +6,7 @@ use Rattle.kt_dbfile.proofs.trees.count_under.Given.{Over}
 use Rattle.kt_dbfile.proofs.trees.count_under.Goals.{In_ok-next}
 use Rattle.kt_dbfile.proofs.trees.count_under.Goals as goal
 
--- the index entries so far are all, if the next one doesn't begin with the key
+-- the entries counted so far are all under the key, if the next one doesn't begin with the key
 all_counted : (g : Over) (c : In_ok-next g) → IsClean (g.S.Store.view c.next.new.self) → AllByRecursion (λ e. begins c.args.key.now e ≡ false) (take 1 (left_of (g.S.Store.view c.places.store) 0))
     → CountsUnderKey c.args.table.now.tree c.args.table.now.index c.args.key.now (g.S.Store.view c.args.store.now).trees c.places.count
 all_counted g c clean none cs mine has =

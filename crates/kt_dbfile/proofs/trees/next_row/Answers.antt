@@ -4,7 +4,7 @@ use Rattle.kt_dbfile.proofs.trees.next_row.Given.{Over}
 use Rattle.kt_dbfile.proofs.trees.next_row.Goals.{In_ok-get}
 use Rattle.kt_dbfile.proofs.trees.next_row.Goals as goal
 
--- a cursor moved, and a row was read
+-- moving a cursor and reading a row only reads the store
 only_looks : (g : Over) (c : In_ok-get g) → OnlyReadsStore g.S.Store c.args.store.now c.get.new.self
 only_looks g c =
     let old = g.S.Store.view c.next.new.self in

@@ -5,7 +5,7 @@ use Rattle.kt_dbfile.proofs.trees.rows_under_key.Given.{Over}
 use Rattle.kt_dbfile.proofs.trees.rows_under_key.Goals.{After-next_row}
 use Rattle.kt_dbfile.proofs.trees.rows_under_key.Goals as goal
 
--- a store that was only read before the next row was only read after it
+-- a store that was only read up to the call of `next_row` was only read up to its return
 only_looks : (g : Over) (c : After-next_row g) → OnlyReadsStore g.S.Store c.args.store.now c.next_row.new.store
 only_looks g c = looks_then g.S.Store _ _ _ c.places.invariant.2 c.next_row.ensures.looks
 
