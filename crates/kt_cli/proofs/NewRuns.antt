@@ -4,8 +4,8 @@ use Rattle.std.proofs.lemmas.Option.{gets}
 use Rattle.kt_cli.proofs.Common.{common_steps, nat_tests, Entry, Run, StoreFault, AreNumbered, new_run, insert_at, has_position, run_at, put_refusal, put_refusal_of, finish, finish_refusal, finish_refusal_of, with_new, put_all, put_among, by_position}
 use Rattle.kt_cli.proofs.Numbered.{entries_last, finish_last}
 
--- `new_one runs moment total finished entries`: the run with the next number after `runs` and with
--- these fields
+-- `new_one runs moment total finished entries`: the run with the number after those of `runs`, the
+-- start `moment`, `total` cases, the flag `finished` and the list `entries`
 abbrev new_one : List Run → ℕ → ℕ → Bool → List Entry → Run
 new_one runs moment total finished entries = record { number = suc (length runs); started = moment; total = total; finished = finished; entries = entries }
 

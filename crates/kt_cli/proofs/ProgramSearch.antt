@@ -24,8 +24,8 @@ behind_text s behind i j u f b =
     subst IsUtf8 (sym b) (subst (λ (k : ℕ). IsUtf8 (drop k s)) (sym at.ends) (IsUtf8-drop s (i + len_utf8 58) u at.after))
 
 module _ {M : Type 0} (answers : M → HostResponse → M → Type 0) (name : List ℕ) where
-  -- if the program is not in the first directory, the search of the whole list is that after the
-  -- colon
+  -- if the program is not in the first directory, the search of the whole list has the result of
+  -- the search after the colon
   pub goes_on : (among rest directory behind : List ℕ) (was old mid : M) → position_or_len colon rest < length rest → directory ≡ before_first colon rest
       → behind ≡ after_first colon rest → HasProgram answers name directory false old mid
       → ((answer : Bool) (new : M) → SearchesDirectories answers name (directories rest) answer old new → SearchesDirectories answers name (directories among) answer was new)

@@ -16,7 +16,7 @@ changed-puts : (number : ℕ) (es : List Entry) (runs : List Run) → changed (p
 changed-puts number [] runs = refl
 changed-puts number (e ∷ es) runs = changed-puts number es (with_entry number e runs)
 
--- the entries that the calls `puts` put are its entries
+-- if the calls after `puts number es` put no entry, all these calls put the entries `es`
 puts_put : (number : ℕ) (es : List Entry) (after : List StoreCall) → entries_put after ≡ [] → entries_put (puts number es ++ after) ≡ es
 puts_put number [] after n = n
 puts_put number (e ∷ es) after n = ap (λ (xs : List Entry). e ∷ xs) (puts_put number es after n)

@@ -3,13 +3,13 @@ use Rattle.std.proofs.Common.{Ok, ◌≡◌, List, [], ◌∷◌, ◌++◌, refl
 use Rattle.kt_cli.proofs.Common.{Run, StoreCall, Began, Put, Finished, Head, Outline, Outputs, Pairs, chain-append, SurvivesCrash, Serves, runs_after, crash_runs_after, changed, beside, Agree, CallsStore}
 use Rattle.kt_store.specs.declared.result_store.StoreSpec as keeping
 
--- the runs after two sequences of calls are those that the second makes of those after the first
+-- the runs after `xs` and then `ys` are those after `ys` on a store with the runs after `xs`
 pub changed-append : (xs ys : List StoreCall) (runs : List Run) → changed (xs ++ ys) runs ≡ changed ys (changed xs runs)
 changed-append [] ys runs = refl
 changed-append (x ∷ xs) ys runs = changed-append xs ys (runs_after x runs)
 
--- the crash outcomes after two sequences of calls are those that the second makes of those after
--- the first
+-- the crash outcomes after `xs` and then `ys` are those after `ys` on a store with the runs and the
+-- crash outcomes after `xs`
 pub beside-append : (xs ys : List StoreCall) (runs : List Run) (may : List (List Run)) → beside (xs ++ ys) runs may ≡ beside ys (changed xs runs) (beside xs runs may)
 beside-append [] ys runs may = refl
 beside-append (x ∷ xs) ys runs may = beside-append xs ys (runs_after x runs) (crash_runs_after x runs may)

@@ -34,7 +34,8 @@ module _ {W : Type 0} (w : World W) where
       → (mid new : W) (m : Reply) → w.replies mid m new → IsIdle (w.running mid) (w.pending mid) → IsIdle (w.running new) (w.pending new)
   idle_after d e mid new m t j = record { runs = λ k role. d mid new m t k role ∙ j.runs k role; pends = λ k. e mid new m t k ∙ j.pends k }
 
-  -- a command that started no case meets `ExecutesWithoutStore` if its world calls mean its output
+  -- a command that started no case and made no store call meets `ExecutesWithoutStore` if its
+  -- output is that of `Means` or `EndsEarly`
   asks_only : (c : Command) (old new : W) (was now : Option (List ℕ)) (exit : ℕ) (questions : List WorldCall) (bytes : List ℕ) (due : ℕ) → Chain (leads_by w.asks w.replies) old questions new
       → (q : Printed was now exit bytes due) → Means (asked_only questions) c bytes due ⊎ EndsEarly (asked_only questions) q.failed c bytes due
       → ExecutesWithoutStore w c old new was now exit
@@ -175,7 +176,7 @@ module _ {W : Type 0} (w : World W) where
     none_asked = record { questions = refl; trace = refl }
 
     module _ (c : Command) (world : W) (store after : R) (was now : Option (List ℕ)) (exit : ℕ) (options : ReportOptions) where
-      -- a report did what `CommandResult` states of its command
+      -- a report that meets `WritesReport` meets `CommandResult`
       reports : {M : List StoreCall → List ℕ → ℕ → Type 0} {C : Bool → List StoreCall → List ℕ → ℕ → Type 0} (k : Command) → c ≡ k → (d : WritesReport keep store after was now exit M C)
           → (M d.calls d.bytes d.due → Means (called_only d.calls) k d.bytes d.due) → (C d.printed.failed d.calls d.bytes d.due → EndsEarly (called_only d.calls) d.printed.failed k d.bytes d.due)
           → CommandResult w keep c (scene world store was) (scene world after now) exit

@@ -65,14 +65,15 @@ module _ {M O : Type 0} (answers : M → HostResponse → M → Type 0) where
 
 module _ {M O : Type 0} (leads : O → Call → O → Type 0) where
   -- `HostStarts leads old job role answer new`: the driver of the world `old` starts the child of
-  -- `job` and `role` with the result `answer`, which leads to `new`. Nothing else in the world
-  -- changes.
+  -- `job` and `role` with the result `answer`, and the world is then `new`. Nothing else in the
+  -- world changes. `leads` is the relation of the system.
   abbrev pub HostStarts : HostWorld M O → Job → Role → StartAnswer → HostWorld M O → Type 0
   HostStarts old job role answer new =
       DriverStarts leads old.driver job role answer new.driver × (new.machine ≡ old.machine) × (new.directory ≡ old.directory) × (new.around ≡ old.around)
 
   -- `HostWaits leads old ended new`: the driver of the world `old` waits for a child with the
-  -- result `ended`, which leads to `new`. Nothing else in the world changes.
+  -- result `ended`, and the world is then `new`. Nothing else in the world changes. `leads` is the
+  -- relation of the system.
   abbrev pub HostWaits : HostWorld M O → Ended → HostWorld M O → Type 0
   HostWaits old ended new = DriverWaits leads old.driver ended new.driver × (new.machine ≡ old.machine) × (new.directory ≡ old.directory) × (new.around ≡ old.around)
 
@@ -89,18 +90,20 @@ module _ {M O : Type 0} where
     replies = IsHostAnswer m.answers o.leads;
   }
 
-  -- `asked_kept old new`: theorem: a call of the machine does not change which children run.
+  -- `asked_kept old new`: theorem: if the worlds `old` and `new` differ only in their machines, the
+  -- same children run in both.
   asked_kept : (old new : HostWorld M O) → new ≡ with_machine old new.machine → new.driver.running ≡ old.driver.running
   asked_kept old new h = ap (λ (w : HostWorld M O). w.driver.running) h
 
-  -- `look_kept answers old new asked`: theorem: the call `asked` for a file does not change which
-  -- children run.
+  -- `look_kept answers old new asked`: theorem: the same children run in the worlds `old` and `new`
+  -- before and after the call `asked` for a file. `answers` is the relation of the machine.
   pub look_kept : (answers : M → HostResponse → M → Type 0) (old new : HostWorld M O) (asked : Asked) → IsFileCall answers old asked new → new.driver.running ≡ old.driver.running
   look_kept answers old new (Read path answer) h = asked_kept old new h.0.0
   look_kept answers old new (Exists path answer) h = asked_kept old new h.0
 
-  -- `running_kept answers leads old new answer`: theorem: the world's call `answer` does not change
-  -- which children run.
+  -- `running_kept answers leads old new answer`: theorem: the same children run in the worlds `old`
+  -- and `new` before and after the world's call `answer`. `answers` and `leads` are the relations
+  -- of the machine and the system.
   pub running_kept : (answers : M → HostResponse → M → Type 0) (leads : O → Call → O → Type 0) (old new : HostWorld M O) (answer : Reply) → IsHostAnswer answers leads old answer new
       → new.driver.running ≡ old.driver.running
   running_kept answers leads old new (ReadConfig path answer) h = asked_kept old new h.0.0

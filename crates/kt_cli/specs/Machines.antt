@@ -42,36 +42,41 @@ module _ {M : Type 0} (answers : M → HostResponse → M → Type 0) where
     too_long : longest_path < length path → Unasked → new ≡ old → CallsAtPath path asked Unasked old new
 
   -- `HasProgram answers name directory answer old new`: a machine in state `old` returns `answer`,
-  -- whether `directory` has the program `name`. Its state is then `new`.
+  -- whether `directory` has the program `name`. Its state is then `new`. `answers` is the relation
+  -- of the machine.
   abbrev pub HasProgram : List ℕ → List ℕ → Bool → M → M → Type 0
   HasProgram name directory answer old new = CallsAtPath (path_in directory name) (IsProgram (path_in directory name) answer) (answer ≡ false) old new
 
   -- `SearchesDirectories answers name directories answer old new`: the program `name` is looked up
   -- in `directories`, in order, up to the first directory that has it. `answer` is whether one has
-  -- it. The calls lead the machine from state `old` to `new`.
+  -- it. The calls lead the machine from state `old` to `new`. `answers` is the relation of the
+  -- machine.
   pub data SearchesDirectories (name : List ℕ) : List (List ℕ) → Bool → M → M → Type 0 where
     nowhere : (old : M) → SearchesDirectories name [] false old old
     here : (directory : List ℕ) (others : List (List ℕ)) (old new : M) → HasProgram name directory true old new → SearchesDirectories name (directory ∷ others) true old new
     further : (directory : List ℕ) (others : List (List ℕ)) (answer : Bool) (old mid new : M) → HasProgram name directory false old mid → SearchesDirectories name others answer mid new
         → SearchesDirectories name (directory ∷ others) answer old new
 
-  -- `IsNamed answers slash path name answer old new`: `answer` is whether the program `name` is
-  -- found. If `slash` is `false`, `name` is looked up in the directories of `path`, the value of
-  -- `PATH`. A name with a slash is not found, and no name is found if `PATH` is not set.
+  -- `IsNamed answers slash path name answer old new`: a machine in state `old` returns `answer`,
+  -- whether the program `name` is found, and its state is then `new`. If `slash` is `false`, `name`
+  -- is looked up in the directories of `path`, the value of `PATH`. A name with a slash is not
+  -- found, and no name is found if `PATH` is not set. `answers` is the relation of the machine.
   abbrev pub IsNamed : Bool → Option (List ℕ) → List ℕ → Bool → M → M → Type 0
   IsNamed false (Some path) name answer old new = SearchesDirectories (utf8 name) (directories (utf8 path)) answer old new
   IsNamed false None name answer old new = (answer ≡ false) × (new ≡ old)
   IsNamed true path name answer old new = (answer ≡ false) × (new ≡ old)
 
-  -- `IsFoundByName answers absolute path name answer old new`: `answer` is whether the program
-  -- `name` is found. If `absolute` is `true`, `name` is looked up as a path, else by `IsNamed` in
-  -- the directories of `path`.
+  -- `IsFoundByName answers absolute path name answer old new`: a machine in state `old` returns
+  -- `answer`, whether the program `name` is found, and its state is then `new`. If `absolute` is
+  -- `true`, `name` is looked up as a path, else by `IsNamed` in the directories of `path`.
+  -- `answers` is the relation of the machine.
   abbrev pub IsFoundByName : Bool → Option (List ℕ) → List ℕ → Bool → M → M → Type 0
   IsFoundByName true path name answer old new = answers old (IsProgram (utf8 name) answer) new
   IsFoundByName false path name answer old new = IsNamed (list_any is_slash name) path name answer old new
 
   -- `IsFoundByPath answers path name answer old new`: a machine in state `old` returns `answer`,
   -- whether the required program `name` exists for the value `path` of `PATH`. Its state is then
-  -- `new`. A name that begins with a slash is an absolute path.
+  -- `new`. A name that begins with a slash is an absolute path. `answers` is the relation of the
+  -- machine.
   abbrev pub IsFoundByPath : Option (List ℕ) → List ℕ → Bool → M → M → Type 0
   IsFoundByPath path name answer old new = IsFoundByName (is_absolute name) path name answer old new

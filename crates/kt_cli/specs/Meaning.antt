@@ -128,7 +128,8 @@ module _ {W R : Type 0} (w : World W) (r : keeping.Ghosts R) where
   -- `CommandResult w r c old new exit`: `execute` ran the command `c` from scene `old` to `new`
   -- with the exit status `exit`. `seen` are its calls. The output is that of `Means` or
   -- `EndsEarly`. If a write failed, the writer has a proper prefix of the output. `stored` states
-  -- the effect on the runs, and no other field depends on what the store contains.
+  -- the effect on the runs, and no other field depends on what the store contains. `w` has the
+  -- relations of the world, and `r` is the specification of the store.
   pub record CommandResult (c : Command) (old new : Scene W R) (exit : ℕ) : Type 0 where
     pub seen : CommandCalls
     pub course : LeadsWorld w seen old.world new.world

@@ -4,8 +4,8 @@ use Rattle.kt_cli.specs.Types.{AreNumbered, Run, StoreCall}
 use Rattle.kt_store.specs.declared.result_store.StoreSpec as keeping
 use Rattle.kt_store.specs.Runs.{AreOrdered}
 
--- `AnswersInMemory m call n`: the call `call` may lead from `m` to `n`. The relation always holds,
--- because each call has its own contract.
+-- `AnswersInMemory m call n`: the call `call` may lead a store from the runs `m` to `n`. The
+-- relation always holds, because each call has its own contract.
 abbrev pub AnswersInMemory : List Run → StoreCall → List Run → Type 0
 AnswersInMemory m call n = Unit {0}
 
@@ -19,8 +19,8 @@ StandsInMemory m runs = (m ≡ runs) × AreNumbered 1 runs × AreOrdered runs
 abbrev pub IsSoundInMemory : List Run → Type 0
 IsSoundInMemory m = ⊤
 
--- `LeavesInMemory m may`: a crash leaves one of `may`. The relation always holds, because a crash
--- leaves no store in memory, so it can't leave wrong runs.
+-- `LeavesInMemory m may`: a crash of the store `m` leaves one of the lists of runs `may`. The
+-- relation always holds, because a crash leaves no store in memory, so it can't leave wrong runs.
 abbrev pub LeavesInMemory : List Run → List (List Run) → Type 0
 LeavesInMemory m may = ⊤
 

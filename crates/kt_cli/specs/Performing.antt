@@ -41,7 +41,8 @@ pub record Program (M O P S : Type 0) : Type 1 where
   pub results : keeping.Ghosts S
 
 module _ {M O P S : Type 0} where
-  -- `program machine system platform results`: the `Program` with the relations of these parts.
+  -- `program machine system platform results`: the `Program` with the relations `machine`, `system`
+  -- and `platform` of its parts, and with the specification `results` of its stores.
   abbrev pub program : machine.Ghosts M → system.Ghosts O → platform.Ghosts P S → keeping.Ghosts S → Program M O P S
   program machine system platform results = record { machine = machine; system = system; platform = platform; results = results }
 
@@ -51,14 +52,15 @@ pub record State (M O P : Type 0) : Type 0 where
   pub platform : P
   pub outside : HostHandles M O
 
--- `state platform outside`: the `State` with these parts.
+-- `state platform outside`: the `State` of a program with the platform `platform` and the handles
+-- `outside` of the host.
 abbrev pub state : {M O P : Type 0} → P → HostHandles M O → State M O P
 state platform outside = record { platform = platform; outside = outside }
 
 module _ {O : Type 0} (o : system.Ghosts O) (os : O) where
   -- `IsMade o os here base kyuafile d`: `d` is a new driver for the programs of `kyuafile`, made
   -- from the system `os` with a new root directory in `base`. `here` is the working directory, and
-  -- no child runs.
+  -- no child runs. `o` has the relations of the system.
   pub record IsMade (here base kyuafile : List ℕ) (d : Driver O) : Type 0 where
     pub calls : List Call
     pub asked : Chain o.leads os calls d.os
@@ -69,7 +71,7 @@ module _ {O : Type 0} (o : system.Ghosts O) (os : O) where
 
   -- `NoRoot o os base fault left`: no driver was created, because `base` is not absolute, no root
   -- directory could be created in `base`, or an allocation failed. `fault` is the cause. `os` and
-  -- `left` are the system before and after.
+  -- `left` are the system before and after, and `o` has its relations.
   pub data NoRoot (base : List ℕ) : DriverFault → O → Type 0 where
     not_absolute : is_absolute base ≡ false → NoRoot base NoWorkDirectory os
     none_made : (fault : DriverFault) (calls : List Call) (left : O) → Chain o.leads os calls left → FindsRoot base calls (Err fault) → NoRoot base fault left
@@ -77,7 +79,7 @@ module _ {O : Type 0} (o : system.Ghosts O) (os : O) where
 module _ {M O : Type 0} (o : system.Ghosts O) (before : HostHandles M O) where
   -- `NoDriver o before base fault after`: no driver with a root directory in `base` was created,
   -- because of `fault`, and the machine was not called. `before` and `after` are the handles of the
-  -- host.
+  -- host, and `o` has the relations of the system.
   abbrev pub NoDriver : List ℕ → DriverFault → HostHandles M O → Type 0
   NoDriver base fault after = NoRoot o before.os base fault after.os × (after.machine ≡ before.machine)
 
@@ -86,7 +88,9 @@ module _ {M O R : Type 0} (m : machine.Ghosts M) (o : system.Ghosts O) (r : keep
   -- the command `c` with `options` was executed in the process environment `around`, and its exit
   -- status is `exit`. `c` used the files below its Kyuafile's directory, and a new driver, whose
   -- root directory was removed at the end. Nothing else was called. The calls of the driver's
-  -- system are those for the events of the trace, from a state without running children.
+  -- system are those for the events of the trace, from a state without running children. `m` and
+  -- `o` have the relations of the machine and the system, and `r` is the specification of the
+  -- store.
   pub record ExecutesOverDriver (around : ProcessEnv) (options : CaseOptions) (c : Command) (exit : ℕ) : Type 0 where
     pub old : HostWorld M O
     pub new : HostWorld M O
@@ -108,7 +112,7 @@ module _ {M O P S R : Type 0} (p : Program M O P S) (r : keeping.Ghosts R) where
   -- over a store with the specification `r`, and its exit status is `exit`. A report uses only the
   -- store. A command over test cases also reads the working directory and the environment of the
   -- process, and creates a driver. If one of these steps fails, an error line is printed, and the
-  -- store is unchanged.
+  -- store is unchanged. `p` has the relations of the program.
   pub data OverProcesses (c : Command) (old new : Scene (State M O P) R) (exit : ℕ) : Type 0 where
     needs_nothing : cases_of c ≡ None → new.world ≡ old.world → CommandResult no_world r c (with_world tt old) (with_world tt new) exit → OverProcesses c old new exit
     done : (options : CaseOptions) (around : ProcessEnv) → cases_of c ≡ Some options → p.platform.provides old.world.platform (Found (Ok around)) new.world.platform
@@ -158,7 +162,8 @@ access_of _ = Read
 module _ {M O P S : Type 0} (p : Program M O P S) where
   -- `WithResults p c file old new exit`: from scene `old` to `new`, the results file `file` was
   -- opened, the command `c` was executed, and the file was closed once. `exit` is the exit status.
-  -- If the open failed, an error line was printed, and nothing else was called.
+  -- If the open failed, an error line was printed, and nothing else was called. `p` has the
+  -- relations of the program.
   pub data WithResults (c : Command) (file : List ℕ) (old new : Scene (State M O P) (Unit {0})) (exit : ℕ) : Type 0 where
     not_opened : (fault : StoreFault) → p.platform.provides old.world.platform (Opened file (access_of c) (Err fault)) new.world.platform → new.world.outside ≡ old.world.outside
         → Printed old.held new.held exit (utf8 (refusal_line fault)) failure_exit → WithResults c file old new exit
@@ -169,14 +174,14 @@ module _ {M O P S : Type 0} (p : Program M O P S) where
 
   -- `RunsCommand p c file old new exit`: from scene `old` to `new`, the command `c` was executed
   -- over the results file `file`. Without a file, `c` was executed over an empty store in memory.
-  -- `exit` is the exit status.
+  -- `exit` is the exit status. `p` has the relations of the program.
   abbrev pub RunsCommand : Command → Option (List ℕ) → Scene (State M O P) (Unit {0}) → Scene (State M O P) (Unit {0}) → ℕ → Type 0
   RunsCommand c (Some file) old new exit = WithResults c file old new exit
   RunsCommand c None old new exit = (after : List Run) × OverProcesses p memory_runs c (with_store [] old) (with_store after new) exit
 
   -- `ExecutesAndWrites p c old new was now exit`: from state `old` to `new`, the command `c` was
   -- executed, and then its output was flushed. Standard output had been given `was`, and its state
-  -- is then `now`. `exit` is the exit status.
+  -- is then `now`. `exit` is the exit status. `p` has the relations of the program.
   pub record ExecutesAndWrites (c : Command) (old new : State M O P) (was : Option (List ℕ)) (now : LineState) (exit : ℕ) : Type 0 where
     pub held : Option (List ℕ)
     pub due : ℕ
@@ -185,7 +190,8 @@ module _ {M O P S : Type 0} (p : Program M O P S) where
 
   -- `RunsArguments p command old new was now exit`: `command`, the parse of the arguments, was
   -- executed from state `old` to `new`, or its fault was printed and nothing was called. `was` and
-  -- `now` are the streams before and after, and `exit` is the exit status.
+  -- `now` are the streams before and after, and `exit` is the exit status. `p` has the relations of
+  -- the program.
   abbrev pub RunsArguments : Result Command CommandFault → State M O P → State M O P → Streams → Streams → ℕ → Type 0
   RunsArguments (Ok c) old new was now exit = ExecutesAndWrites c old new was.out.given now.out exit × (now.errors ≡ was.errors)
   RunsArguments (Err fault) old new was now exit = Rejected fault was now exit × (new ≡ old)

@@ -13,7 +13,8 @@ pub record Scene (W R : Type 0) : Type 0 where
   pub store : R
   pub held : Option (List ℕ)
 
--- `scene world store held`: the `Scene` with these parts.
+-- `scene world store held`: the `Scene` of the world `world`, the store `store` and a writer with
+-- the content `held`.
 abbrev pub scene : {W R : Type 0} → W → R → Option (List ℕ) → Scene W R
 scene world store held = record { world = world; store = store; held = held }
 

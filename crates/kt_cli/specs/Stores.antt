@@ -54,10 +54,11 @@ Agree runs [] = ⊤
 Agree runs (call ∷ calls) = Agrees runs call × Agree (runs_after call runs) calls
 
 module _ {R : Type 0} (r : keeping.Ghosts R) where
-  -- `ChangesRuns r calls old new`: the effect of `calls` on a store, from state `old` to `new`. If
-  -- `old` represents runs, `new` represents the changed runs. If `new` is sound, `old` was sound,
-  -- and each result agrees with the runs. If a crash in `old` left `runs` or one of `may`, a crash
-  -- in `new` leaves the changed runs or one of `beside calls runs may`.
+  -- `ChangesRuns r calls old new`: the effect of `calls` on a store with the specification `r`,
+  -- from state `old` to `new`. If `old` represents runs, `new` represents the changed runs. If
+  -- `new` is sound, `old` was sound, and each result agrees with the runs. If a crash in `old` left
+  -- `runs` or one of `may`, a crash in `new` leaves the changed runs or one of
+  -- `beside calls runs may`.
   pub record ChangesRuns (calls : List StoreCall) (old new : R) : Type 0 where
     pub stands : (runs : List Run) → r.stands old runs → r.stands new (changed calls runs)
     pub earlier : (runs : List Run) → r.stands old runs → r.sound new → r.sound old

@@ -55,8 +55,8 @@ abbrev pub begins : PlannedRun → Result ℕ StoreFault → StoreCall
 begins planned answer = Began (length planned.plan) planned.moment answer
 
 -- `Tested planned T calls bytes exit`: the run `planned` with the trace `T` was completed. `calls`
--- begin the run, put each entry in the order of recording, and finish the run. `bytes` is the
--- output, and `exit` the exit status.
+-- begin the run, put each entry in record order, and finish the run. `bytes` is the output, and
+-- `exit` the exit status.
 pub data Tested (planned : PlannedRun) (T : Trace) : List StoreCall → List ℕ → ℕ → Type 0 where
   recorded : (number : ℕ) (entries : List Entry) → AllRecorded planned.plan planned.width T entries
       → Tested planned T (begins planned (Ok number) ∷ (puts number entries ++ Finished number (Ok tt) ∷ [])) (results entries planned.words planned.unmatched) (results_exit entries planned.unmatched)

@@ -28,6 +28,10 @@ fn write_fault<O: Write>(words: &str, out: &mut O) -> Result<(), OutputFault>
 ///
 /// `_refusal` isn't printed. It is a parameter so that only a caller with a failed allocation can
 /// print this line.
+///
+/// # Errors
+///
+/// - `OutputFault`: a write fails. A proper prefix of the line was written.
 #[tactic(auto, unfolding(crate::proofs::Common::chars))]
 pub fn write_memory<O: Write>(_refusal: NoMemory, out: &mut O) -> Result<(), OutputFault>
     ensures { Shows (O.contents out.old) (O.contents out.new) (is_err result) (utf8 memory_line) }
@@ -37,6 +41,11 @@ pub fn write_memory<O: Write>(_refusal: NoMemory, out: &mut O) -> Result<(), Out
 
 /// Writes the error line of a run that failed with `fault`. If `written`, the result of the earlier
 /// writes, is an error, writes nothing and returns this error.
+///
+/// # Errors
+///
+/// - `OutputFault`: a write fails, or `written` is an error. A proper prefix of the line was
+///   written.
 pub fn write_run_fault<O: Write>(
     written: Result<(), OutputFault>,
     fault: RunFault,
@@ -50,6 +59,10 @@ pub fn write_run_fault<O: Write>(
 }
 
 /// Writes the error line of a failed call of the results store.
+///
+/// # Errors
+///
+/// - `OutputFault`: a write fails. A proper prefix of the line was written.
 pub fn write_refusal<O: Write>(fault: StoreFault, out: &mut O) -> Result<(), OutputFault>
     ensures { Shows (O.contents out.old) (O.contents out.new) (is_err result)
         (utf8 (refusal_line fault)) }
@@ -105,8 +118,8 @@ pub fn print_store_fault<O: Write>(fault: StoreFault, out: &mut O) -> Exit
 /// Returns the exit status of a command that ended with `exit`, after its results file was closed
 /// with the result `closed`.
 ///
-/// If the close failed, prints the fault and returns 2. The entries are then safe in the log next
-/// to the file. If the status is 2 already, prints nothing.
+/// If the close failed, prints the fault and returns 2. The runs are then in the file and its log.
+/// If the status is 2 already, prints nothing.
 pub fn with_closed<O: Write>(exit: Exit, closed: Result<(), StoreFault>, out: &mut O) -> Exit
     ensures { ClosesResults closed (O.contents out.old) (O.contents out.new) exit.status result.status }
 {
@@ -175,6 +188,10 @@ fn write_warning_at<O: Write>(
 
 /// Writes a warning for each filter that matches no case, in the order of the filters. The warning
 /// quotes the filter as it was given.
+///
+/// # Errors
+///
+/// - `OutputFault`: a write fails. A proper prefix of the warnings was written.
 pub fn write_warnings<O: Write>(
     options: &CaseOptions,
     chosen: &Chosen,

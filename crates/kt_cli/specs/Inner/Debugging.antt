@@ -26,6 +26,7 @@ module _ {L : Type 0} (l : launcher.Ghosts L) (plan : List Job) where
   -- `ExecutesDebug l plan old new was now failed answer`: `plan` was executed one case at a time,
   -- from launcher `old` to `new`, with the result `answer`, and each entry was printed. `was` and
   -- `now` are the contents of the writer before and after, and `failed` is whether a write failed.
+  -- `l` has the relations of the launcher.
   pub record ExecutesDebug (old new : L) (was now : Option (List ℕ)) (failed : Bool) (answer : Result Totals RunFault) : Type 0 where
     pub trace : Trace
     pub leads : Leads l.starts l.waits plan trace old new

@@ -12,7 +12,7 @@ asked_only questions = record { questions = questions; plan = []; trace = NoEven
 module _ {W : Type 0} (w : World W) where
   -- `ExecutesWithoutStore w c old new was now exit`: the command `c`, which makes no store calls,
   -- was executed from world `old` to `new`, with the exit status `exit`. `was` and `now` are the
-  -- contents of the writer before and after.
+  -- contents of the writer before and after. `w` has the relations of the world.
   pub record ExecutesWithoutStore (c : Command) (old new : W) (was now : Option (List ℕ)) (exit : ℕ) : Type 0 where
     pub seen : CommandCalls
     pub course : LeadsWorld w seen old new

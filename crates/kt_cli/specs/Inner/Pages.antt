@@ -9,7 +9,8 @@ abbrev pub SaysMore : Option (List ℕ) → Bool → Option (List ℕ) → Bool 
 SaysMore old false new failed bytes = Shows old new failed bytes
 SaysMore old true new failed bytes = (new ≡ old) × (failed ≡ true)
 
--- `Says old before new failed bytes`: `SaysMore` as a record: `bytes` were written, unless an
--- earlier write failed (`before`); `failed` is whether a write has failed then.
+-- `Says old before new failed bytes`: from content `old` to content `new` of a writer, `bytes` were
+-- written, unless an earlier write failed (`before`). `failed` is whether a write has failed then.
+-- This is `SaysMore` as a record.
 pub record Says (old : Option (List ℕ)) (before : Bool) (new : Option (List ℕ)) (failed : Bool) (bytes : List ℕ) : Type 0 where
   pub more : SaysMore old before new failed bytes

@@ -26,7 +26,8 @@ pub record Recording (R : Type 0) : Type 0 where
   pub failed : Bool
   pub held : Option (List ℕ)
 
--- `recording store number failed held`: the `Recording` with these parts.
+-- `recording store number failed held`: the `Recording` of a recorder with the store `store`, the
+-- run `number` and the writer's content `held`. `failed` is whether a write has failed.
 abbrev pub recording : {R : Type 0} → R → ℕ → Bool → Option (List ℕ) → Recording R
 recording store number failed held = record { store = store; number = number; failed = failed; held = held }
 
@@ -34,7 +35,7 @@ module _ {R : Type 0} (r : keeping.Ghosts R) where
   -- `Recorded r old e result new`: a put of the entry `e` into a recorder in state `old` led to
   -- state `new`, with the result `result`. The put into the store succeeded and the entry's line
   -- was written, unless an earlier write failed. Or the put into the store failed and nothing was
-  -- written.
+  -- written. `r` is the specification of the store.
   abbrev pub Recorded : Recording R → Entry → Result (Unit {0}) SinkFault → Recording R → Type 0
   Recorded old e (Ok x) new =
       (new.number ≡ old.number) × CallsStore r (Put old.number e (Ok tt) ∷ []) old.store new.store × Says old.held old.failed new.held new.failed (line_bytes e)

@@ -1,4 +1,4 @@
--- The state after a plan was executed and recorded, by the result.
+-- The entries that the execution of a plan recorded, and the lines that it printed.
 use Rattle.std.specs.Prelude.{ℕ, Bool, false, List, [], ◌∷◌, ◌++◌, ◌≡◌, Result, Ok, Err}
 use Rattle.kt_cli.specs.Types.{Counts, Entry, Job, Leads, NoEvent, Put, RunFault, SinkFailed, SinkFault, StoreCall, StoreFault, Totals, Trace}
 use Rattle.kt_sched.specs.declared.launcher.Launcher as launcher
@@ -27,9 +27,9 @@ pub record RecordedNone (T : Trace) (entries : List Entry) (last : List StoreCal
   pub taken : last ≡ []
 
 module _ (plan : List Job) (n number : ℕ) (T : Trace) (entries : List Entry) (last : List StoreCall) where
-  -- `RecordedSome plan n number T entries last fault`: `entries` were recorded, and `last` is the
-  -- failed put of the next entry into run `number`. `fault` is the fault that the sink returned for
-  -- it.
+  -- `RecordedSome plan n number T entries last fault`: in the trace `T` of `plan` at width `n`,
+  -- `entries` were recorded, and `last` is the failed put of the next entry into run `number`.
+  -- `fault` is the fault that the sink returned for it.
   pub record RecordedSome (fault : SinkFault) : Type 0 where
     pub entry : Entry
     pub refusal : StoreFault
@@ -37,8 +37,9 @@ module _ (plan : List Job) (n number : ℕ) (T : Trace) (entries : List Entry) (
     pub one : last ≡ Put number entry (Err refusal) ∷ []
     pub stopped : IsStopped plan n T entries entry
 
-  -- `RecordEnds plan n number T entries last outcome`: `entries` were recorded and `last` is the
-  -- failed put, if any, as the result `outcome` of the execution of `plan` requires.
+  -- `RecordEnds plan n number T entries last outcome`: the execution of `plan` at width `n` with
+  -- the trace `T` had the result `outcome`. It recorded `entries` in run `number`, and `last` is
+  -- the failed put, if any. `RecordedAll`, `RecordedSome` or `RecordedNone` holds, by the result.
   abbrev pub RecordEnds : Result Totals RunFault → Type 0
   RecordEnds (Ok totals) = RecordedAll plan n T entries last totals
   RecordEnds (Err (SinkFailed fault)) = RecordedSome fault
@@ -48,7 +49,8 @@ module _ {L R : Type 0} (l : launcher.Ghosts L) (r : keeping.Ghosts R) (plan : L
   -- `Records l r plan n number old new answer failed`: from scene `old` to `new`, `plan` was
   -- executed at width `n` with the result `answer`. The store calls put entries into run `number`,
   -- and the last put may have failed. The lines of the successful puts were printed in order,
-  -- unless a write failed (`failed`).
+  -- unless a write failed (`failed`). `l` has the relations of the launcher, and `r` is the
+  -- specification of the store.
   pub record Records (old new : Scene L R) (answer : Result Totals RunFault) (failed : Bool) : Type 0 where
     pub trace : Trace
     pub leads : Leads l.starts l.waits plan trace old.world new.world

@@ -11,7 +11,8 @@ pub struct Backlog {
     start: usize,
 }
 
-/// Written out instead of derived: for the prover, a drop is then one call.
+/// A manual `Drop`, for the prover: a drop is one call, and only this function takes the fields
+/// apart.
 impl Drop for Backlog {
     fn drop(self) {
         let Backlog { bytes: _, start: _ } = self;
@@ -57,7 +58,9 @@ impl Backlog {
 
     /// Appends bytes to the end of the backlog.
     ///
-    /// Fails if the allocation fails, and then changes nothing.
+    /// # Errors
+    ///
+    /// - `NoMemory`: the allocation fails. The backlog is unchanged.
     pub fn append(&mut self, more: &[u8]) -> Result<(), NoMemory>
         ensures ok { OnOk result (self.new ≡ self.old ++ more.now) }
         ensures err { OnErr result (self.new ≡ self.old) }
@@ -67,7 +70,8 @@ impl Backlog {
         Ok(())
     }
 
-    /// Frees the memory of the written bytes if they are at least as many as the remaining ones.
+    /// Moves the remaining bytes to the start of the buffer, if at least as many bytes before them
+    /// were written.
     fn remove_written(&mut self)
         ensures { self.new ≡ self.old }
     {

@@ -12,7 +12,11 @@ pub struct FlushFault {
 #[derive(Clone, Copy)]
 struct FailedFlush;
 
-/// Calls `flush` of a writer, and converts its error to a `FlushFault`.
+/// Calls `flush` of a writer.
+///
+/// # Errors
+///
+/// - `FlushFault`: the flush fails.
 pub fn flush_own<W: Write>(out: &mut W) -> Result<(), FlushFault>
     ensures { Keeps (W.contents out.old) (W.contents out.new) }
 {

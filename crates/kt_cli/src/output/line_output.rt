@@ -10,9 +10,9 @@ use std::io::{ErrorKind, Write};
 /// A buffered writer, which writes when its buffer of 64 KiB is full.
 ///
 /// If `by_line` is set, it also writes when a line is complete. An interrupted write counts as
-/// failed, and so does a write that takes no byte. After a failed write of the inner writer, each
-/// later call fails, and nothing more is written. A drop writes nothing. The writer allocates
-/// nothing.
+/// failed, and so does a write that takes no byte. After a failed write or flush of the inner
+/// writer, each later call fails, and nothing more is written. A drop writes nothing. The writer
+/// allocates nothing.
 #[derive(Drop)]
 pub struct LineOutput<W> {
     out: W,

@@ -20,8 +20,8 @@ pub trait Outlet: Write {
 
     /// Takes bytes without waiting, to write them before all later bytes.
     ///
-    /// From then on the writer takes no offers. The next write or flush writes the bytes that were
-    /// put aside first, and waits for the reader.
+    /// Until the next write or flush, the writer takes no offers. This write or flush first writes
+    /// the bytes that were put aside, and waits for the reader.
     ///
     /// # Errors
     ///

@@ -19,7 +19,7 @@ impl<'a, W> SharedOutput<'a, W> {
     }
 }
 
-/// Creates the error of a call while another call is in progress, which does not happen.
+/// Creates the error that a call returns while another call is in progress. This does not happen.
 fn in_use() -> io::Error {
     io::Error::from(ErrorKind::Other)
 }
