@@ -1,4 +1,4 @@
-//! The program `kyua`: executes its arguments on the host, with the commands of kt_cli.
+//! The program `kyua`: executes the command in its arguments on the host, by kt_cli.
 #![tactic(auto)]
 
 mod host;
@@ -17,7 +17,8 @@ use std::process::ExitCode;
 
 /// Executes the command in the arguments of the process, and returns the exit status.
 ///
-/// Bytes that the reader of standard output does not take yet are held in memory.
+/// Bytes that the reader of standard output does not take yet are held in memory or in a temporary
+/// file.
 fn execute<P: ResultsHost>(rt: &HostRuntime, host: &mut P) -> ExitCode {
     let held = RefCell::new(HeldOutput::new(rt.alloc(), StandardOutput::new(rt)));
     let outside = HostHandles {
