@@ -93,10 +93,11 @@ def check(crate, group, kept):
 
 
 def leave_proofs_open(crate, names, place):
-    """Gives each function in a copy of a crate, except these, a proof with a hole, since the functions that call it need only its contract."""
+    """Gives each function in a copy of a crate, except these, a proof with a hole, since the functions that call it need only its contract.
+    The proof of a recursive function can't be replaced."""
     for file in sources(crate):
         for own in functions(crate, file):
-            if own["path"] in names or own["is_in_cycle"]:
+            if own["path"] in names or own["is_recursive"]:
                 continue
             parts = own["path"].split("::")[1:]
             folder = f"{place}/proofs/{'/'.join(parts)}"

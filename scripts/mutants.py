@@ -132,8 +132,14 @@ def functions(crate, file):
         name = f"{within}::{head[4]}" if within else head[4]
         is_public = head[2] == "pub "
         found.append({"path": path, "name": name, "owner": within, "trait": trait if within else None, "first": at, "last": last,
-                      "is_public": is_public, "file": file, "is_in_cycle": "#[cycle" in "".join(lines[max(0, at - 3) : at]), "text": "\n".join(lines[at : last + 1])})
+                      "is_public": is_public, "file": file, "is_recursive": is_recursive(path), "text": "\n".join(lines[at : last + 1])})
     return found
+
+
+def is_recursive(path):
+    """Returns `True` if a function calls itself. The directory of its proof then has a plus sign before the name."""
+    crate, *within, name = path.split("::")
+    return os.path.isdir(f"{TOP}/crates/{crate}/proofs/{'/'.join([*within, '+' + name])}")
 
 
 def sources(crate):
