@@ -73,8 +73,8 @@ pub record MakesNoCalls (seen : CommandCalls) : Type 0 where
   pub questions : seen.questions ≡ []
   pub trace : seen.trace ≡ NoEvent
 
--- `Means seen c bytes exit`: by the calls `seen`, the command `c` prints `bytes` and has the exit
--- status `exit`, without an early end. Each constructor is one kind of command or outcome.
+-- `Means seen c bytes exit`: if the calls of the command `c` are `seen`, the command prints all of
+-- `bytes` and has the exit status `exit`. Each constructor is one kind of command or result.
 pub data Means (seen : CommandCalls) : Command → List ℕ → ℕ → Type 0 where
   stopped : (c : Command) (options : CaseOptions) (fault : Stop) → cases_of c ≡ Some options → Selects (needs_case c) options seen.questions (Err fault) → OnlyListsCases seen
       → Means seen c (utf8 (stop_line fault)) (stop_exit fault)

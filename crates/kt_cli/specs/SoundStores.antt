@@ -43,9 +43,10 @@ pub data Adds (runs : List Run) (calls : List StoreCall) : Type 0 where
       → (finished ≡ true → length (entries_put calls) ≡ total) → Adds runs calls
 
 module _ {W R : Type 0} {w : World W} {r : keeping.Ghosts R} {c : Command} {old new : Scene W R} {exit : ℕ} (did : CommandResult w r c old new exit) (runs : List Run) where
-  -- `StoreIsSound did runs`: each store call of the command execution `did` meets `OnlyFails`, and
-  -- the calls meet `Adds` for `runs`, those before the command. `CommandResult.stored` states for
-  -- any store how results agree with the runs, and which runs a crash leaves.
+  -- `StoreIsSound did runs`: each store call of the command execution `did` meets `OnlyFails`. All
+  -- its store calls together meet `Adds` for `runs`, the runs before the command.
+  -- `CommandResult.stored` states for any store how results agree with the runs, and which runs a
+  -- crash leaves.
   pub record StoreIsSound : Type 0 where
     pub only_fails : AllByRecursion OnlyFails did.seen.calls
     pub adds : Adds runs did.seen.calls

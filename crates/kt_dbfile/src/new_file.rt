@@ -223,8 +223,9 @@ pub(crate) fn directory_of(file: &str) -> &str {
     }
 }
 
-/// Removes a path if it ends in `-new` and is a link to the results file. Returns `None` if an
-/// allocation failed.
+/// Removes `path` if it ends in `-new` and is a hard link to the results file.
+///
+/// Returns `None` if an allocation for the path without `-new` fails. Any other failure is ignored.
 fn remove_if_first<R: Files + AllocGlobal>(rt: &R, path: &str, results: FileId) -> Option<()> {
     let Some(front) = path.strip_suffix("-new") else {
         return Some(());

@@ -63,7 +63,8 @@ pub fn push_calls(out: &mut ExampleOutput, shown: &str, log: &str) -> Result<()>
     Ok(())
 }
 
-/// Appends the number of cases that passed, and the verdict of the first other case.
+/// Appends the numbers of passed cases and of all cases, as `2 of 3 passed`, and the verdict of the
+/// first case that did not pass, if any.
 fn push_totals(out: &mut ExampleOutput, entries: &[Entry]) {
     let (mut passed, mut other) = (0usize, None);
     for entry in entries {
@@ -96,9 +97,11 @@ fn push_leftovers(out: &mut ExampleOutput, log: &str) {
     write!(out, "{killed} killed, {left} left");
 }
 
-/// Appends the part of a run that `word` selects. `calls`, `words` and `watching` select calls, and
-/// `spawns` and `spawned` the started programs. `left` and `totals` select numbers, and any other
-/// word selects a part of the entries.
+/// Appends the part of a run that the keyword `word` selects.
+///
+/// `calls`, `words` and `watching` select calls, `spawns` the started programs, and `spawned` their
+/// number. `left` selects the numbers of kills and of remaining directories, and `totals` the number
+/// of passed cases. Any other keyword selects a part of the entries.
 fn push_run_part(
     out: &mut ExampleOutput,
     word: &str,

@@ -22,7 +22,8 @@ impl ExampleFault {
     }
 }
 
-/// Converts each error type of a failed allocation that kt_base can convert to `NoMemory`.
+/// Converts the error of a failed allocation to `ExampleFault::NoMemory`, for each error type that
+/// converts to `NoMemory`.
 impl<E: Drop> From<E> for ExampleFault
 where
     NoMemory: From<E>,

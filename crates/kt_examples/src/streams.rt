@@ -103,8 +103,10 @@ fn whole_text(alloc: Global, word: &str, bytes: &[u8]) -> Result<String> {
     asked(out.end())
 }
 
-/// Returns the output for `bytes` that are read in pieces: the first has `first` bytes, the others
-/// have at most `rest`.
+/// Reads `bytes` in pieces and returns the text for the claim or for the TAP stream in them.
+///
+/// The first piece has at most `first` bytes, each other piece at most `rest`. `word` is `tap` for a
+/// TAP stream.
 fn text_in_pieces(
     alloc: Global,
     word: &str,

@@ -7,10 +7,10 @@ use Rattle.kt_plan.specs.Questions.{WorldCall, tree_calls, host_calls}
 use Rattle.kt_plan.specs.Stops.{IsShort}
 use Rattle.kt_plan.specs.Reply.{Reply}
 
--- `Selects needed options questions result`: `result` has the cases that a command with the options
--- `options` selects, by the calls `questions`, or is its first error. The configuration and the
--- filters are read first, then the tree and the lists of programs. If `needed`, exactly one filter
--- is required, which names a test case.
+-- `Selects needed options questions result`: a command with the options `options` selects its cases
+-- by the calls `questions` to the world. `result` has the selected cases, or is the first error. The
+-- configuration and the filters are read first, then the tree and the lists of programs. If
+-- `needed`, exactly one filter is required, which names a test case.
 pub data Selects (needed : Bool) (options : CaseOptions) : List WorldCall → Result CommandSelection Stop → Type 0 where
   unsettled : (answers : List Reply) (fault : Stop) → ReadsSettings needed options answers (Err fault) → Selects needed options (host_calls answers) (Err fault)
   uncollected : (answers : List Reply) (settings : Settings) (asked : List Asked) (lists : List Reply) (fault : Stop) → ReadsSettings needed options answers (Ok settings)

@@ -364,7 +364,8 @@ impl Removals {
         }
     }
 
-    /// Removes the root directory and all entries that are left in it. Returns `true` on success.
+    /// Removes `root`, the directory of all attempts, with its entries, within the bound of a close.
+    /// Returns `true` on success.
     fn close<R: Files + Clock + AllocGlobal>(&mut self, rt: &R, root: &Text) -> bool
         requires { root.now ≡ self.old.root }
         ensures place { self.new.place ≡ self.old.place }
@@ -374,7 +375,7 @@ impl Removals {
         self.remove_root_within(rt, root, &mut bound)
     }
 
-    /// Removes the root directory and all entries that are left in it, within a bound. Returns
+    /// Removes `root`, the directory of all attempts, with its entries, until `bound` ends. Returns
     /// `true` on success.
     fn remove_root_within<R: Files + Clock + AllocGlobal>(
         &mut self,

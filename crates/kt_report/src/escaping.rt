@@ -79,9 +79,9 @@ fn unescaped_length(attribute: bool, text: &[u8]) -> usize
     length + short_unescaped_length(attribute, rest)
 }
 
-/// Appends a text, escaped for XML: for an attribute or for content.
+/// Appends `text`, escaped for an XML attribute if `attribute` is `true`, otherwise for content.
 ///
-/// Bytes that are written unchanged are copied in runs.
+/// Consecutive bytes that need no escape are copied at once.
 fn push_escapes(escaped: &mut Text, attribute: bool, text: &str) -> Result<(), NoMemory>
     ensures { OnOk result (escaped.new ≡ escaped.old ++ escapes attribute (chars text.now)) }
 {

@@ -18,7 +18,8 @@ pub trait Work {
     /// The result of the operation.
     type WorkResult;
 
-    /// Executes the operation on a database, and returns its result and the store.
+    /// Executes the operation on the database of `conn`. Returns its result and the connection's byte
+    /// store.
     ///
     /// # Errors
     ///

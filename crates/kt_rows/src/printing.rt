@@ -54,9 +54,10 @@ fn wrong(whole: &[u8], cut: &ScriptedWriter, well: bool) -> Result<Option<&'stat
     Ok(None)
 }
 
-/// Prints pieces into writers that accept `at_most` bytes per write, and appends a line for each
-/// error. Without a failure, a writer must get the text `whole`. If one of the first 100 writes
-/// fails, it must get a proper prefix.
+/// Prints `pieces` into writers that accept `at_most` bytes per write, and appends a line for each
+/// check that fails. A writer that doesn't fail must get the text `whole`. A writer that fails at
+/// one of its first 100 writes must get a proper prefix of `whole`. If `to_lines` is `true`, a line
+/// buffer is between the pieces and the writer.
 fn push_wrong(
     out: &mut ExampleOutput,
     pieces: &[Vec<u8>],

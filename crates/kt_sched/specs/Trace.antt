@@ -21,7 +21,7 @@ pub data Trace : Type 0 where
 -- For a launcher with the relations `starts` and `waits` of its calls, and the jobs of `plan`.
 module _ {L : Type 0} (starts : L → Job → Role → StartAnswer → L → Type 0) (waits : L → Ended → L → Type 0) (plan : List Job) where
   -- `Leads T old new`: the responses `T` lead the launcher from the state `old` to the state `new`.
-  -- Each start was called with the plan's job.
+  -- Each start was called with the job of `plan` at the position of the start.
   abbrev pub Leads : Trace → L → L → Type 0
   Leads NoEvent old new = new ≡ old
   Leads (Then T (Start i role answer)) old new = (mid : L) × (job : Job) × Leads T old mid × (slice_get plan i ≡ Some job) × starts mid job role answer new

@@ -39,9 +39,9 @@ pub struct CaseRecord {
 /// A body that ended before its case is over, with the data for the record of the case.
 #[derive(Drop)]
 pub struct EndedBody {
-    /// The timestamp of the start, in milliseconds since 1970 in UTC.
+    /// The timestamp of the body's start, in milliseconds since 1970 in UTC.
     pub started: u64,
-    /// The timestamp of the end, in milliseconds since 1970 in UTC.
+    /// The timestamp of the body's end, in milliseconds since 1970 in UTC.
     pub ended: u64,
     /// The verdict on the body.
     pub verdict: Verdict,

@@ -30,8 +30,8 @@ module _ {O : Type 0} (leads : O → Call → O → Type 0) where
   abbrev pub RunsFrom : List Job → Trace → DriverState → Driver O → Driver O → Type 0
   RunsFrom plan T b old new = (calls : List Call) × Chain leads old.os calls new.os × Runs plan old.source old.root b T calls (driver_state new)
 
-  -- `EndsFollow`: the calls of a driver over any trace are those of its events (`RunsFrom`). So
-  -- each end in the trace follows from their results.
+  -- `EndsFollow`: for each trace, the driver makes exactly the calls that `RunsFrom` states for the
+  -- events of the trace. So the results of the calls determine each end in the trace.
   abbrev pub EndsFollow : Type 0
   EndsFollow =
       (plan : List Job) (T : Trace) (d e : Driver O) → Leads (DriverStarts leads) (DriverWaits leads) plan T d e → RunsFrom plan T (driver_state d) d e

@@ -70,8 +70,8 @@ impl Backlog {
         Ok(())
     }
 
-    /// Moves the remaining bytes to the start of the buffer, if at least as many bytes before them
-    /// were written.
+    /// Moves the remaining bytes to the start of the buffer, unless they are more than the written
+    /// bytes before them.
     fn remove_written(&mut self)
         ensures { self.new ≡ self.old }
     {

@@ -69,7 +69,8 @@ fn open_again<R: Files<File = File>>(rt: &R) -> Option<File> {
     }
 }
 
-/// Opens the pipe of standard output a second time, if there is one.
+/// Opens standard output a second time if it is a pipe. Returns `None` if it is not a pipe, or if a
+/// call fails.
 fn open_pipe<R: Files<File = File>>(rt: &R) -> Option<File> {
     if !is_pipe(rt) {
         return None;
@@ -80,7 +81,8 @@ fn open_pipe<R: Files<File = File>>(rt: &R) -> Option<File> {
     open_again(rt)
 }
 
-/// Opens the terminal of standard output a second time, if there is one.
+/// Opens standard output a second time if it is a terminal. Returns `None` if it is not a terminal,
+/// or if a call fails.
 fn open_terminal<R: Files<File = File>>(rt: &R) -> Option<File> {
     if libc::isatty(libc::STDOUT_FILENO) != 1 {
         return None;
