@@ -22,7 +22,7 @@ pub use Rattle.kt_plan.proofs.PlansFit.{plan_fits}
 pub use Rattle.kt_plan.specs.Questions.{CallToHost, CallToTree, WorldCall, leads_by, host_calls}
 pub use Rattle.kt_plan.specs.declared.cases.Candidate.{Candidate}
 pub use Rattle.kt_report.proofs.InTurn.{shows_cut_off, shows_whole}
-pub use Rattle.kt_report.specs.Junits.{case_bytes, ending, heading, junit_bytes}
+pub use Rattle.kt_report.specs.Junits.{case_bytes, ending, heading, junit_bytes, junit_layout}
 pub use Rattle.kt_report.specs.Lines.{line_bytes}
 pub use Rattle.kt_report.specs.Pairs.{entry_bytes, with_properties}
 pub use Rattle.kt_report.specs.Texts.{IsDateOf, entries_by_section, chosen_of, entries_of, is_of, last_kind, opening, same_kind, summary, text_bytes, titled_lines}
@@ -61,7 +61,8 @@ pub use Rattle.kt_cli.specs.Inner.MemoryRuns.{FindsPlace, ServesInMemory, closin
 pub use Rattle.kt_cli.specs.Inner.Pages.{Says, SaysMore}
 pub use Rattle.kt_cli.specs.Inner.Recording.{Recorded, Recording, recording, sink_fault_of}
 pub use Rattle.kt_cli.specs.Inner.Recordings.{RecordEnds, RecordedAll, RecordedNone, RecordedSome, Records}
-pub use Rattle.kt_cli.specs.Inner.Reports.{WritesReport, EndsEntries, JunitOrUnread, TextOrUnread, WritesEntries, WritesFirst, WritesJunit, WritesText}
+pub use Rattle.kt_cli.specs.Inner.Reports.{WritesReport, EndsEntries, JunitOrUnread, TextOrUnread, WritesEntries, WritesText}
+pub use Rattle.kt_cli.specs.Inner.StoredDetails.{Reading, ReadsEntry, WritesStored, outputs_reading}
 pub use Rattle.kt_cli.specs.Inner.Stores.{put_all}
 pub use Rattle.kt_cli.specs.Inner.Testing.{ExecutesPlan}
 pub use Rattle.kt_cli.specs.Machines.{HasProgram, HostResponse, SearchesDirectories, directories, further, here, nowhere}
@@ -70,14 +71,14 @@ pub use Rattle.kt_cli.specs.MemoryRuns.{LeavesInMemory, memory_runs}
 pub use Rattle.kt_cli.specs.Pages.{Printed}
 pub use Rattle.kt_cli.specs.Performing.{RunsCommand, WithResults, OverProcesses, NoRoot, Program, State, needs_nothing, closed, done, no_driver, no_surroundings, no_world, none_made, not_absolute, not_opened, program, state}
 pub use Rattle.kt_cli.specs.Recordings.{AllRecorded, IsStopped}
-pub use Rattle.kt_cli.specs.Reports.{DifferInOutputs, DifferInPairs, JunitEndsEarly, LacksRun, Reported, ReportedJunit, TextEndsEarly, RunIsUnreadable, asked_outputs, asked_pairs, ending_of, next_bytes, no_outputs, no_pairs, no_run, run_of, run_shown, pairs_shown, no_output}
+pub use Rattle.kt_cli.specs.Reports.{DifferInOutputs, DifferInPairs, JunitEndsEarly, LacksRun, Reported, ReportedJunit, TextEndsEarly, RunIsUnreadable, asked_outputs, asked_pairs, next_bytes, no_outputs, no_pairs, no_run, run_of, run_shown, pairs_shown, no_output}
 pub use Rattle.kt_cli.specs.Scenes.{Scene, World, launcher_of, scene, with_store, world_of}
 pub use Rattle.kt_cli.specs.SoundStores.{StoreIsSound, with_new}
 pub use Rattle.kt_cli.specs.Stores.{Agree, CallsStore, beside, crash_runs_after, by_position, changed, put_among, puts}
 pub use Rattle.kt_cli.specs.Testing.{PlannedRun, TestEndsEarly, Tested, begins, exit_of, not_begun, not_finished, not_put, not_run, results, results_exit, run_for}
 pub use Rattle.kt_cli.specs.Totals.{bad_count, good_count, lines}
 pub use Rattle.kt_cli.specs.Warnings.{warning_at, warnings}
-pub use Rattle.kt_cli.specs.declared.commands.report_stop.JunitStop.TheVariants.{Refused, Report}
+pub use Rattle.kt_report.specs.declared.report_stop.ReportStop.TheVariants.{Details, Report}
 pub use Rattle.kt_cli.specs.declared.commands.report_stop.TextStop.TheVariants.{NoPairs, Output}
 pub use Rattle.kt_cli.specs.declared.host.host_world.HostWorld.{HostWorld}
 pub use Rattle.kt_cli.specs.declared.output.exit.Exit.{Exit}

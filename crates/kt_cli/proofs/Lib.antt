@@ -3,7 +3,6 @@ pub mod ChosenRuns
 pub mod DebugRuns
 pub mod FaultWords
 pub mod Gainings
-pub mod JunitSteps
 pub mod MemoryLaws
 pub mod NewRuns
 pub mod Numbered
@@ -15,6 +14,7 @@ pub mod Sequencing
 pub mod ShownRuns
 pub mod SoundRuns
 pub mod StoreChains
+pub mod StoredReports
 pub mod Testings
 pub mod TextSteps
 pub mod Unrepeated

@@ -1,14 +1,16 @@
 -- Runs that are read and shown.
-use Rattle.std.proofs.Common.{Option, Some, None, Ok, Err, Bool, true, false, ◌⊎◌, if◌then◌else◌, flat_map, ◌≡◌, ℕ, List, [], ◌∷◌, ◌++◌, refl, ap, sym, subst, inl, inr}
-use Rattle.kt_cli.proofs.Common.{Shows, utf8, Entry, Kind, Run, shows_as, shows_both, heading, case_bytes, ending, junit_bytes, StoreCall, Head, IsNumbered, LacksRun, Outline, Outputs, Pairs, RunHead, StoreFault, Refused, Report, NoPairs, Output, memory_line, refusal_line, TextOrUnread, JunitOrUnread, WritesReport, WritesJunit, WritesText, run_of, Reported, run_shown, pairs_shown, ReportedJunit, RunIsUnreadable, no_pairs, no_output, no_outputs, asked_outputs, ending_of, asked_pairs, next_bytes, IsDateOf, last_kind, opening, summary, text_bytes, titled_lines, CallsStore, Date}
+use Rattle.std.proofs.Common.{Option, Some, None, Result, Ok, Err, Bool, true, false, ◌⊎◌, if◌then◌else◌, flat_map, ◌≡◌, ℕ, List, [], ◌∷◌, ◌++◌, refl, ap, sym, subst, inl, inr}
+use Rattle.kt_cli.proofs.Common.{Shows, utf8, Entry, Kind, Run, shows_as, shows_both, case_bytes, ending, junit_bytes, junit_layout, StoreCall, Head, IsNumbered, LacksRun, Outline, Outputs, Pairs, RunHead, StoreFault, Details, Report, NoPairs, Output, memory_line, refusal_line, TextOrUnread, JunitOrUnread, WritesReport, WritesStored, WritesText, outputs_reading, run_of, Reported, run_shown, pairs_shown, ReportedJunit, RunIsUnreadable, no_pairs, no_output, no_outputs, asked_outputs, asked_pairs, next_bytes, IsDateOf, last_kind, opening, summary, text_bytes, titled_lines, CallsStore, Date}
+use Rattle.kt_report.specs.Layouts.{bytes_to}
 use Rattle.kt_report.specs.declared.report_fault.ReportFault.{ReportFault}
+use Rattle.kt_report.specs.declared.report_stop.ReportStop.{ReportStop}
 use Rattle.kt_base.specs.declared.emission.OutputFault.{OutputFault}
 use Rattle.kt_cli.specs.declared.commands.report_stop.ReportError.{ReportError}
 use Rattle.kt_cli.specs.declared.commands.report_stop.ReportError.TheVariants.{NoRun, NoRuns, Refused as Unshown}
 use Rattle.kt_cli.specs.Reports.{no_last_run, none_at_all, not_this_one, run_shown as run_shown_junit, no_head as unread_head, no_last as unread_last, no_outline as unread_outline, no_memory, no_output as no_junit_output}
 use Rattle.kt_cli.specs.Inner.Shown.{IsMissing, not_shown_line, FindsRun, read, missing, no_head, no_last, no_outline, ReadsRun}
 use Rattle.kt_store.specs.declared.result_store.StoreSpec as keeping
-use Rattle.kt_cli.proofs.JunitSteps.{heading_shown}
+use Rattle.kt_cli.proofs.StoredReports.{heading_shown}
 use Rattle.kt_cli.proofs.StoreChains.{stored_both, stored_none}
 
 module _ {R : Type 0} (keep : keeping.Ghosts R) (number : Option ℕ) where
@@ -125,29 +127,33 @@ module _ {R : Type 0} (keep : keeping.Ghosts R) (number : Option ℕ) where
     abbrev Junit : Type 0
     Junit = WritesReport keep old new was now exit (ReportedJunit number) (JunitOrUnread number)
 
+    -- `Stored run mid held answer`: the JUnit report of `run` was written from the store `mid`
+    abbrev Stored : Run → R → Option (List ℕ) → Result (Unit {0}) (ReportStop StoreFault ReportFault) → Type 0
+    Stored run mid held answer = WritesStored keep outputs_reading run.number (junit_layout run) run.entries mid new was held answer
+
     -- `report-junit` prints the JUnit report
-    pub did_show_junit : (mid : R) (calls : List StoreCall) (run : Run) → CallsStore keep calls old mid → FindsRun number calls (Ok run) → WritesJunit keep mid new was now run (Ok tt) → exit ≡ 0 → Junit
+    pub did_show_junit : (mid : R) (calls : List StoreCall) (run : Run) → CallsStore keep calls old mid → FindsRun number calls (Ok run) → Stored run mid now (Ok tt) → exit ≡ 0 → Junit
     did_show_junit mid calls run p (read head outline e) w x =
         did_more mid calls (asked_outputs run.number w.ends.0) (junit_bytes (record run { entries = w.ends.0 })) 0 false p w.ends.2 (inl (run_shown_junit head outline w.ends.0 e w.ends.1))
         (shows_as (ap (λ (xs : List ℕ). xs ++ flat_map case_bytes w.ends.0 ++ ending) (heading_shown run w.ends.0 w.ends.1)) w.ends.3) x
 
     -- `report-junit` ends early if outputs can't be read
     pub did_refuse : (mid : R) (calls : List StoreCall) (run : Run) (held : Option (List ℕ)) (f : Bool) (fault : StoreFault) → CallsStore keep calls old mid → FindsRun number calls (Ok run)
-        → WritesJunit keep mid new was held run (Err (Refused fault)) → Shows held now f (utf8 (refusal_line fault)) → exit ≡ (if f then 2 else 2) → Junit
+        → Stored run mid held (Err (Details fault)) → Shows held now f (utf8 (refusal_line fault)) → exit ≡ (if f then 2 else 2) → Junit
     did_refuse mid calls run held f fault p (read head outline e) w s x =
-        did_more mid calls (asked_outputs run.number w.ends.0 ++ Outputs run.number w.ends.2.position (Err fault) ∷ []) (heading run ++ flat_map case_bytes w.ends.0 ++ utf8 (refusal_line fault)) 2 f p w.ends.4
-        (inr (inr (no_outputs head outline w.ends.0 w.ends.1 w.ends.2 fault e w.ends.3))) (shows_both w.ends.5 s) x
+        did_more mid calls (asked_outputs run.number w.ends.0 ++ Outputs run.number w.ends.2.position (Err fault) ∷ []) (bytes_to (junit_layout run) w.ends.0 (w.ends.2 ∷ w.ends.1) ++ utf8 (refusal_line fault)) 2 f p
+        w.ends.4 (inr (inr (no_outputs head outline w.ends.0 w.ends.1 w.ends.2 fault e w.ends.3))) (shows_both w.ends.5 s) x
 
     -- `report-junit` ends early if an allocation fails
     pub did_cut : (mid : R) (calls : List StoreCall) (run : Run) (held : Option (List ℕ)) (f : Bool) (fault : ReportFault) → CallsStore keep calls old mid → FindsRun number calls (Ok run)
-        → WritesJunit keep mid new was held run (Err (Report fault)) → Shows held now f (utf8 memory_line) → exit ≡ (if f then 2 else 2) → Junit
+        → Stored run mid held (Err (Report fault)) → Shows held now f (utf8 memory_line) → exit ≡ (if f then 2 else 2) → Junit
     did_cut mid calls run held f fault p (read head outline e) w s x =
         let h = w.ends.4.holds in
         did_more mid calls (asked_outputs run.number w.ends.0) (h.0 ++ utf8 memory_line) 2 f p w.ends.3 (inr (inr (no_memory head outline w.ends.0 w.ends.1 h.0 h.1 h.2 e w.ends.2 h.3)))
         (shows_both {xs = h.0} (record { holds = h.4 }) s) x
 
     -- a report ends early if a write fails
-    pub did_stop : (mid : R) (calls : List StoreCall) (run : Run) (fault : ReportFault) → CallsStore keep calls old mid → FindsRun number calls (Ok run) → WritesJunit keep mid new was now run (Err (Report fault)) → exit ≡ 2 → Junit
+    pub did_stop : (mid : R) (calls : List StoreCall) (run : Run) (fault : ReportFault) → CallsStore keep calls old mid → FindsRun number calls (Ok run) → Stored run mid now (Err (Report fault)) → exit ≡ 2 → Junit
     did_stop mid calls run fault p (read head outline e) w x =
-        did_more mid calls (asked_outputs run.number w.ends.0) (heading run ++ flat_map case_bytes w.ends.0 ++ ending_of w.ends.1) 2 true p w.ends.3
+        did_more mid calls (asked_outputs run.number w.ends.0) (bytes_to (junit_layout run) w.ends.0 w.ends.1) 2 true p w.ends.3
         (inr (inr (no_junit_output head outline w.ends.0 w.ends.1 refl e w.ends.2))) w.ends.4 x

@@ -10,5 +10,6 @@ pub mod Recording
 pub mod Recordings
 pub mod Reports
 pub mod Shown
+pub mod StoredDetails
 pub mod Stores
 pub mod Testing

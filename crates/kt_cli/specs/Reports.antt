@@ -1,7 +1,8 @@
 -- Output of the reports.
-use Rattle.std.specs.Prelude.{ℕ, Bool, true, false, List, [], ◌∷◌, ◌++◌, ◌≡◌, Option, Some, None, Ok, Err, codes, map, flat_map}
-use Rattle.kt_cli.specs.Types.{Date, Entry, Head, IsDateOf, Kind, Outline, Outputs, Pairs, Run, RunHead, StoreCall, StoreFault, entries_by_section, case_bytes, decimal, ending, heading, last_kind, opening, summary, titled_lines, utf8}
-use Rattle.kt_report.specs.Junits.{junit_bytes}
+use Rattle.std.specs.Prelude.{ℕ, Bool, true, false, List, [], ◌∷◌, ◌++◌, ◌≡◌, Option, Some, None, Ok, Err, codes, map}
+use Rattle.kt_cli.specs.Types.{Date, Entry, Head, IsDateOf, Kind, Outline, Outputs, Pairs, Run, RunHead, StoreCall, StoreFault, entries_by_section, decimal, last_kind, opening, summary, titled_lines, utf8}
+use Rattle.kt_report.specs.Junits.{junit_bytes, junit_layout}
+use Rattle.kt_report.specs.Layouts.{bytes_to}
 use Rattle.kt_report.specs.Texts.{text_bytes}
 use Rattle.kt_store.specs.Heads.{IsNumbered, outputs_of, without_outputs, without_pairs}
 use Rattle.kt_cli.specs.FaultLines.{memory_line, refusal_line}
@@ -42,11 +43,6 @@ DifferInOutputs xs ys = map without_outputs xs ≡ map without_outputs ys
 -- `number`, and return those that the entry has.
 abbrev pub asked_outputs : ℕ → List Entry → List StoreCall
 asked_outputs number entries = map (λ (e : Entry). Outputs number e.position (Ok (outputs_of e))) entries
-
--- `ending_of rest`: the end of a JUnit report, if no entry is in `rest`.
-abbrev pub ending_of : List Entry → List ℕ
-ending_of [] = ending
-ending_of (e ∷ rest) = []
 
 -- `next_bytes before rest end`: the bytes of a text report before the entries `rest`: the title of
 -- the first one, if it needs a title, or `end`.
@@ -104,12 +100,12 @@ pub data JunitEndsEarly (number : Option ℕ) (failed : Bool) : List StoreCall �
       → IsNumbered number head
       → DifferInOutputs (shown ++ e ∷ rest) outline
       → JunitEndsEarly number failed (Head number (Ok (Some head)) ∷ Outline head.number (Ok outline) ∷ (asked_outputs head.number shown ++ Outputs head.number e.position (Err fault) ∷ []))
-      (heading (run_of head outline) ++ flat_map case_bytes shown ++ utf8 (refusal_line fault)) 2
+      (bytes_to (junit_layout (run_of head outline)) shown (e ∷ rest) ++ utf8 (refusal_line fault)) 2
   no_memory : (head : RunHead) (outline shown rest : List Entry) (front back : List ℕ) (next : ℕ)
       → IsNumbered number head
-      → DifferInOutputs (shown ++ rest) outline → heading (run_of head outline) ++ flat_map case_bytes shown ++ ending_of rest ≡ front ++ next ∷ back
+      → DifferInOutputs (shown ++ rest) outline → bytes_to (junit_layout (run_of head outline)) shown rest ≡ front ++ next ∷ back
       → JunitEndsEarly number failed (Head number (Ok (Some head)) ∷ Outline head.number (Ok outline) ∷ asked_outputs head.number shown) (front ++ utf8 memory_line) 2
   no_output : (head : RunHead) (outline shown rest : List Entry) → failed ≡ true → IsNumbered number head
       → DifferInOutputs (shown ++ rest) outline
       → JunitEndsEarly number failed (Head number (Ok (Some head)) ∷ Outline head.number (Ok outline) ∷ asked_outputs head.number shown)
-      (heading (run_of head outline) ++ flat_map case_bytes shown ++ ending_of rest) 2
+      (bytes_to (junit_layout (run_of head outline)) shown rest) 2

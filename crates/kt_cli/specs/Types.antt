@@ -16,7 +16,6 @@ pub use Rattle.kt_plan.specs.Reply.{Now, Reply}
 pub use Rattle.kt_plan.specs.declared.cases.Candidate.{Candidate}
 pub use Rattle.kt_plan.specs.declared.cases.CommandSelection.{CommandSelection}
 pub use Rattle.kt_plan.specs.declared.stop.Stop.{Stop}
-pub use Rattle.kt_report.specs.Junits.{case_bytes, ending, heading}
 pub use Rattle.kt_report.specs.Lines.{line_bytes}
 pub use Rattle.kt_report.specs.Texts.{IsDateOf, entries_by_section, last_kind, opening, summary, titled_lines}
 pub use Rattle.kt_sched.specs.Run.{Counts}

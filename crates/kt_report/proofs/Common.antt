@@ -19,7 +19,8 @@ pub use Rattle.kt_base.specs.declared.verdict.Kind.{Kind}
 pub use Rattle.kt_base.specs.declared.verdict.Kind.TheVariants.{Broken, ExpectedFailure, Failed, Passed, Skipped}
 pub use Rattle.kt_report.specs.Digits.{seconds}
 pub use Rattle.kt_report.specs.Escapes.{escaped, escapes}
-pub use Rattle.kt_report.specs.Junits.{case_bytes, element, ending, heading, output_element, result_element}
+pub use Rattle.kt_report.specs.Junits.{case_bytes, element, ending, heading, junit_layout, output_element, result_element}
+pub use Rattle.kt_report.specs.Layouts.{Layout, bytes_to}
 pub use Rattle.kt_report.specs.Lines.{line_bytes, printable_reason}
 pub use Rattle.kt_report.specs.Pairs.{entry_bytes, pair_bytes, printable_byte}
 pub use Rattle.kt_report.specs.Texts.{entries_by_section, chosen_of, clock_bytes, count_bytes, counts_bytes, entries_of, is_of, last_kind, moment_bytes, opening, order, same_kind, section, sections, printable_moment, started_bytes, summary, text_bytes, title, title_line, titled_section, titled_lines, unfinished_bytes}

@@ -1,7 +1,9 @@
 pub mod Common
 pub mod Days
+pub mod Fillings
 pub mod InTurn
 pub mod JunitSteps
+pub mod Layouts
 pub mod LineSteps
 pub mod Outlines
 pub mod OwnDetails

@@ -8,6 +8,7 @@ use Rattle.kt_base.specs.declared.entry.Run.{Run}
 use Rattle.kt_base.specs.Utf8.{utf8}
 use Rattle.kt_report.specs.Digits.{seconds}
 use Rattle.kt_report.specs.Cases.{case_texts}
+use Rattle.kt_report.specs.Layouts.{Layout}
 use Rattle.kt_report.specs.declared.case_texts.CaseTexts.{CaseTexts}
 use Rattle.kt_report.specs.Texts.{count_bytes}
 
@@ -49,3 +50,7 @@ ending = codes "</testsuite>\n"
 -- `junit_bytes run`: the report, which has a case for each entry, by position.
 abbrev pub junit_bytes : Run → List ℕ
 junit_bytes run = heading run ++ flat_map case_bytes run.entries ++ ending
+
+-- `junit_layout run`: the report of `run`, as a text over its entries.
+abbrev pub junit_layout : Run → Layout
+junit_layout run = record { first = λ shown. heading run ++ flat_map case_bytes shown; next = λ shown e. []; last = ending }

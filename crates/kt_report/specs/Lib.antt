@@ -3,7 +3,9 @@ pub mod Cases
 pub mod Details
 pub mod Digits
 pub mod Escapes
+pub mod Inner
 pub mod Junits
+pub mod Layouts
 pub mod Lines
 pub mod Outlines
 pub mod Pairs

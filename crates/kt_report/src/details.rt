@@ -1,10 +1,11 @@
-use crate::ReportFault;
-use kt_base::{Entry, Output};
+use kt_base::{Entry, Output, OutputFault};
 
 /// The outputs of a test case's body and cleanup.
 #[derive(Drop)]
 pub struct ShownOutputs {
+    /// The output of the test case's body.
     pub body: Output,
+    /// The output of the test case's cleanup.
     pub cleanup: Output,
 }
 
@@ -12,14 +13,14 @@ pub struct ShownOutputs {
 pub trait Details {
     ghost use Rattle.std.specs.Prelude.{Result};
     ghost use Rattle.kt_base.specs.declared.entry.Entry.{Entry};
-    ghost use Rattle.kt_report.specs.Details.{with_read};
+    ghost use Rattle.kt_report.specs.Details.{with_outputs_read};
 
     /// The error of a failed read.
     type Fault: Copy;
 
     /// Specification: reading the outputs of an entry leads from the first state to the second, and
     /// gives the entry with its outputs.
-    ghost fills: { Self → Entry → Result Entry Self.Fault → Self → Type 0 };
+    ghost reads_outputs: { Self → Entry → Result Entry Self.Fault → Self → Type 0 };
 
     /// Reads the outputs of an entry. Returns `None` if the entry has its own outputs.
     ///
@@ -27,7 +28,7 @@ pub trait Details {
     ///
     /// - the error of the failed read.
     fn outputs(&mut self, entry: &Entry) -> Result<Option<ShownOutputs>, Self::Fault>
-        ensures { fills self.old entry.now (with_read entry.now result) self.new };
+        ensures { reads_outputs self.old entry.now (with_outputs_read entry.now result) self.new };
 }
 
 /// The details that entries have themselves.
@@ -35,13 +36,14 @@ pub trait Details {
 pub struct OwnDetails;
 
 impl Details for OwnDetails {
-    ghost use Rattle.std.specs.Prelude.{◌≡◌, Ok};
+    ghost use Rattle.kt_report.specs.Inner.Steps.{reads_nothing};
 
-    type Fault = ReportFault;
+    // No read fails.
+    type Fault = OutputFault;
 
-    ghost fills = { λ old e answer new. answer ≡ Ok e };
+    ghost reads_outputs = { reads_nothing };
 
-    fn outputs(&mut self, _entry: &Entry) -> Result<Option<ShownOutputs>, ReportFault> {
+    fn outputs(&mut self, _entry: &Entry) -> Result<Option<ShownOutputs>, OutputFault> {
         Ok(None)
     }
 }

@@ -1,5 +1,5 @@
 ghost use Rattle.std.specs.Prelude.{◌≡◌, ◌++◌, false, is_err, flat_map, codes};
-ghost use Rattle.kt_report.specs.Common.{utf8, Shows, with_outputs, result_element, output_element, element, case_bytes, heading, ending, junit_bytes, WritesCase, WritesJunit};
+ghost use Rattle.kt_report.specs.Common.{utf8, Shows, with_outputs, result_element, output_element, element, case_bytes, heading, ending, junit_bytes, junit_layout, WritesEntry, WritesOverDetails};
 
 use crate::case_texts::CaseTexts;
 use crate::details::OwnDetails;
@@ -64,14 +64,10 @@ fn write_element<W: Write>(
     emit(b"</testcase>\n", out)
 }
 
-/// Writes the beginning of the JUnit report of a run, before its cases (this profile).
+/// Writes the beginning of the JUnit report of a run, before its cases.
 ///
 /// Of the entries, only the verdicts count. The function doesn't allocate.
-///
-/// # Errors
-///
-/// - `OutputFault`: a write fails. A proper prefix of the text was written.
-pub fn junit_heading<W: Write>(run: &Run, out: &mut W) -> Result<(), OutputFault>
+fn write_heading<W: Write>(run: &Run, out: &mut W) -> Result<(), OutputFault>
     ensures { Shows (W.contents out.old) (W.contents out.new) (is_err result) (heading run.now) }
 {
     let entries = run.entries.as_slice();
@@ -95,14 +91,8 @@ pub fn junit_heading<W: Write>(run: &Run, out: &mut W) -> Result<(), OutputFault
     )
 }
 
-/// Writes the case of an entry in the JUnit report, with these outputs of its body and its cleanup
-/// (this profile).
-///
-/// # Errors
-///
-/// - `NoMemory`: an allocation fails. Nothing was written.
-/// - `Output`: a write fails. A proper prefix of the text was written.
-pub fn junit_case<W: Write>(
+/// Writes the case of an entry in the JUnit report, with these outputs of its body and its cleanup.
+fn write_shown<W: Write>(
     alloc: Global,
     entry: &Entry,
     body: &Output,
@@ -117,30 +107,19 @@ pub fn junit_case<W: Write>(
     Ok(())
 }
 
-/// Writes the end of the JUnit report, after the cases of its run (this profile). The function
-/// doesn't allocate.
-///
-/// # Errors
-///
-/// - `OutputFault`: a write fails. A proper prefix of the text was written.
-pub fn junit_end<W: Write>(out: &mut W) -> Result<(), OutputFault>
-    ensures { Shows (W.contents out.old) (W.contents out.new) (is_err result) ending }
-{
-    emit(b"</testsuite>\n", out)
-}
-
 /// Writes a case of the JUnit report, with the outputs that are read for it.
 fn write_case<D: Details, W: Write>(
     alloc: Global,
     entry: &Entry,
     details: &mut D,
     out: &mut W,
-) -> Result<(), ReportStop<D::Fault>>
-    ensures { WritesCase D.fills details.old details.new (W.contents out.old) (W.contents out.new) entry.now result }
+) -> Result<(), ReportStop<D::Fault, ReportFault>>
+    ensures { WritesEntry D.reads_outputs details.old (W.contents out.old) (W.contents out.new)
+        details.new case_bytes entry.now result }
 {
     let written = match details.outputs(entry) {
-        Ok(Some(read)) => junit_case(alloc, entry, &read.body, &read.cleanup, out),
-        Ok(None) => junit_case(alloc, entry, &entry.body, &entry.cleanup, out),
+        Ok(Some(read)) => write_shown(alloc, entry, &read.body, &read.cleanup, out),
+        Ok(None) => write_shown(alloc, entry, &entry.body, &entry.cleanup, out),
         Err(fault) => return Err(ReportStop::Details(fault)),
     };
     match written {
@@ -149,7 +128,11 @@ fn write_case<D: Details, W: Write>(
     }
 }
 
-/// Writes the JUnit report of a run, with the outputs that are read for each entry.
+/// Writes the JUnit report of a run, with the outputs that are read for each entry (this profile).
+///
+/// A test suite has a case for each recorded entry, by position. Of the entries in `run`, the
+/// outputs count only if `details` returns none. The outputs of an entry are read just before its
+/// case is written, and the texts of one entry at a time are allocated.
 ///
 /// # Errors
 ///
@@ -160,21 +143,21 @@ pub fn junit_over<D: Details, W: Write>(
     run: &Run,
     details: &mut D,
     out: &mut W,
-) -> Result<(), ReportStop<D::Fault>>
-    ensures { WritesJunit D.fills details.old (W.contents out.old) (W.contents out.new) details.new run.now result }
+) -> Result<(), ReportStop<D::Fault, ReportFault>>
+    ensures { WritesOverDetails D.reads_outputs (junit_layout run.now) run.now.entries details.old
+        (W.contents out.old) (W.contents out.new) details.new result }
 {
-    junit_heading(run, out)?;
+    write_heading(run, out)?;
     for entry in run.entries.as_slice() {
         write_case(alloc, entry, details, out)?;
     }
-    junit_end(out)?;
+    emit(b"</testsuite>\n", out)?;
     Ok(())
 }
 
-/// Writes the JUnit report of a run: a test suite with a case for each recorded entry, by position
-/// (this profile).
+/// Writes the JUnit report of a run with the outputs that its entries have (this profile).
 ///
-/// The texts of one entry at a time are allocated.
+/// [`junit_over`] describes the report.
 ///
 /// # Errors
 ///
@@ -186,7 +169,7 @@ pub fn junit<W: Write>(alloc: Global, run: &Run, out: &mut W) -> Result<(), Repo
 {
     match junit_over(alloc, run, &mut OwnDetails, out) {
         Ok(()) => Ok(()),
-        Err(ReportStop::Details(fault)) => Err(fault),
+        Err(ReportStop::Details(fault)) => Err(ReportFault::Output(fault)),
         Err(ReportStop::Report(fault)) => Err(fault),
     }
 }

@@ -16,7 +16,7 @@ mod text_report;
 
 pub use details::{Details, ShownOutputs};
 pub use entry_line::line;
-pub use junit_report::{junit, junit_case, junit_end, junit_heading};
+pub use junit_report::{junit, junit_over};
 pub use moments::date_of;
 pub use pairs::text_entry;
 pub use report_fault::ReportFault;

@@ -4,7 +4,7 @@ ghost use Rattle.kt_report.specs.declared.report_fault.ReportFault.TheVariants a
 use kt_base::{NoMemory, OutputFault};
 use thiserror::Error;
 
-/// Errors returned by [`junit`] and [`junit_case`].
+/// Errors returned by [`junit`].
 ///
 /// If an error is returned, a proper prefix of the text was written. Each error contains its cause:
 /// there is no error without a failed allocation or a failed write.

@@ -5,19 +5,19 @@ ghost use Rattle.kt_report.specs.declared.report_stop.ReportStop.TheVariants as 
 use crate::ReportFault;
 use kt_base::OutputFault;
 
-/// Errors returned by a report over details.
+/// Errors returned by [`junit_over`].
 #[derive(Clone, Copy)]
-pub enum ReportStop<F> {
+pub enum ReportStop<F, E> {
     /// The details of an entry could not be read.
     Details(F),
     /// A write or an allocation failed.
-    Report(ReportFault),
+    Report(E),
 }
 
-impl<F> From<OutputFault> for ReportStop<F> {
+impl<F> From<OutputFault> for ReportStop<F, ReportFault> {
     ghost from_gives = { λ refusal e. e ≡ stop.Report (fault.Output refusal) };
 
-    fn from(refusal: OutputFault) -> ReportStop<F> {
+    fn from(refusal: OutputFault) -> ReportStop<F, ReportFault> {
         ReportStop::Report(ReportFault::Output(refusal))
     }
 }

@@ -1,12 +1,10 @@
 -- Output of the reports, as private functions write it.
-use Rattle.std.specs.Prelude.{ℕ, Bool, true, false, List, [], ◌∷◌, ◌++◌, ◌≡◌, ◌⊎◌, Option, None, Result, Ok, Err, drop, flat_map}
-use Rattle.kt_cli.specs.Types.{Date, Entry, IsDateOf, Kind, Outputs, Pairs, Run, Shows, StoreCall, entries_by_section, case_bytes, ending, heading, last_kind, opening, summary, titled_lines}
+use Rattle.std.specs.Prelude.{ℕ, Bool, true, false, List, [], ◌∷◌, ◌++◌, ◌≡◌, ◌⊎◌, Option, None, Result, Ok, Err}
+use Rattle.kt_cli.specs.Types.{Date, Entry, IsDateOf, Kind, Pairs, Run, Shows, StoreCall, entries_by_section, last_kind, opening, summary, titled_lines}
 use Rattle.kt_store.specs.declared.result_store.StoreSpec as keeping
 use Rattle.kt_cli.specs.Pages.{Printed}
 use Rattle.kt_cli.specs.Stores.{CallsStore}
-use Rattle.kt_cli.specs.Reports.{DifferInOutputs, DifferInPairs, JunitEndsEarly, TextEndsEarly, RunIsUnreadable, asked_outputs, asked_pairs, ending_of, next_bytes}
-use Rattle.kt_cli.specs.declared.commands.report_stop.JunitStop.{JunitStop}
-use Rattle.kt_cli.specs.declared.commands.report_stop.JunitStop.TheVariants.{Refused, Report}
+use Rattle.kt_cli.specs.Reports.{DifferInPairs, JunitEndsEarly, TextEndsEarly, RunIsUnreadable, asked_pairs, next_bytes}
 use Rattle.kt_cli.specs.declared.commands.report_stop.TextStop.{TextStop}
 use Rattle.kt_cli.specs.declared.commands.report_stop.TextStop.TheVariants.{NoPairs, Output}
 
@@ -69,27 +67,3 @@ module _ {R : Type 0} (r : keeping.Ghosts R) where
     -- `WritesText kinds run answer`: `EndsText`, as a record.
     pub record WritesText (kinds : List Kind) (run : Run) (answer : Result (Unit {0}) TextStop) : Type 0 where
       pub ends : EndsText kinds run answer
-
-    -- `WritesFirst run count`: the heading of `run` and its first `count` cases were written.
-    abbrev pub WritesFirst : Run → ℕ → Type 0
-    WritesFirst run count =
-        (shown : List Entry) × DifferInOutputs (shown ++ drop count run.entries) run.entries × CallsStore r (asked_outputs run.number shown) store after
-        × Shows was now false (heading run ++ flat_map case_bytes shown)
-
-    -- `EndsJunit run answer`: the outputs of each entry were read, and the JUnit report of `run`
-    -- was written, or `answer` is the fault that ended the report.
-    abbrev pub EndsJunit : Run → Result (Unit {0}) JunitStop → Type 0
-    EndsJunit run (Ok done) =
-        (shown : List Entry) × DifferInOutputs shown run.entries × CallsStore r (asked_outputs run.number shown) store after
-        × Shows was now false (heading run ++ flat_map case_bytes shown ++ ending)
-    EndsJunit run (Err (Refused fault)) =
-        (shown rest : List Entry) × (e : Entry) × DifferInOutputs (shown ++ e ∷ rest) run.entries
-        × CallsStore r (asked_outputs run.number shown ++ Outputs run.number e.position (Err fault) ∷ []) store after
-        × Shows was now false (heading run ++ flat_map case_bytes shown)
-    EndsJunit run (Err (Report fault)) =
-        (shown rest : List Entry) × DifferInOutputs (shown ++ rest) run.entries × CallsStore r (asked_outputs run.number shown) store after
-        × Shows was now true (heading run ++ flat_map case_bytes shown ++ ending_of rest)
-
-    -- `WritesJunit run answer`: `EndsJunit`, as a record.
-    pub record WritesJunit (run : Run) (answer : Result (Unit {0}) JunitStop) : Type 0 where
-      pub ends : EndsJunit run answer

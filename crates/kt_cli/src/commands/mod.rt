@@ -6,4 +6,5 @@ pub(crate) mod listing;
 pub(crate) mod recorder;
 pub(crate) mod report_stop;
 pub(crate) mod reporting;
+pub(crate) mod stored_details;
 pub(crate) mod testing;

@@ -1,16 +1,17 @@
 ghost use Rattle.std.specs.Prelude.{◌≡◌, ◌∷◌, [], None, is_err};
-ghost use Rattle.kt_cli.specs.Common.{utf8, Shows, TextOrUnread, JunitOrUnread, WritesReport, WritesEntries, WritesJunit, WritesText, entries_by_section, chosen_of, Reported, ReportedJunit, IsMissing, ReadsRun, not_shown_line};
+ghost use Rattle.kt_cli.specs.Common.{utf8, Shows, TextOrUnread, JunitOrUnread, WritesReport, WritesEntries, WritesStored, WritesText, junit_layout, outputs_reading, entries_by_section, chosen_of, Reported, ReportedJunit, IsMissing, ReadsRun, not_shown_line};
 
 use crate::Exit;
-use crate::commands::report_stop::{JunitStop, ReportError, TextStop};
+use crate::commands::report_stop::{ReportError, TextStop};
+use crate::commands::stored_details::StoredDetails;
 use crate::messages::{write_memory, write_refusal};
 use crate::output::exit::{FAILED, ended};
 use kt_base::{Decimal, Entry, Items, Kind, OutputFault, Run, emit, emit_all};
 use kt_report::{
-    ReportFault, date_of, is_chosen, junit_case, junit_end, junit_heading, same_kind, text,
-    text_entry, text_order, text_summary, text_title,
+    ReportFault, ReportStop, date_of, is_chosen, junit_over, same_kind, text, text_entry,
+    text_order, text_summary, text_title,
 };
-use kt_store::ResultStore;
+use kt_store::{ResultStore, StoreFault};
 use std::alloc::Global;
 use std::io::Write;
 
@@ -186,17 +187,16 @@ fn write_junit<R: ResultStore, O: Write>(
     run: &Run,
     results: &mut R,
     out: &mut O,
-) -> Result<(), JunitStop>
-    ensures { WritesJunit R.StoreSpec results.old results.new (O.contents out.old)
-        (O.contents out.new) run.now result }
+) -> Result<(), ReportStop<StoreFault, ReportFault>>
+    ensures { WritesStored R.StoreSpec outputs_reading run.now.number (junit_layout run.now)
+        run.now.entries results.old results.new (O.contents out.old) (O.contents out.new) result }
 {
-    junit_heading(run, out)?;
-    for entry in run.entries.as_slice() {
-        let outputs = results.outputs(run.number, entry.position)?;
-        junit_case(alloc, entry, &outputs.body, &outputs.cleanup, out)?;
-    }
-    junit_end(out)?;
-    Ok(())
+    let number = run.number;
+    let mut details = StoredDetails { results, number };
+    let written = junit_over(alloc, run, &mut details, out);
+    // No effect: this use shows the prover that the borrow of the details ends here.
+    let _ = &*details.results;
+    written
 }
 
 /// Executes `report-junit`: prints a run as a JUnit report, and returns the exit status.
@@ -217,9 +217,9 @@ pub fn report_junit<R: ResultStore, O: Write>(
     };
     match write_junit(alloc, &run, results, out) {
         Ok(()) => Exit { status: 0 },
-        Err(JunitStop::Refused(fault)) => ended(write_refusal(fault, out), FAILED),
-        Err(JunitStop::Report(ReportFault::Output(_))) => Exit { status: FAILED },
-        Err(JunitStop::Report(ReportFault::NoMemory(refusal))) => {
+        Err(ReportStop::Details(fault)) => ended(write_refusal(fault, out), FAILED),
+        Err(ReportStop::Report(ReportFault::Output(_))) => Exit { status: FAILED },
+        Err(ReportStop::Report(ReportFault::NoMemory(refusal))) => {
             ended(write_memory(refusal, out), FAILED)
         }
     }

@@ -13,10 +13,10 @@ pub returns-in-Ok-write_junit : goal.returns-in-Ok-write_junit
 returns-in-Ok-write_junit g c =
     did_show_junit g.R.StoreSpec c.args.number _ _ _ _ _ _ _ c.in-Ok.run' c.in-Ok.ensures.stored c.in-Ok.ensures.finds c.in-Ok-write_junit.ensures refl
 
-pub returns-in-Err-Refused : goal.returns-in-Err-Refused
-returns-in-Err-Refused g c =
-    did_refuse g.R.StoreSpec c.args.number _ _ _ _ _ _ _ c.in-Ok.run' _ _ c.in-Err-Refused.fault c.in-Ok.ensures.stored c.in-Ok.ensures.finds
-    (rw c.in-Err-Refused.field-0-is at c.in-Err-Refused.ensures) c.write_refusal.ensures c.ended-in-Err-Refused.ensures
+pub returns-in-Err-Details : goal.returns-in-Err-Details
+returns-in-Err-Details g c =
+    did_refuse g.R.StoreSpec c.args.number _ _ _ _ _ _ _ c.in-Ok.run' _ _ c.in-Err-Details.fault c.in-Ok.ensures.stored c.in-Ok.ensures.finds
+    (rw c.in-Err-Details.field-0-is at c.in-Err-Details.ensures) c.write_refusal.ensures c.ended-in-Err-Details.ensures
 
 pub returns-in-Err-Report-Output : goal.returns-in-Err-Report-Output
 returns-in-Err-Report-Output g c =

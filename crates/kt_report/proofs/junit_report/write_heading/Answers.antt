@@ -1,6 +1,6 @@
 use Rattle.std.proofs.Common.{ap, length, ◌∙◌}
 use Rattle.kt_report.proofs.Common.{decimal, Skipped, Failed, Broken, count_bytes}
-use Rattle.kt_report.proofs.junit_report.junit_heading.Goals as goal
+use Rattle.kt_report.proofs.junit_report.write_heading.Goals as goal
 
 pub returns : goal.returns
 returns g c =

@@ -1,7 +1,7 @@
 use Rattle.std.proofs.Common.{ap, ◌∙◌}
 use Rattle.kt_report.proofs.Common.{shows_as, shows_error, shows_nothing, element}
 use Rattle.kt_report.specs.Cases.{case_texts, with_outputs}
-use Rattle.kt_report.proofs.junit_report.junit_case.Goals as goal
+use Rattle.kt_report.proofs.junit_report.write_shown.Goals as goal
 
 pub returns-in_err-texts : goal.returns-in_err-texts
 returns-in_err-texts g c = shows_error _ _ c.from_residual.ensures.1 (shows_nothing _ _)

@@ -1,0 +1,31 @@
+use kt_base::Entry;
+use kt_report::{Details, ShownOutputs};
+use kt_store::{ResultStore, StoreFault};
+
+/// A `Details` that reads the outputs of a run's entries from a results store.
+#[derive(Drop)]
+pub struct StoredDetails<'a, R> {
+    /// The results store.
+    pub results: &'a mut R,
+    /// The number of the run.
+    pub number: u64,
+}
+
+impl<R: ResultStore> Details for StoredDetails<'_, R> {
+    ghost use Rattle.std.specs.Prelude.{◌≡◌};
+    ghost use Rattle.kt_cli.specs.Common.{ReadsEntry, outputs_reading};
+
+    type Fault = StoreFault;
+
+    ghost reads_outputs = { λ s e answer t. (t.results.ghost_name ≡ s.results.ghost_name)
+        × (t.number ≡ s.number)
+        × ReadsEntry R.StoreSpec outputs_reading s.number e s.results.now answer t.results.now };
+
+    fn outputs(&mut self, entry: &Entry) -> Result<Option<ShownOutputs>, StoreFault> {
+        let read = self.results.outputs(self.number, entry.position)?;
+        Ok(Some(ShownOutputs {
+            body: read.body,
+            cleanup: read.cleanup,
+        }))
+    }
+}

@@ -1,0 +1,2 @@
+-- Definitions for private functions. No public clause cites them.
+pub mod Steps

@@ -1,0 +1,30 @@
+-- The steps of a report whose details are read one entry at a time.
+use Rattle.std.specs.Prelude.{ℕ, true, false, List, ◌≡◌, Option, Result, Ok, Err}
+use Rattle.kt_base.specs.Shows.{Shows}
+use Rattle.kt_base.specs.declared.entry.Entry.{Entry}
+use Rattle.kt_report.specs.Details.{Filled}
+use Rattle.kt_report.specs.Layouts.{Layout}
+use Rattle.kt_report.specs.declared.report_stop.ReportStop.{ReportStop}
+use Rattle.kt_report.specs.declared.report_stop.ReportStop.TheVariants.{Details, Report}
+
+-- `reads_nothing old e answer new`: `answer` is the entry `e` itself, and the state is unchanged.
+abbrev pub reads_nothing : {S F : Type 0} → S → Entry → Result Entry F → S → Type 0
+reads_nothing old e answer new = (answer ≡ Ok e) × (new ≡ old)
+
+module _ {S F : Type 0} (reads : S → Entry → Result Entry F → S → Type 0) (old : S) (was now : Option (List ℕ)) (new : S) where
+  -- `WritesFirst layout due`: the beginning of a report was written, up to the end of the entries
+  -- `due`, with the details of each entry.
+  abbrev pub WritesFirst : Layout → List Entry → Type 0
+  WritesFirst layout due = (shown : List Entry) × Filled reads old due shown new × Shows was now false (layout.first shown)
+
+  module _ {E : Type 0} (text : Entry → List ℕ) where
+    -- `EndsEntry e answer`: the text of the entry `e` was written with the details that were read
+    -- for it, or `answer` is the error that ended it.
+    abbrev pub EndsEntry : Entry → Result (Unit {0}) (ReportStop F E) → Type 0
+    EndsEntry e (Ok done) = (full : Entry) × reads old e (Ok full) new × (full.verdict.kind ≡ e.verdict.kind) × Shows was now false (text full)
+    EndsEntry e (Err (Details fault)) = reads old e (Err fault) new × (now ≡ was)
+    EndsEntry e (Err (Report fault)) = (full : Entry) × reads old e (Ok full) new × (full.verdict.kind ≡ e.verdict.kind) × Shows was now true (text full)
+
+    -- `WritesEntry e answer`: `EndsEntry`, as a record.
+    pub record WritesEntry (e : Entry) (answer : Result (Unit {0}) (ReportStop F E)) : Type 0 where
+      pub ends : EndsEntry e answer
