@@ -607,7 +607,7 @@ BODY
 rule 'exits as a failed command' lines 'status: FAILED' <<'PLACES'
 # The held lines could not be written, or the writer had failed before.
 kt_cli/src/output/line_output.rt: Err(_fault) => Exit { status: FAILED },
-kt_cli/src/commands/reporting.rt: Err(TextStop::Output(_)) => Exit { status: FAILED },
+kt_cli/src/commands/reporting.rt: Err(ReportStop::Report(_)) => Exit { status: FAILED },
 kt_cli/src/commands/reporting.rt: Err(ReportStop::Report(ReportFault::Output(_))) => Exit { status: FAILED },
 PLACES
 mutant kt_cli/many_filters_exit_2

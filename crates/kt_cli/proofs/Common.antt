@@ -4,7 +4,7 @@ pub use Rattle.std.proofs.lemmas.Grind.{common_steps, flat_map-append}
 pub use Rattle.std.proofs.lemmas.List.{drop-take, length-map, set-get_or}
 pub use Rattle.std.proofs.lemmas.Option.{slice_get-get_or, slice_get-map, slice_get_within}
 pub use Rattle.std.specs.Fmt.{decimal}
-pub use Rattle.std.specs.List.{AllByRecursion, find, list_any}
+pub use Rattle.std.specs.List.{AllByRecursion, find}
 pub use Rattle.std.specs.Option.{option_copied, option_map}
 pub use Rattle.std.specs.Result.{IsErrAnd}
 pub use Rattle.std.specs.Vec.{vec_capacity, vec_len}
@@ -24,8 +24,7 @@ pub use Rattle.kt_plan.specs.declared.cases.Candidate.{Candidate}
 pub use Rattle.kt_report.proofs.InTurn.{shows_cut_off, shows_whole}
 pub use Rattle.kt_report.specs.Junits.{case_bytes, ending, heading, junit_bytes, junit_layout}
 pub use Rattle.kt_report.specs.Lines.{line_bytes}
-pub use Rattle.kt_report.specs.Pairs.{entry_bytes, with_properties}
-pub use Rattle.kt_report.specs.Texts.{IsDateOf, entries_by_section, chosen_of, entries_of, is_of, last_kind, opening, same_kind, summary, text_bytes, titled_lines}
+pub use Rattle.kt_report.specs.Texts.{IsDateOf, entries_by_section, is_of, last_kind, opening, text_bytes, text_layout, titled_lines}
 pub use Rattle.kt_sched.specs.Children.{IsIdle}
 pub use Rattle.kt_sched.specs.EntryOf.{AreEntries, Gains, IsEntry, IsEntryOf, decided, ended, refused}
 pub use Rattle.kt_sched.specs.Plan.{IsPlan}
@@ -38,7 +37,7 @@ pub use Rattle.kt_sched.specs.declared.run_fault.RunFault.TheVariants.{NoMemory,
 pub use Rattle.kt_sched.specs.declared.sink.SinkFault.{SinkFault}
 pub use Rattle.kt_sched.specs.declared.totals.Totals.{Totals}
 pub use Rattle.kt_store.specs.Ask.{IsStoreFault}
-pub use Rattle.kt_store.specs.Heads.{IsNumbered, entry_at, head_at, head_of, outlined, outputs_of, without_outputs, without_pairs}
+pub use Rattle.kt_store.specs.Heads.{IsNumbered, entry_at, head_at, head_of, outlined, outputs_of, without_outputs}
 pub use Rattle.kt_store.specs.Runs.{AreNumbered, finish, finish_refusal, finish_refusal_of, has_position, insert_at, new_run, put_refusal, put_refusal_of, run_at, with_entry}
 pub use Rattle.kt_store.specs.Serving.{Agrees, SurvivesCrash, Serves, runs_after}
 pub use Rattle.kt_store.specs.StoreCalls.{Began, Finished, Head, Outline, Outputs, Pairs, Put, StoreCall}
@@ -61,8 +60,8 @@ pub use Rattle.kt_cli.specs.Inner.MemoryRuns.{FindsPlace, ServesInMemory, closin
 pub use Rattle.kt_cli.specs.Inner.Pages.{Says, SaysMore}
 pub use Rattle.kt_cli.specs.Inner.Recording.{Recorded, Recording, recording, sink_fault_of}
 pub use Rattle.kt_cli.specs.Inner.Recordings.{RecordEnds, RecordedAll, RecordedNone, RecordedSome, Records}
-pub use Rattle.kt_cli.specs.Inner.Reports.{WritesReport, EndsEntries, JunitOrUnread, TextOrUnread, WritesEntries, WritesText}
-pub use Rattle.kt_cli.specs.Inner.StoredDetails.{Reading, ReadsEntry, WritesStored, outputs_reading}
+pub use Rattle.kt_cli.specs.Inner.Reports.{WritesReport, JunitOrUnread, TextOrUnread}
+pub use Rattle.kt_cli.specs.Inner.StoredDetails.{Reading, ReadsEntry, WritesStored, outputs_reading, pairs_reading}
 pub use Rattle.kt_cli.specs.Inner.Stores.{put_all}
 pub use Rattle.kt_cli.specs.Inner.Testing.{ExecutesPlan}
 pub use Rattle.kt_cli.specs.Machines.{HasProgram, HostResponse, SearchesDirectories, directories, further, here, nowhere}
@@ -71,7 +70,7 @@ pub use Rattle.kt_cli.specs.MemoryRuns.{LeavesInMemory, memory_runs}
 pub use Rattle.kt_cli.specs.Pages.{Printed}
 pub use Rattle.kt_cli.specs.Performing.{RunsCommand, WithResults, OverProcesses, NoRoot, Program, State, needs_nothing, closed, done, no_driver, no_surroundings, no_world, none_made, not_absolute, not_opened, program, state}
 pub use Rattle.kt_cli.specs.Recordings.{AllRecorded, IsStopped}
-pub use Rattle.kt_cli.specs.Reports.{DifferInOutputs, DifferInPairs, JunitEndsEarly, LacksRun, Reported, ReportedJunit, TextEndsEarly, RunIsUnreadable, asked_outputs, asked_pairs, next_bytes, no_outputs, no_pairs, no_run, run_of, run_shown, pairs_shown, no_output}
+pub use Rattle.kt_cli.specs.Reports.{DifferInOutputs, JunitEndsEarly, LacksRun, Reported, ReportedJunit, TextEndsEarly, RunIsUnreadable, asked_outputs, asked_pairs, no_outputs, no_pairs, no_run, run_of, run_shown, pairs_shown, no_output}
 pub use Rattle.kt_cli.specs.Scenes.{Scene, World, launcher_of, scene, with_store, world_of}
 pub use Rattle.kt_cli.specs.SoundStores.{StoreIsSound, with_new}
 pub use Rattle.kt_cli.specs.Stores.{Agree, CallsStore, beside, crash_runs_after, by_position, changed, put_among, puts}
@@ -79,6 +78,5 @@ pub use Rattle.kt_cli.specs.Testing.{PlannedRun, TestEndsEarly, Tested, begins, 
 pub use Rattle.kt_cli.specs.Totals.{bad_count, good_count, lines}
 pub use Rattle.kt_cli.specs.Warnings.{warning_at, warnings}
 pub use Rattle.kt_report.specs.declared.report_stop.ReportStop.TheVariants.{Details, Report}
-pub use Rattle.kt_cli.specs.declared.commands.report_stop.TextStop.TheVariants.{NoPairs, Output}
 pub use Rattle.kt_cli.specs.declared.host.host_world.HostWorld.{HostWorld}
 pub use Rattle.kt_cli.specs.declared.output.exit.Exit.{Exit}

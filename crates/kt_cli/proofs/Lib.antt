@@ -16,6 +16,5 @@ pub mod SoundRuns
 pub mod StoreChains
 pub mod StoredReports
 pub mod Testings
-pub mod TextSteps
 pub mod Unrepeated
 pub mod Utf8Sums

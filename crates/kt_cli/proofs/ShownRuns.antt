@@ -1,12 +1,12 @@
 -- Runs that are read and shown.
 use Rattle.std.proofs.Common.{Option, Some, None, Result, Ok, Err, Bool, true, false, ◌⊎◌, if◌then◌else◌, flat_map, ◌≡◌, ℕ, List, [], ◌∷◌, ◌++◌, refl, ap, sym, subst, inl, inr}
-use Rattle.kt_cli.proofs.Common.{Shows, utf8, Entry, Kind, Run, shows_as, shows_both, case_bytes, ending, junit_bytes, junit_layout, StoreCall, Head, IsNumbered, LacksRun, Outline, Outputs, Pairs, RunHead, StoreFault, Details, Report, NoPairs, Output, memory_line, refusal_line, TextOrUnread, JunitOrUnread, WritesReport, WritesStored, WritesText, outputs_reading, run_of, Reported, run_shown, pairs_shown, ReportedJunit, RunIsUnreadable, no_pairs, no_output, no_outputs, asked_outputs, asked_pairs, next_bytes, IsDateOf, last_kind, opening, summary, text_bytes, titled_lines, CallsStore, Date}
+use Rattle.kt_cli.proofs.Common.{Shows, utf8, Entry, Kind, Run, shows_as, shows_both, case_bytes, ending, junit_bytes, junit_layout, StoreCall, Head, IsNumbered, LacksRun, Outline, Outputs, Pairs, RunHead, StoreFault, Details, Report, memory_line, refusal_line, TextOrUnread, JunitOrUnread, WritesReport, WritesStored, outputs_reading, pairs_reading, run_of, Reported, run_shown, pairs_shown, ReportedJunit, RunIsUnreadable, no_pairs, no_output, no_outputs, asked_outputs, asked_pairs, IsDateOf, entries_by_section, last_kind, opening, text_bytes, text_layout, titled_lines, CallsStore, Date}
 use Rattle.kt_report.specs.Layouts.{bytes_to}
 use Rattle.kt_report.specs.declared.report_fault.ReportFault.{ReportFault}
 use Rattle.kt_report.specs.declared.report_stop.ReportStop.{ReportStop}
 use Rattle.kt_base.specs.declared.emission.OutputFault.{OutputFault}
-use Rattle.kt_cli.specs.declared.commands.report_stop.ReportError.{ReportError}
-use Rattle.kt_cli.specs.declared.commands.report_stop.ReportError.TheVariants.{NoRun, NoRuns, Refused as Unshown}
+use Rattle.kt_cli.specs.declared.commands.report_error.ReportError.{ReportError}
+use Rattle.kt_cli.specs.declared.commands.report_error.ReportError.TheVariants.{NoRun, NoRuns, Refused as Unshown}
 use Rattle.kt_cli.specs.Reports.{no_last_run, none_at_all, not_this_one, run_shown as run_shown_junit, no_head as unread_head, no_last as unread_last, no_outline as unread_outline, no_memory, no_output as no_junit_output}
 use Rattle.kt_cli.specs.Inner.Shown.{IsMissing, not_shown_line, FindsRun, read, missing, no_head, no_last, no_outline, ReadsRun}
 use Rattle.kt_store.specs.declared.result_store.StoreSpec as keeping
@@ -93,35 +93,41 @@ module _ {R : Type 0} (keep : keeping.Ghosts R) (number : Option ℕ) where
       abbrev Texts : Bool → Type 0
       Texts v = WritesReport keep old new was now exit (Reported number kinds v) (TextOrUnread number kinds v)
 
+      -- `StoredText run mid held answer`: the text report of `run` with properties was written from
+      -- the store `mid`
+      abbrev StoredText : Run → R → Option (List ℕ) → Result (Unit {0}) (ReportStop StoreFault OutputFault) → Type 0
+      StoredText run mid held answer =
+          (date : Date) × IsDateOf run.started date
+          × WritesStored keep pairs_reading run.number (text_layout date true run) (entries_by_section kinds run.entries) mid new was held answer
+
       -- `report` prints the text without properties
       pub did_show : (calls : List StoreCall) (run : Run) (f : Bool) → verbose ≡ false → CallsStore keep calls old new → FindsRun number calls (Ok run)
           → ((date : Date) × IsDateOf run.started date × Shows was now f (text_bytes date kinds false run)) → exit ≡ (if f then 2 else 0) → Texts verbose
       did_show calls run f off p (read head outline e) d x = subst Texts (sym off) (did calls (text_bytes d.0 kinds false run) 0 f p (inl (run_shown head outline d.0 e d.1)) d.2 x)
 
       -- `report` prints the text with properties
-      pub did_show_pairs : (mid : R) (calls : List StoreCall) (run : Run) → verbose ≡ true → CallsStore keep calls old mid → FindsRun number calls (Ok run)
-          → WritesText keep mid new was now kinds run (Ok tt) → exit ≡ 0 → Texts verbose
-      did_show_pairs mid calls run on p (read head outline e) w x =
+      pub did_show_pairs : (mid : R) (calls : List StoreCall) (run : Run) → verbose ≡ true → CallsStore keep calls old mid → FindsRun number calls (Ok run) → StoredText run mid now (Ok tt) → exit ≡ 0 → Texts verbose
+      did_show_pairs mid calls run on p (read head outline e) u x =
           subst Texts (sym on)
-          (did_more mid calls (asked_pairs run.number w.ends.0) (titled_lines true None w.ends.0 ++ summary w.ends.1 run) 0 false p w.ends.4 (inl (pairs_shown head outline w.ends.0 w.ends.1 e w.ends.2 w.ends.3)) w.ends.5 x)
+          (did_more mid calls (asked_pairs run.number u.2.ends.0) (bytes_to (text_layout u.0 true run) u.2.ends.0 []) 0 false p u.2.ends.2 (inl (pairs_shown head outline u.2.ends.0 u.0 e u.1 u.2.ends.1)) u.2.ends.3 x)
 
       -- `report` ends early if properties can't be read
       pub did_refuse_pairs : (mid : R) (calls : List StoreCall) (run : Run) (held : Option (List ℕ)) (f : Bool) (fault : StoreFault) → verbose ≡ true → CallsStore keep calls old mid
-          → FindsRun number calls (Ok run) → WritesText keep mid new was held kinds run (Err (NoPairs fault)) → Shows held now f (utf8 (refusal_line fault))
+          → FindsRun number calls (Ok run) → StoredText run mid held (Err (Details fault)) → Shows held now f (utf8 (refusal_line fault))
           → exit ≡ (if f then 2 else 2) → Texts verbose
-      did_refuse_pairs mid calls run held f fault on p (read head outline e) w s x =
+      did_refuse_pairs mid calls run held f fault on p (read head outline e) u s x =
           subst Texts (sym on)
-          (did_more mid calls (asked_pairs run.number w.ends.0 ++ Pairs run.number w.ends.2.position (Err fault) ∷ [])
-          (titled_lines true None w.ends.0 ++ opening (last_kind None w.ends.0) w.ends.2.verdict.kind ++ utf8 (refusal_line fault)) 2 f p w.ends.4
-          (inr (inr (refl, no_pairs head outline w.ends.0 w.ends.1 w.ends.2 fault e w.ends.3))) (shows_both w.ends.5 s) x)
+          (did_more mid calls (asked_pairs run.number u.2.ends.0 ++ Pairs run.number u.2.ends.2.position (Err fault) ∷ [])
+          (titled_lines true None u.2.ends.0 ++ opening (last_kind None u.2.ends.0) u.2.ends.2.verdict.kind ++ utf8 (refusal_line fault)) 2 f p u.2.ends.4
+          (inr (inr (refl, no_pairs head outline u.2.ends.0 u.2.ends.1 u.2.ends.2 fault e u.2.ends.3))) (shows_both u.2.ends.5 s) x)
 
       -- a report ends early if a write fails
       pub did_stop_pairs : (mid : R) (calls : List StoreCall) (run : Run) (fault : OutputFault) → verbose ≡ true → CallsStore keep calls old mid → FindsRun number calls (Ok run)
-          → WritesText keep mid new was now kinds run (Err (Output fault)) → exit ≡ 2 → Texts verbose
-      did_stop_pairs mid calls run fault on p (read head outline e) w x =
+          → StoredText run mid now (Err (Report fault)) → exit ≡ 2 → Texts verbose
+      did_stop_pairs mid calls run fault on p (read head outline e) u x =
           subst Texts (sym on)
-          (did_more mid calls (asked_pairs run.number w.ends.0) (titled_lines true None w.ends.0 ++ next_bytes (last_kind None w.ends.0) w.ends.1 (summary w.ends.2 run)) 2 true p w.ends.5
-          (inr (inr (refl, no_output head outline w.ends.0 w.ends.1 w.ends.2 refl e w.ends.3 w.ends.4))) w.ends.6 x)
+          (did_more mid calls (asked_pairs run.number u.2.ends.0) (bytes_to (text_layout u.0 true run) u.2.ends.0 u.2.ends.1) 2 true p u.2.ends.3
+          (inr (inr (refl, no_output head outline u.2.ends.0 u.2.ends.1 u.0 refl e u.1 u.2.ends.2))) u.2.ends.4 x)
 
     -- the effect of `report-junit`
     abbrev Junit : Type 0

@@ -5,13 +5,14 @@ pub use Rattle.std.specs.Io.KnownBytes.{Keeps, WriteAppends}
 pub use Rattle.std.specs.List.{find}
 pub use Rattle.std.specs.Option.{option_copied}
 pub use Rattle.std.specs.Str.{chars}
+pub use Rattle.jiff_core.specs.declared.civil.date.Date.{Date}
 pub use Rattle.kt_base.specs.Moments.{IsMoment}
 pub use Rattle.kt_base.specs.Shows.{Shows}
 pub use Rattle.kt_base.specs.Utf8.{utf8}
 pub use Rattle.kt_base.specs.declared.entry.Run.{Run}
 pub use Rattle.kt_child.specs.Driving.ChildrenState.{ChildrenState, is_among, shown_in}
 pub use Rattle.kt_report.specs.Junits.{junit_layout}
-pub use Rattle.kt_report.specs.Texts.{entries_by_section, chosen_of}
+pub use Rattle.kt_report.specs.Texts.{IsDateOf, entries_by_section, text_layout}
 pub use Rattle.kt_sched.specs.Children.{IsIdle}
 pub use Rattle.kt_sched.specs.Plan.{IsPlan, IsWidth}
 pub use Rattle.kt_store.specs.Ask.{IsStoreFault}
@@ -36,9 +37,9 @@ pub use Rattle.kt_cli.specs.Inner.MemoryRuns.{FindsPlace, ServesInMemory, closin
 pub use Rattle.kt_cli.specs.Inner.Pages.{Says}
 pub use Rattle.kt_cli.specs.Inner.Recording.{Recorded, HasRecorded, recording, sink_fault_of}
 pub use Rattle.kt_cli.specs.Inner.Recordings.{Records}
-pub use Rattle.kt_cli.specs.Inner.Reports.{WritesReport, JunitOrUnread, TextOrUnread, WritesEntries, WritesText}
+pub use Rattle.kt_cli.specs.Inner.Reports.{WritesReport, JunitOrUnread, TextOrUnread}
 pub use Rattle.kt_cli.specs.Inner.Shown.{IsMissing, ReadsRun, not_shown_line}
-pub use Rattle.kt_cli.specs.Inner.StoredDetails.{ReadsEntry, WritesStored, outputs_reading}
+pub use Rattle.kt_cli.specs.Inner.StoredDetails.{ReadsEntry, WritesStored, outputs_reading, pairs_reading}
 pub use Rattle.kt_cli.specs.Inner.Testing.{ExecutesPlan}
 pub use Rattle.kt_cli.specs.LineOutputs.{FlushResult, given_bytes, has_failed, is_broken, line_state, unflushed, unwritten}
 pub use Rattle.kt_cli.specs.Machines.{longest_path, read_limit}

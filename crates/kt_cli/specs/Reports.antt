@@ -1,9 +1,9 @@
 -- Output of the reports.
 use Rattle.std.specs.Prelude.{ℕ, Bool, true, false, List, [], ◌∷◌, ◌++◌, ◌≡◌, Option, Some, None, Ok, Err, codes, map}
-use Rattle.kt_cli.specs.Types.{Date, Entry, Head, IsDateOf, Kind, Outline, Outputs, Pairs, Run, RunHead, StoreCall, StoreFault, entries_by_section, decimal, last_kind, opening, summary, titled_lines, utf8}
+use Rattle.kt_cli.specs.Types.{Date, Entry, Head, IsDateOf, Kind, Outline, Outputs, Pairs, Run, RunHead, StoreCall, StoreFault, entries_by_section, decimal, last_kind, opening, titled_lines, utf8}
 use Rattle.kt_report.specs.Junits.{junit_bytes, junit_layout}
 use Rattle.kt_report.specs.Layouts.{bytes_to}
-use Rattle.kt_report.specs.Texts.{text_bytes}
+use Rattle.kt_report.specs.Texts.{text_bytes, text_layout}
 use Rattle.kt_store.specs.Heads.{IsNumbered, outputs_of, without_outputs, without_pairs}
 use Rattle.kt_cli.specs.FaultLines.{memory_line, refusal_line}
 
@@ -44,12 +44,6 @@ DifferInOutputs xs ys = map without_outputs xs ≡ map without_outputs ys
 abbrev pub asked_outputs : ℕ → List Entry → List StoreCall
 asked_outputs number entries = map (λ (e : Entry). Outputs number e.position (Ok (outputs_of e))) entries
 
--- `next_bytes before rest end`: the bytes of a text report before the entries `rest`: the title of
--- the first one, if it needs a title, or `end`.
-abbrev pub next_bytes : Option Kind → List Entry → List ℕ → List ℕ
-next_bytes before [] end = end
-next_bytes before (e ∷ rest) end = opening before e.verdict.kind
-
 -- `Reported number kinds verbose calls bytes exit`: the output of `report`, with the calls of the
 -- store. No outputs are read. Properties are read only for `verbose`, each entry's before its line
 -- is written.
@@ -59,7 +53,7 @@ pub data Reported (number : Option ℕ) (kinds : List Kind) : Bool → List Stor
   pairs_shown : (head : RunHead) (outline shown : List Entry) (date : Date) → IsNumbered number head
       → IsDateOf head.started date
       → DifferInPairs shown (entries_by_section kinds outline)
-      → Reported number kinds true (Head number (Ok (Some head)) ∷ Outline head.number (Ok outline) ∷ asked_pairs head.number shown) (titled_lines true None shown ++ summary date (run_of head outline)) 0
+      → Reported number kinds true (Head number (Ok (Some head)) ∷ Outline head.number (Ok outline) ∷ asked_pairs head.number shown) (bytes_to (text_layout date true (run_of head outline)) shown []) 0
   no_run : (verbose : Bool) (calls : List StoreCall) (line : List ℕ) → LacksRun number calls line → Reported number kinds verbose calls (utf8 line) 2
 
 -- `ReportedJunit number calls bytes exit`: the output of `report-junit`, with the calls of the
@@ -90,7 +84,7 @@ pub data TextEndsEarly (number : Option ℕ) (kinds : List Kind) (failed : Bool)
       → IsNumbered number head → IsDateOf head.started date
       → DifferInPairs (shown ++ rest) (entries_by_section kinds outline)
       → TextEndsEarly number kinds failed (Head number (Ok (Some head)) ∷ Outline head.number (Ok outline) ∷ asked_pairs head.number shown)
-      (titled_lines true None shown ++ next_bytes (last_kind None shown) rest (summary date (run_of head outline))) 2
+      (bytes_to (text_layout date true (run_of head outline)) shown rest) 2
 
 -- `JunitEndsEarly number failed calls bytes exit`: a JUnit report ends early, in one of three ways. A
 -- call for outputs failed, and its fault is printed after the cases before. Or an allocation

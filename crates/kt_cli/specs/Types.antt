@@ -17,7 +17,7 @@ pub use Rattle.kt_plan.specs.declared.cases.Candidate.{Candidate}
 pub use Rattle.kt_plan.specs.declared.cases.CommandSelection.{CommandSelection}
 pub use Rattle.kt_plan.specs.declared.stop.Stop.{Stop}
 pub use Rattle.kt_report.specs.Lines.{line_bytes}
-pub use Rattle.kt_report.specs.Texts.{IsDateOf, entries_by_section, last_kind, opening, summary, titled_lines}
+pub use Rattle.kt_report.specs.Texts.{IsDateOf, entries_by_section, last_kind, opening, titled_lines}
 pub use Rattle.kt_sched.specs.Run.{Counts}
 pub use Rattle.kt_sched.specs.Trace.{Leads, NoEvent, Trace}
 pub use Rattle.kt_sched.specs.declared.job.Ended.{Ended}

@@ -23,4 +23,4 @@ pub use Rattle.kt_report.specs.Junits.{case_bytes, element, ending, heading, jun
 pub use Rattle.kt_report.specs.Layouts.{Layout, bytes_to}
 pub use Rattle.kt_report.specs.Lines.{line_bytes, printable_reason}
 pub use Rattle.kt_report.specs.Pairs.{entry_bytes, pair_bytes, printable_byte}
-pub use Rattle.kt_report.specs.Texts.{entries_by_section, chosen_of, clock_bytes, count_bytes, counts_bytes, entries_of, is_of, last_kind, moment_bytes, opening, order, same_kind, section, sections, printable_moment, started_bytes, summary, text_bytes, title, title_line, titled_section, titled_lines, unfinished_bytes}
+pub use Rattle.kt_report.specs.Texts.{entries_by_section, sections_layout, text_layout, chosen_of, clock_bytes, count_bytes, counts_bytes, entries_of, is_of, last_kind, moment_bytes, opening, order, same_kind, section, sections, printable_moment, started_bytes, summary, text_bytes, title, title_line, titled_section, titled_lines, unfinished_bytes}

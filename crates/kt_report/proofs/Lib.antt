@@ -9,4 +9,5 @@ pub mod Outlines
 pub mod OwnDetails
 pub mod Outputs
 pub mod Runs
+pub mod TextSteps
 pub mod TitledLines

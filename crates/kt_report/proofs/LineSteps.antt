@@ -1,6 +1,6 @@
 -- The lines of entries in order.
-use Rattle.std.proofs.Common.{◌≡◌, ◌≢◌, Bool, true, false, cond, List, [], ◌∷◌, ◌++◌, length, refl, ap, flat_map}
-use Rattle.kt_report.proofs.Common.{list_any, Kind, Entry, entry_bytes, same_kind, is_of, entries_of, title_line, titled_section, section}
+use Rattle.std.proofs.Common.{◌≡◌, Bool, true, false, cond, List, [], ◌∷◌, ◌++◌, refl, ap, flat_map}
+use Rattle.kt_report.proofs.Common.{Kind, Entry, is_of, entries_of}
 
 module _ {A : Type 0} (f : Entry → List A) (kind : Kind) where
   -- `if_of e`: the items of `e` if `e` is of this kind, otherwise none.
@@ -20,11 +20,3 @@ module _ {A : Type 0} (f : Entry → List A) (kind : Kind) where
 
   pub if_of_not : (e x : Entry) → e ≡ x → is_of kind e ≡ false → [] ≡ if_of x
   if_of_not e x same is = rw (← same, is) refl
-
-titled_is : (v : Bool) (kind : Kind) (entries : List Entry) → length entries ≢ 0 → title_line kind ++ flat_map (entry_bytes v) entries ≡ titled_section v kind entries
-titled_is v kind [] n = absurd (n refl)
-titled_is v kind (e ∷ entries) n = refl
-
-pub section_is : (v : Bool) (kinds : List Kind) (entries : List Entry) (kind : Kind) → list_any (same_kind kind) kinds ≡ true → length (entries_of kind entries) ≢ 0
-    → title_line kind ++ flat_map (entry_bytes v) (entries_of kind entries) ≡ section v kinds entries kind
-section_is v kinds entries kind chosen some = rw chosen (titled_is v kind (entries_of kind entries) some)

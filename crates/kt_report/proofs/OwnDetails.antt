@@ -1,12 +1,13 @@
 -- A report over the details that entries have themselves.
-use Rattle.std.proofs.Common.{Option, Ok, Err, Bool, true, false, Result, flat_map, ◌≡◌, ℕ, List, [], ◌∷◌, ◌++◌, refl, ap, ap₂, ◌∙◌, sym, append-nil, append_assoc}
-use Rattle.kt_report.proofs.Common.{Shows, shows_as, Layout, bytes_to, heading, case_bytes, junit_layout, flat_map-append, false≢true}
+use Rattle.std.proofs.Common.{Option, Some, None, Ok, Err, Bool, true, false, Result, flat_map, ◌≡◌, ℕ, List, [], ◌∷◌, ◌++◌, refl, ap, ap₂, ◌∙◌, sym, append-nil, append_assoc}
+use Rattle.kt_report.proofs.Common.{Date, Kind, Shows, shows_as, Layout, bytes_to, heading, case_bytes, junit_layout, entry_bytes, entries_by_section, last_kind, opening, summary, text_bytes, text_layout, titled_lines, flat_map-append, false≢true}
 use Rattle.kt_report.proofs.Layouts.{Extends, cut_whole}
+use Rattle.kt_report.proofs.TitledLines.{by_section_is, titled_lines-append}
 use Rattle.kt_base.specs.declared.entry.Entry.{Entry}
 use Rattle.kt_base.specs.declared.entry.Run.{Run}
-use Rattle.kt_report.specs.Details.{Filled, WritesOverDetails}
+use Rattle.kt_report.specs.Details.{Filled, WritesOverDetails, reading, reads_nothing}
 use Rattle.kt_report.specs.Details.{none, more}
-use Rattle.kt_report.specs.Inner.Steps.{reads_nothing}
+use Rattle.kt_report.specs.declared.report_stop.ReportStop.{ReportStop}
 use Rattle.kt_report.specs.declared.report_stop.ReportStop.TheVariants.{Details, Report}
 
 abbrev is_read : {F : Type 0} → Result Entry F → Bool
@@ -47,3 +48,23 @@ junit_extends run = record {
   where
     whole : (front xs ys zs : List ℕ) → zs ≡ xs ++ ys → front ++ zs ≡ front ++ xs ++ [] ++ ys
     whole front xs ys zs is = ap (λ (l : List ℕ). front ++ l) is ∙ sym (append_assoc front xs ys) ∙ ap (λ (l : List ℕ). l ++ ys) (sym (append-nil (front ++ xs)))
+
+-- A text report has the lines of its entries in order.
+pub text_extends : (date : Date) (v : Bool) (run : Run) → Extends (text_layout date v run)
+text_extends date v run = record {
+  more = λ shown e rest. entry_bytes v e ++ titled_lines v (Some e.verdict.kind) rest;
+  is = λ shown e rest.
+      titled_lines-append v None shown (e ∷ rest)
+      ∙ sym (append_assoc (titled_lines v None shown) (opening (last_kind None shown) e.verdict.kind) (entry_bytes v e ++ titled_lines v (Some e.verdict.kind) rest));
+}
+
+module _ {S F : Type 0} {E : Type 0} {old new : S} {was now : Option (List ℕ)} (layout : Layout) (due : List Entry) where
+  -- A report that reads nothing reads nothing with pairs, too.
+  pub own_pairs : (v : Bool) (answer : Result (Unit {0}) (ReportStop F E)) → WritesOverDetails (reading v (reads_nothing {S = S} {F = F})) layout due old was now new answer
+      → WritesOverDetails (reads_nothing {S = S} {F = F}) layout due old was now new answer
+  own_pairs true answer w = w
+  own_pairs false answer w = w
+
+-- The lines of the entries by section are the sections.
+pub text_is : (date : Date) (kinds : List Kind) (v : Bool) (run : Run) → bytes_to (text_layout date v run) (entries_by_section kinds run.entries) [] ≡ text_bytes date kinds v run
+text_is date kinds v run = ap (λ (l : List ℕ). l ++ summary date run) (by_section_is v kinds run.entries)

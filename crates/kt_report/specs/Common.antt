@@ -11,12 +11,12 @@ pub use Rattle.kt_base.specs.declared.entry.Output.{Output}
 pub use Rattle.kt_base.specs.declared.verdict.Kind.{Kind}
 pub use Rattle.kt_base.specs.declared.entry.Run.{Run}
 pub use Rattle.kt_report.specs.Cases.{case_texts, with_outputs}
-pub use Rattle.kt_report.specs.Details.{WritesOverDetails}
+pub use Rattle.kt_report.specs.Details.{WritesOverDetails, reading}
 pub use Rattle.kt_report.specs.Digits.{digit, four_digits, seconds, three_digits, two_digits}
 pub use Rattle.kt_report.specs.Escapes.{escaped, escapes}
-pub use Rattle.kt_report.specs.Inner.Steps.{WritesEntry}
+pub use Rattle.kt_report.specs.Inner.Steps.{WritesEntries, WritesEntry}
 pub use Rattle.kt_report.specs.Junits.{case_bytes, element, ending, heading, junit_bytes, junit_layout, output_element, result_element}
 pub use Rattle.kt_report.specs.Lines.{line_bytes, printable_reason}
 pub use Rattle.kt_report.specs.Outlines.{ChangesHiddenParts, with_entries}
 pub use Rattle.kt_report.specs.Pairs.{entry_bytes, pair_bytes, printable_byte, with_properties}
-pub use Rattle.kt_report.specs.Texts.{IsDateOf, entries_by_section, clock_bytes, count_bytes, counts_bytes, date_bytes, entries_of, moment_bytes, opening, order, same_kind, section, sections, printable_moment, started_bytes, summary, text_bytes, title, titled_lines, unfinished_bytes}
+pub use Rattle.kt_report.specs.Texts.{IsDateOf, chosen_of, entries_by_section, clock_bytes, count_bytes, counts_bytes, date_bytes, entries_of, moment_bytes, opening, order, same_kind, printable_moment, started_bytes, summary, text_bytes, text_layout, title, unfinished_bytes}

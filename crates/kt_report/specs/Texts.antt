@@ -10,6 +10,7 @@ use Rattle.kt_base.specs.declared.verdict.Kind.TheVariants.{Passed, Skipped, Exp
 use Rattle.kt_base.specs.declared.entry.Entry.{Entry}
 use Rattle.kt_base.specs.declared.entry.Run.{Run}
 use Rattle.kt_report.specs.Digits.{two_digits, three_digits, four_digits, seconds}
+use Rattle.kt_report.specs.Layouts.{Layout}
 use Rattle.kt_report.specs.Pairs.{entry_bytes}
 
 -- `same_kind kind other`: the two kinds are equal.
@@ -85,6 +86,11 @@ abbrev pub titled_lines : Bool → Option Kind → List Entry → List ℕ
 titled_lines verbose before [] = []
 titled_lines verbose before (e ∷ entries) = opening before e.verdict.kind ++ (entry_bytes verbose e ++ titled_lines verbose (Some e.verdict.kind) entries)
 
+-- `sections_layout verbose before end`: the lines of entries, as a text over them. `before` is the
+-- kind of the entry before them, and `end` follows them.
+abbrev pub sections_layout : Bool → Option Kind → List ℕ → Layout
+sections_layout verbose before end = record { first = titled_lines verbose before; next = λ shown e. opening (last_kind before shown) e.verdict.kind; last = end }
+
 -- `printable_moment moment`: the timestamp as printed: at most the latest one that the report can
 -- print.
 abbrev pub printable_moment : ℕ → ℕ
@@ -133,3 +139,7 @@ summary date run = started_bytes date run ++ counts_bytes run.entries ++ codes "
 -- the sections have the pairs of each case.
 abbrev pub text_bytes : Date → List Kind → Bool → Run → List ℕ
 text_bytes date kinds verbose run = sections verbose kinds run.entries ++ summary date run
+
+-- `text_layout date verbose run`: the report of `run`, as a text over the entries of its sections.
+abbrev pub text_layout : Date → Bool → Run → Layout
+text_layout date verbose run = sections_layout verbose None (summary date run)

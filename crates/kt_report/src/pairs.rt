@@ -1,7 +1,7 @@
 ghost use Rattle.std.specs.Prelude.{◌≡◌, flat_map, map, is_err, true};
-ghost use Rattle.kt_report.specs.Common.{Shows, printable_byte, pair_bytes, entry_bytes, with_properties};
+ghost use Rattle.kt_report.specs.Common.{Shows, printable_byte, pair_bytes, entry_bytes, with_properties, WritesEntry, reading};
 
-use crate::line;
+use crate::{Details, ReportStop, line};
 use kt_base::{Entry, OutputFault, Variable, Variables, emit, emit_all};
 use std::io::Write;
 
@@ -44,20 +44,8 @@ fn write_pairs<W: Write>(pairs: &[Variable], out: &mut W) -> Result<(), OutputFa
     Ok(())
 }
 
-/// Writes the line of an entry, followed by the lines of `pairs` instead of the entry's own pairs
-/// (this profile).
-///
-/// The text report has these lines if it contains the properties that cases declare. The function
-/// doesn't allocate.
-///
-/// # Errors
-///
-/// - `OutputFault`: a write fails. A proper prefix of the text was written.
-pub fn text_entry<W: Write>(
-    entry: &Entry,
-    pairs: &Variables,
-    out: &mut W,
-) -> Result<(), OutputFault>
+/// Writes the line of an entry, followed by the lines of `pairs` instead of the entry's own pairs.
+fn write_shown<W: Write>(entry: &Entry, pairs: &Variables, out: &mut W) -> Result<(), OutputFault>
     ensures { Shows (W.contents out.old) (W.contents out.new) (is_err result)
         (entry_bytes true (with_properties entry.now pairs.now)) }
 {
@@ -65,13 +53,43 @@ pub fn text_entry<W: Write>(
     write_pairs(pairs.as_slice(), out)
 }
 
+/// Writes the line of an entry, followed by the lines of the pairs that are read for it.
+fn write_with_pairs<D: Details, W: Write>(
+    entry: &Entry,
+    details: &mut D,
+    out: &mut W,
+) -> Result<(), ReportStop<D::Fault, OutputFault>>
+    ensures { WritesEntry D.reads_pairs details.old (W.contents out.old) (W.contents out.new)
+        details.new (entry_bytes true) entry.now result }
+{
+    let written = match details.pairs(entry) {
+        Ok(Some(pairs)) => write_shown(entry, &pairs, out),
+        Ok(None) => write_shown(entry, &entry.meta, out),
+        Err(fault) => return Err(ReportStop::Details(fault)),
+    };
+    match written {
+        Ok(()) => Ok(()),
+        Err(fault) => Err(ReportStop::Report(fault)),
+    }
+}
+
 /// Writes the line of an entry, followed by the lines of its pairs if `verbose` is `true`.
-pub fn write_entry<W: Write>(verbose: bool, entry: &Entry, out: &mut W) -> Result<(), OutputFault>
-    ensures { Shows (W.contents out.old) (W.contents out.new) (is_err result)
-        (entry_bytes verbose entry.now) }
+///
+/// The pairs are read before the line is written. Without `verbose`, no pairs are read.
+pub fn write_entry<D: Details, W: Write>(
+    verbose: bool,
+    entry: &Entry,
+    details: &mut D,
+    out: &mut W,
+) -> Result<(), ReportStop<D::Fault, OutputFault>>
+    ensures { WritesEntry (reading verbose D.reads_pairs) details.old (W.contents out.old)
+        (W.contents out.new) details.new (entry_bytes verbose) entry.now result }
 {
     if verbose {
-        return text_entry(entry, &entry.meta, out);
+        return write_with_pairs(entry, details, out);
     }
-    line(entry, out)
+    match line(entry, out) {
+        Ok(()) => Ok(()),
+        Err(fault) => Err(ReportStop::Report(fault)),
+    }
 }

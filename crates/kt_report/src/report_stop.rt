@@ -5,7 +5,7 @@ ghost use Rattle.kt_report.specs.declared.report_stop.ReportStop.TheVariants as 
 use crate::ReportFault;
 use kt_base::OutputFault;
 
-/// Errors returned by [`junit_over`].
+/// Errors returned by [`text_over`] and [`junit_over`].
 #[derive(Clone, Copy)]
 pub enum ReportStop<F, E> {
     /// The details of an entry could not be read.
@@ -19,5 +19,13 @@ impl<F> From<OutputFault> for ReportStop<F, ReportFault> {
 
     fn from(refusal: OutputFault) -> ReportStop<F, ReportFault> {
         ReportStop::Report(ReportFault::Output(refusal))
+    }
+}
+
+impl<F> From<OutputFault> for ReportStop<F, OutputFault> {
+    ghost from_gives = { λ refusal e. e ≡ stop.Report refusal };
+
+    fn from(refusal: OutputFault) -> ReportStop<F, OutputFault> {
+        ReportStop::Report(refusal)
     }
 }

@@ -1,7 +1,8 @@
-ghost use Rattle.std.specs.Prelude.{◌≡◌, length, flat_map, is_err};
-ghost use Rattle.kt_report.specs.Common.{list_any, Shows, entry_bytes, same_kind, entries_of, title, opening, order, section, sections};
+ghost use Rattle.std.specs.Prelude.{◌≡◌, ◌∷◌, [], None, length, is_err};
+ghost use Rattle.kt_report.specs.Common.{list_any, Shows, same_kind, entries_of, chosen_of, entries_by_section, title, opening, order, reading, WritesEntries};
 
 use crate::pairs::write_entry;
+use crate::{Details, ReportStop};
 use kt_base::{Entry, Kind, OutputFault, emit_all};
 use std::io::Write;
 
@@ -14,22 +15,22 @@ const SECTION_ORDER: [Kind; 5] = [
     Kind::Failed,
 ];
 
-/// Returns the kinds in the order of their sections in the text report (this profile).
-pub fn text_order() -> &'static [Kind]
+/// Returns the kinds in the order of their sections in the text report.
+fn text_order() -> &'static [Kind]
     ensures { result.now ≡ order }
 {
     &SECTION_ORDER
 }
 
 /// Returns `true` if the two kinds are equal.
-pub fn same_kind(kind: Kind, other: Kind) -> bool
+fn same_kind(kind: Kind, other: Kind) -> bool
     ensures { result ≡ same_kind kind other }
 {
     kind == other
 }
 
 /// Returns `true` if the kind is one of the chosen kinds.
-pub fn is_chosen(kinds: &[Kind], kind: Kind) -> bool
+fn is_chosen(kinds: &[Kind], kind: Kind) -> bool
     ensures { result ≡ list_any (same_kind kind) kinds.now }
 {
     kinds.iter().any(|first| same_kind(kind, *first))
@@ -62,18 +63,8 @@ fn title(kind: Kind) -> &'static [u8]
 }
 
 /// Writes the title of a kind's section in the text report, unless the entry before it is in that
-/// section (this profile).
-///
-/// `before` is the kind of the entry before it. The function doesn't allocate.
-///
-/// # Errors
-///
-/// - `OutputFault`: a write fails. A proper prefix of the title was written.
-pub fn text_title<W: Write>(
-    before: Option<Kind>,
-    kind: Kind,
-    out: &mut W,
-) -> Result<(), OutputFault>
+/// section. `before` is the kind of the entry before it.
+fn write_title<W: Write>(before: Option<Kind>, kind: Kind, out: &mut W) -> Result<(), OutputFault>
     ensures { Shows (W.contents out.old) (W.contents out.new) (is_err result)
         (opening before kind) }
 {
@@ -83,57 +74,69 @@ pub fn text_title<W: Write>(
     }
 }
 
-/// Writes the lines of the entries of a kind.
-fn write_lines<W: Write>(
+/// Writes an entry of the text report, with its pairs if `verbose` is `true`, and returns its kind.
+///
+/// `before` is the kind of the entry before it. A title precedes the entry if its kind differs.
+fn write_titled<D: Details, W: Write>(
     verbose: bool,
-    kind: Kind,
-    entries: &[Entry],
+    before: Option<Kind>,
+    entry: &Entry,
+    details: &mut D,
     out: &mut W,
-) -> Result<(), OutputFault>
-    ensures { Shows (W.contents out.old) (W.contents out.new) (is_err result)
-        (flat_map (entry_bytes verbose) (entries_of kind entries.now)) }
+) -> Result<Option<Kind>, ReportStop<D::Fault, OutputFault>>
+    ensures { WritesEntries (reading verbose D.reads_pairs) details.old (W.contents out.old)
+        (W.contents out.new) details.new verbose before (entry.now ∷ []) result }
 {
-    for entry in entries {
-        if same_kind(kind, entry.verdict.kind()) {
-            write_entry(verbose, entry, out)?;
-        }
-    }
-    Ok(())
+    let kind = entry.verdict.kind();
+    write_title(before, kind, out)?;
+    write_entry(verbose, entry, details, out)?;
+    Ok(Some(kind))
 }
 
-/// Writes the section of a kind, if the kind is chosen and has an entry.
-fn write_section<W: Write>(
+/// Writes the section of a kind, if the kind is chosen.
+///
+/// Returns the kind of the last written entry, or `before` if nothing is written.
+fn write_section<D: Details, W: Write>(
     verbose: bool,
     kinds: &[Kind],
     entries: &[Entry],
     kind: Kind,
+    before: Option<Kind>,
+    details: &mut D,
     out: &mut W,
-) -> Result<(), OutputFault>
-    ensures { Shows (W.contents out.old) (W.contents out.new) (is_err result)
-        (section verbose kinds.now entries.now kind) }
+) -> Result<Option<Kind>, ReportStop<D::Fault, OutputFault>>
+    ensures { WritesEntries (reading verbose D.reads_pairs) details.old (W.contents out.old)
+        (W.contents out.new) details.new verbose before
+        (chosen_of kinds.now entries.now kind) result }
 {
     if !is_chosen(kinds, kind) {
-        return Ok(());
+        return Ok(before);
     }
-    if count(kind, entries) == 0 {
-        return Ok(());
+    let mut last = before;
+    for entry in entries {
+        if same_kind(kind, entry.verdict.kind()) {
+            last = write_titled(verbose, last, entry, details, out)?;
+        }
     }
-    text_title(None, kind, out)?;
-    write_lines(verbose, kind, entries, out)
+    Ok(last)
 }
 
-/// Writes the sections of the chosen kinds, in their order.
-pub fn write_sections<W: Write>(
+/// Writes the sections of the chosen kinds, in their order, and returns the kind of the last
+/// written entry.
+pub fn write_sections<D: Details, W: Write>(
     verbose: bool,
     kinds: &[Kind],
     entries: &[Entry],
+    details: &mut D,
     out: &mut W,
-) -> Result<(), OutputFault>
-    ensures { Shows (W.contents out.old) (W.contents out.new) (is_err result)
-        (sections verbose kinds.now entries.now) }
+) -> Result<Option<Kind>, ReportStop<D::Fault, OutputFault>>
+    ensures { WritesEntries (reading verbose D.reads_pairs) details.old (W.contents out.old)
+        (W.contents out.new) details.new verbose None
+        (entries_by_section kinds.now entries.now) result }
 {
+    let mut last = None;
     for kind in text_order() {
-        write_section(verbose, kinds, entries, *kind, out)?;
+        last = write_section(verbose, kinds, entries, *kind, last, details, out)?;
     }
-    Ok(())
+    Ok(last)
 }

@@ -78,15 +78,10 @@ fn write_counts<W: Write>(entries: &[Entry], out: &mut W) -> Result<(), OutputFa
     )
 }
 
-/// Writes the summary of a run, which ends the text report. `date` is the date of the run's start
-/// (this profile).
+/// Writes the summary of a run, which ends the text report. `date` is the date of the run's start.
 ///
-/// Of the entries, only the verdicts and the durations count. The function doesn't allocate.
-///
-/// # Errors
-///
-/// - `OutputFault`: a write fails. A proper prefix of the summary was written.
-pub fn text_summary<W: Write>(date: Date, run: &Run, out: &mut W) -> Result<(), OutputFault>
+/// Of the entries, only the verdicts and the durations count.
+pub fn write_summary<W: Write>(date: Date, run: &Run, out: &mut W) -> Result<(), OutputFault>
     ensures { Shows (W.contents out.old) (W.contents out.new) (is_err result)
         (summary date run.now) }
 {

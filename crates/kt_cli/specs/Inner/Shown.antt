@@ -3,8 +3,8 @@ use Rattle.std.specs.Prelude.{ℕ, List, [], ◌∷◌, ◌≡◌, Option, Some,
 use Rattle.kt_cli.specs.Types.{Entry, Head, Outline, Run, RunHead, StoreCall, StoreFault}
 use Rattle.kt_store.specs.Heads.{IsNumbered}
 use Rattle.kt_store.specs.declared.result_store.StoreSpec as keeping
-use Rattle.kt_cli.specs.declared.commands.report_stop.ReportError.{ReportError}
-use Rattle.kt_cli.specs.declared.commands.report_stop.ReportError.TheVariants.{NoRuns, NoRun, Refused}
+use Rattle.kt_cli.specs.declared.commands.report_error.ReportError.{ReportError}
+use Rattle.kt_cli.specs.declared.commands.report_error.ReportError.TheVariants.{NoRuns, NoRun, Refused}
 use Rattle.kt_cli.specs.FaultLines.{refusal_line}
 use Rattle.kt_cli.specs.Reports.{LacksRun, no_runs_line, no_run_line, run_of}
 use Rattle.kt_cli.specs.Stores.{CallsStore}

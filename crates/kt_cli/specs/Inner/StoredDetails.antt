@@ -1,10 +1,10 @@
 -- Details of entries, as a report reads them from a results store.
 use Rattle.std.specs.Prelude.{ℕ, true, false, List, [], ◌∷◌, ◌++◌, ◌≡◌, Option, Result, Ok, Err, map}
-use Rattle.kt_cli.specs.Types.{Entry, Outputs, Shows, StoreCall, StoreFault}
+use Rattle.kt_cli.specs.Types.{Entry, Outputs, Pairs, Shows, StoreCall, StoreFault}
 use Rattle.kt_report.specs.Layouts.{Layout, bytes_to}
 use Rattle.kt_report.specs.declared.report_stop.ReportStop.{ReportStop}
 use Rattle.kt_report.specs.declared.report_stop.ReportStop.TheVariants.{Details, Report}
-use Rattle.kt_store.specs.Heads.{outputs_of, without_outputs}
+use Rattle.kt_store.specs.Heads.{outputs_of, without_outputs, without_pairs}
 use Rattle.kt_store.specs.declared.result_store.StoreSpec as keeping
 use Rattle.kt_cli.specs.Stores.{CallsStore}
 
@@ -15,6 +15,10 @@ pub record Reading : Type 0 where
   pub without : Entry → Entry
   pub call : ℕ → Entry → StoreCall
   pub failed : ℕ → Entry → StoreFault → StoreCall
+
+-- The reads for the properties of each entry.
+abbrev pub pairs_reading : Reading
+pairs_reading = record { without = without_pairs; call = λ number e. Pairs number e.position (Ok e.meta); failed = λ number e fault. Pairs number e.position (Err fault) }
 
 -- The reads for the outputs of each entry.
 abbrev pub outputs_reading : Reading

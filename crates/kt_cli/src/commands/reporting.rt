@@ -1,16 +1,13 @@
-ghost use Rattle.std.specs.Prelude.{◌≡◌, ◌∷◌, [], None, is_err};
-ghost use Rattle.kt_cli.specs.Common.{utf8, Shows, TextOrUnread, JunitOrUnread, WritesReport, WritesEntries, WritesStored, WritesText, junit_layout, outputs_reading, entries_by_section, chosen_of, Reported, ReportedJunit, IsMissing, ReadsRun, not_shown_line};
+ghost use Rattle.std.specs.Prelude.{◌≡◌, is_err, true};
+ghost use Rattle.kt_cli.specs.Common.{utf8, Shows, TextOrUnread, JunitOrUnread, WritesReport, WritesStored, Date, IsDateOf, junit_layout, outputs_reading, pairs_reading, text_layout, entries_by_section, Reported, ReportedJunit, IsMissing, ReadsRun, not_shown_line};
 
 use crate::Exit;
-use crate::commands::report_stop::{ReportError, TextStop};
+use crate::commands::report_error::ReportError;
 use crate::commands::stored_details::StoredDetails;
 use crate::messages::{write_memory, write_refusal};
 use crate::output::exit::{FAILED, ended};
-use kt_base::{Decimal, Entry, Items, Kind, OutputFault, Run, emit, emit_all};
-use kt_report::{
-    ReportFault, ReportStop, date_of, is_chosen, junit_over, same_kind, text, text_entry,
-    text_order, text_summary, text_title,
-};
+use kt_base::{Decimal, Items, Kind, OutputFault, Run, emit, emit_all};
+use kt_report::{ReportFault, ReportStop, junit_over, text, text_over};
 use kt_store::{ResultStore, StoreFault};
 use std::alloc::Global;
 use std::io::Write;
@@ -67,71 +64,6 @@ fn write_report_error<O: Write>(why: ReportError, out: &mut O) -> Result<(), Out
     }
 }
 
-/// Writes an entry of a text report, with its properties, and returns its kind.
-///
-/// `before` is the kind of the entry before it. A title precedes the entry if its kind differs. The
-/// properties are read from the store.
-fn write_entry<R: ResultStore, O: Write>(
-    run: u64,
-    before: Option<Kind>,
-    entry: &Entry,
-    results: &mut R,
-    out: &mut O,
-) -> Result<Option<Kind>, TextStop>
-    ensures { WritesEntries R.StoreSpec results.old results.new (O.contents out.old)
-        (O.contents out.new) run before (entry.now ∷ []) result }
-{
-    let kind = entry.verdict.kind();
-    text_title(before, kind, out)?;
-    let pairs = results.pairs(run, entry.position)?;
-    text_entry(entry, &pairs, out)?;
-    Ok(Some(kind))
-}
-
-/// Writes the section of a kind, if the kind is chosen.
-///
-/// Returns the kind of the last written entry, or `before` if nothing is written.
-fn write_section<R: ResultStore, O: Write>(
-    run: &Run,
-    kinds: &[Kind],
-    kind: Kind,
-    before: Option<Kind>,
-    results: &mut R,
-    out: &mut O,
-) -> Result<Option<Kind>, TextStop>
-    ensures { WritesEntries R.StoreSpec results.old results.new (O.contents out.old)
-        (O.contents out.new) run.now.number before (chosen_of kinds.now run.now.entries kind)
-        result }
-{
-    if !is_chosen(kinds, kind) {
-        return Ok(before);
-    }
-    let mut last = before;
-    for entry in run.entries.as_slice() {
-        if same_kind(kind, entry.verdict.kind()) {
-            last = write_entry(run.number, last, entry, results, out)?;
-        }
-    }
-    Ok(last)
-}
-
-/// Writes the sections of the chosen kinds, and returns the kind of the last written entry.
-fn write_sections<R: ResultStore, O: Write>(
-    run: &Run,
-    kinds: &[Kind],
-    results: &mut R,
-    out: &mut O,
-) -> Result<Option<Kind>, TextStop>
-    ensures { WritesEntries R.StoreSpec results.old results.new (O.contents out.old)
-        (O.contents out.new) run.now.number None (entries_by_section kinds.now run.now.entries) result }
-{
-    let mut last = None;
-    for kind in text_order() {
-        last = write_section(run, kinds, *kind, last, results, out)?;
-    }
-    Ok(last)
-}
-
 /// Writes the text report of a run, with the properties of each case.
 ///
 /// The properties are read entry by entry, so that they are held for one entry at a time.
@@ -140,14 +72,18 @@ fn write_text<R: ResultStore, O: Write>(
     kinds: &[Kind],
     results: &mut R,
     out: &mut O,
-) -> Result<(), TextStop>
-    ensures { WritesText R.StoreSpec results.old results.new (O.contents out.old)
-        (O.contents out.new) kinds.now run.now result }
+) -> Result<(), ReportStop<StoreFault, OutputFault>>
+    ensures { (date : Date) × IsDateOf run.now.started date
+        × WritesStored R.StoreSpec pairs_reading run.now.number (text_layout date true run.now)
+        (entries_by_section kinds.now run.now.entries) results.old results.new
+        (O.contents out.old) (O.contents out.new) result }
 {
-    let date = date_of(run.started);
-    write_sections(run, kinds, results, out)?;
-    text_summary(date, run, out)?;
-    Ok(())
+    let number = run.number;
+    let mut details = StoredDetails { results, number };
+    let written = text_over(run, kinds, true, &mut details, out);
+    // No effect: this use shows the prover that the borrow of the details ends here.
+    let _ = &*details.results;
+    written
 }
 
 /// Executes `report`: prints a run as text, and returns the exit status.
@@ -174,8 +110,8 @@ pub fn report<R: ResultStore, O: Write>(
     }
     match write_text(&run, kinds, results, out) {
         Ok(()) => Exit { status: 0 },
-        Err(TextStop::NoPairs(fault)) => ended(write_refusal(fault, out), FAILED),
-        Err(TextStop::Output(_)) => Exit { status: FAILED },
+        Err(ReportStop::Details(fault)) => ended(write_refusal(fault, out), FAILED),
+        Err(ReportStop::Report(_)) => Exit { status: FAILED },
     }
 }
 

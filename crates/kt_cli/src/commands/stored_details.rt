@@ -1,8 +1,8 @@
-use kt_base::Entry;
+use kt_base::{Entry, Variables};
 use kt_report::{Details, ShownOutputs};
 use kt_store::{ResultStore, StoreFault};
 
-/// A `Details` that reads the outputs of a run's entries from a results store.
+/// A `Details` that reads the properties and the outputs of a run's entries from a results store.
 #[derive(Drop)]
 pub struct StoredDetails<'a, R> {
     /// The results store.
@@ -13,13 +13,22 @@ pub struct StoredDetails<'a, R> {
 
 impl<R: ResultStore> Details for StoredDetails<'_, R> {
     ghost use Rattle.std.specs.Prelude.{◌≡◌};
-    ghost use Rattle.kt_cli.specs.Common.{ReadsEntry, outputs_reading};
+    ghost use Rattle.kt_cli.specs.Common.{ReadsEntry, outputs_reading, pairs_reading};
 
     type Fault = StoreFault;
+
+    ghost reads_pairs = { λ s e answer t. (t.results.ghost_name ≡ s.results.ghost_name)
+        × (t.number ≡ s.number)
+        × ReadsEntry R.StoreSpec pairs_reading s.number e s.results.now answer t.results.now };
 
     ghost reads_outputs = { λ s e answer t. (t.results.ghost_name ≡ s.results.ghost_name)
         × (t.number ≡ s.number)
         × ReadsEntry R.StoreSpec outputs_reading s.number e s.results.now answer t.results.now };
+
+    fn pairs(&mut self, entry: &Entry) -> Result<Option<Variables>, StoreFault> {
+        let pairs = self.results.pairs(self.number, entry.position)?;
+        Ok(Some(pairs))
+    }
 
     fn outputs(&mut self, entry: &Entry) -> Result<Option<ShownOutputs>, StoreFault> {
         let read = self.results.outputs(self.number, entry.position)?;

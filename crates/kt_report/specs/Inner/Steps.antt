@@ -1,15 +1,13 @@
 -- The steps of a report whose details are read one entry at a time.
-use Rattle.std.specs.Prelude.{ℕ, true, false, List, ◌≡◌, Option, Result, Ok, Err}
+use Rattle.std.specs.Prelude.{ℕ, Bool, true, false, List, [], ◌≡◌, Option, Result, Ok, Err}
 use Rattle.kt_base.specs.Shows.{Shows}
 use Rattle.kt_base.specs.declared.entry.Entry.{Entry}
-use Rattle.kt_report.specs.Details.{Filled}
+use Rattle.kt_base.specs.declared.verdict.Kind.{Kind}
+use Rattle.kt_report.specs.Details.{EndsOverDetails, Filled}
 use Rattle.kt_report.specs.Layouts.{Layout}
+use Rattle.kt_report.specs.Texts.{last_kind, sections_layout, titled_lines}
 use Rattle.kt_report.specs.declared.report_stop.ReportStop.{ReportStop}
 use Rattle.kt_report.specs.declared.report_stop.ReportStop.TheVariants.{Details, Report}
-
--- `reads_nothing old e answer new`: `answer` is the entry `e` itself, and the state is unchanged.
-abbrev pub reads_nothing : {S F : Type 0} → S → Entry → Result Entry F → S → Type 0
-reads_nothing old e answer new = (answer ≡ Ok e) × (new ≡ old)
 
 module _ {S F : Type 0} (reads : S → Entry → Result Entry F → S → Type 0) (old : S) (was now : Option (List ℕ)) (new : S) where
   -- `WritesFirst layout due`: the beginning of a report was written, up to the end of the entries
@@ -28,3 +26,15 @@ module _ {S F : Type 0} (reads : S → Entry → Result Entry F → S → Type 0
     -- `WritesEntry e answer`: `EndsEntry`, as a record.
     pub record WritesEntry (e : Entry) (answer : Result (Unit {0}) (ReportStop F E)) : Type 0 where
       pub ends : EndsEntry e answer
+
+  module _ {E : Type 0} (verbose : Bool) (before : Option Kind) (due : List Entry) where
+    -- `EndsEntries answer`: the lines of `due` were written after an entry of the kind `before`,
+    -- with their titles and the details of each entry. `answer` is the kind of the last entry, or
+    -- the error that ended them.
+    abbrev pub EndsEntries : Result (Option Kind) (ReportStop F E) → Type 0
+    EndsEntries (Ok last) = (shown : List Entry) × Filled reads old due shown new × (last ≡ last_kind before shown) × Shows was now false (titled_lines verbose before shown)
+    EndsEntries (Err stop) = EndsOverDetails reads (sections_layout verbose before []) due old was now new (Err stop)
+
+    -- `WritesEntries answer`: `EndsEntries`, as a record.
+    pub record WritesEntries (answer : Result (Option Kind) (ReportStop F E)) : Type 0 where
+      pub ends : EndsEntries answer

@@ -21,15 +21,15 @@ returns-in-Ok-write_text g c =
     did_show_pairs g.R.StoreSpec c.args.number _ _ _ _ _ c.args.kinds.now c.args.verbose _ _ c.in-Ok.run' on c.in-Ok.ensures.stored c.in-Ok.ensures.finds
     c.in-Ok-write_text.ensures refl
 
-pub returns-in-Err-NoPairs : goal.returns-in-Err-NoPairs
-returns-in-Err-NoPairs g c =
+pub returns-in-Err-Details : goal.returns-in-Err-Details
+returns-in-Err-Details g c =
     let on : c.args.verbose ≡ true = search rules in
-    did_refuse_pairs g.R.StoreSpec c.args.number _ _ _ _ _ c.args.kinds.now c.args.verbose _ _ c.in-Ok.run' _ _ c.in-Err-NoPairs.fault on
-    c.in-Ok.ensures.stored c.in-Ok.ensures.finds (rw c.in-Err-NoPairs.field-0-is at c.in-Err-NoPairs.ensures)
-    c.write_refusal.ensures c.ended-in-Err-NoPairs.ensures
+    did_refuse_pairs g.R.StoreSpec c.args.number _ _ _ _ _ c.args.kinds.now c.args.verbose _ _ c.in-Ok.run' _ _ c.in-Err-Details.fault on
+    c.in-Ok.ensures.stored c.in-Ok.ensures.finds (rw c.in-Err-Details.field-0-is at c.in-Err-Details.ensures)
+    c.write_refusal.ensures c.ended-in-Err-Details.ensures
 
 pub returns : goal.returns
 returns g c =
     let on : c.args.verbose ≡ true = search rules in
     did_stop_pairs g.R.StoreSpec c.args.number _ _ _ _ _ c.args.kinds.now c.args.verbose _ _ c.in-Ok.run' _ on c.in-Ok.ensures.stored c.in-Ok.ensures.finds
-    (rw c.in-Err-Output.field-0-is at c.in-Err-Output.ensures) refl
+    (rw c.in-Err-Report.field-0-is at c.in-Err-Report.ensures) refl

@@ -1,6 +1,6 @@
 use Rattle.std.proofs.Common.{ap, ◌∙◌, codes, sum_by}
 use Rattle.kt_report.proofs.Common.{Entry, seconds, counts_bytes, shows_as, shows_both, shows_error, shows_more}
-use Rattle.kt_report.proofs.summary.text_summary.Goals as goal
+use Rattle.kt_report.proofs.summary.write_summary.Goals as goal
 
 pub returns-in_err-write_started : goal.returns-in_err-write_started
 returns-in_err-write_started g c =
