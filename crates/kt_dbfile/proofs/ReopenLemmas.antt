@@ -1,11 +1,11 @@
 -- A close leaves files that meet the conditions of an open.
-use Rattle.kt_dbfile.proofs.Common.{Closed, FileStore, HasTrees, HoldsDatabase, HoldsRuns, Image, IsOfRuns, IsTrue, Keeps, IsSchema2OfOne, List, Recovers, Run, StaysNumbered, Trees, [], adopts_of, ap, clean_if_open, file_alone, file_trees, inl, inr, kept_schema, refl, schema_2, settled, shut_if_dirty_at, size_is_allowed, subst, ◌∙◌, ◌∷◌, ◌≡◌, ∥∥₁_elim, ∥∥₁_map}
+use Rattle.kt_dbfile.proofs.Common.{AreClean, Closed, FailsToEnd, FileStore, HasCommitted, HasTrees, HoldsDatabase, HoldsRuns, Image, IsOfRuns, IsTrue, Keeps, IsSchema2OfOne, List, Recovers, Run, StaysNumbered, Trees, [], adopts_of, ap, clean_if_open, file_alone, file_trees, inl, inr, kept_schema, outcomes, refl, schema_2, settled, settled_at, shut_if_dirty_at, size_is_allowed, subst, sym, ◌∙◌, ◌∷◌, ◌≡◌, ∥∥₁_elim, ∥∥₁_map}
 use Rattle.kt_base.specs.Chains.{Chain}
 use Rattle.kt_store.specs.StoreCalls.{StoreCall}
 use Rattle.sqlite_disk.specs.declared.Disk.{Ghosts}
 use Rattle.sqlite_wal.proofs.LogLemmas.{SeenMayStay}
 use Rattle.sqlite_wal.proofs.StateLemmas.{clean_of}
-use Rattle.sqlite_store.specs.FileStore.{state, view, log_frames, recovers, schema_in}
+use Rattle.sqlite_store.specs.FileStore.{files, state, view, log_frames, recovers, schema_in}
 use Rattle.sqlite_store.specs.Listing.{IsOurs}
 use Rattle.kt_dbfile.proofs.EditLemmas.{sound_in}
 
@@ -103,6 +103,20 @@ module _ {D : Type 0} {g : Ghosts D} where
         let left = end.ends.left end.honest after end.outcome in
         let keeps = end.has opened in
         (holds after _ _ left.0 numbered runs keeps, holds (record after { log = [] }) _ _ left.1 numbered runs keeps)
+
+-- a failed close that leaves its store open leaves files that hold the runs of the last commit
+pub kept : {D : Type 0} {g : Ghosts D} (store left : FileStore D g) (runs : List Run) (after : Image) → SeenMayStay g → HasCommitted (view store) runs → IsTrue (view store).is_numbered → FailsToEnd store left → StaysNumbered (view store) (view left)
+    → IsTrue (view left).is_open → AreClean g (files left).0 (files left).1 → outcomes g (files left).0 (files left).1 after → HoldsRuns after runs
+unfolding holds
+kept store left runs after stays has was_numbered end same is_open honest outcome =
+    let was = same (clean_if_open (view left) (shut_if_dirty_at left) is_open) is_open in
+    let keeps : Keeps runs (view store).committed = has was.0 in (
+      (view store).committed,
+      ∥∥₁_elim (end.left honest after outcome) squash₁ (λ it.
+          let last : it.0 ≡ (view store).committed = settled_at store stays it.0 was.0 it.1 in
+          subst (λ t. ∥ HoldsDatabase after t ∥₁) last (holds after _ it.0 it.2 (was.1 ∙ was_numbered) runs (subst (Keeps runs) (sym last) keeps)).1),
+      keeps,
+    )
 
 -- the runs of other trees are among the same lists
 pub one_of : (may : List (List Run)) (trees others : Trees) → ((runs : List Run) → Keeps runs trees → Keeps runs others) → IsSchema2OfOne may trees → IsSchema2OfOne may others

@@ -1,5 +1,5 @@
 ghost use Rattle.std.specs.Prelude.{◌≡◌, ◌⊎◌, [], ◌∷◌, pos, codes, map, drop, true, false, Ok, IfOk, IfErr, OnOk, IfSome, IsTrue};
-ghost use Rattle.kt_dbfile.specs.Common.{Ends, FailsToEnd, Int, IsOnlyRead, IsOfOptions, IsStoreFault, OnlyReadsStore, ListsRuns, MustBeChecked, RecoversAsBefore, HasOtherSchema};
+ghost use Rattle.kt_dbfile.specs.Common.{Ends, FailsToEnd, Int, IsOnlyRead, IsOfOptions, IsStoreFault, OnlyReadsStore, ListsRuns, MustBeChecked, RecoversAsBefore, HasOtherSchema, StaysNumbered};
 ghost use Rattle.kt_store.specs.TrustedContents.{IsOfRuns, ListsTables, key_object, objects_2, table_object};
 ghost use Rattle.sqlite_trees.specs.Tree.{Trees};
 ghost use Rattle.sqlite_value.specs.Value.{owned};
@@ -298,6 +298,7 @@ pub(crate) fn close_store<D: Disk + Drop>(
 ) -> Result<(), (StoreFailure, FileStore<D>)>
     ensures closed { OnOk result (Ends store) }
     ensures failed { IfErr result (λ e. FailsToEnd store e.1) }
+    ensures numbered { IfErr result (λ e. StaysNumbered (view store) (view e.1)) }
 {
     store.rollback();
     match store.checkpoint() {

@@ -126,36 +126,25 @@ impl<S: Alter + Drop> RunsFile<S> {
     }
 }
 
-/// Returns the fault of a close that failed, and drops the returned store.
-fn ended<L: Drop>(closed: Result<(), (StoreFailure, L)>) -> Result<(), StoreFault>
-    ensures ok { OnOk result (closed ≡ Ok tt) }
-    ensures left { OnErr result ((failure : _) × (store : L) × (closed ≡ Err (failure, store))) }
-    ensures failed { IfErr result IsStoreFault }
-{
-    match closed {
-        Ok(()) => Ok(()),
-        Err((failure, _store)) => Err(StoreFault::from(failure)),
-    }
-}
-
 impl<D: Disk + Drop> RunsFile<FileStore<D>> {
-    ghost use Rattle.std.specs.Prelude.{OnErr, OnOk, IfErr};
-    ghost use Rattle.kt_dbfile.specs.Common.{Ends, FailsToEnd, IsStoreFault};
+    ghost use Rattle.std.specs.Prelude.{OnOk, IfErr};
+    ghost use Rattle.kt_dbfile.specs.Common.{Ends, FailsToEnd, IsStoreFault, StaysNumbered};
+    ghost use Rattle.sqlite_store.specs.FileStore.{view};
 
     /// Closes the results. The database file then contains all of them, without its log.
     ///
     /// # Errors
     ///
-    /// On failure, the file and its log have the results of the last commit. If a call failed after
-    /// it, they may have the change of that call, too.
+    /// The store is returned with the error. Its file and its log have the results of the last
+    /// commit. If a call failed after it, they may have the change of that call, too.
     ///
     /// - `Store`: the log can't be copied into the file.
     /// - `NoMemory`: memory ran out.
-    pub fn close(self) -> Result<(), StoreFault>
+    pub fn close(self) -> Result<(), (StoreFault, FileStore<D>)>
         ensures closed { OnOk result (Ends self) }
-        ensures failed { IfErr result IsStoreFault }
-        // `last` is the store that `close_store` returned. It is dropped.
-        ensures left { OnErr result ((last : _) × FailsToEnd self last) }
+        ensures failed { IfErr result (λ e. IsStoreFault e.0) }
+        ensures left { IfErr result (λ e. FailsToEnd self e.1) }
+        ensures numbered { IfErr result (λ e. StaysNumbered (view self) (view e.1)) }
     {
         // Separate for the prover: over a disk, a call of `into_store` takes 30 seconds to prove.
         let RunsFile {
@@ -163,7 +152,10 @@ impl<D: Disk + Drop> RunsFile<FileStore<D>> {
             schema: _,
             alloc: _,
         } = self;
-        Ok(ended(close_store(store))?)
+        match close_store(store) {
+            Ok(()) => Ok(()),
+            Err((failure, left)) => Err((StoreFault::from(failure), left)),
+        }
     }
 }
 

@@ -44,7 +44,10 @@ impl<S: InitialContents> ResultsHost for KyuaHost<'_, S> {
     }
 
     fn close(&mut self, results: Self::Results) -> Result<(), StoreFault> {
-        results.close()
+        match results.close() {
+            Ok(()) => Ok(()),
+            Err((fault, _left)) => Err(fault),
+        }
     }
 
     fn process_env(&mut self) -> Result<ProcessEnv, DriverFault> {

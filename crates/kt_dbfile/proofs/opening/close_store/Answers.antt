@@ -1,4 +1,4 @@
-use Rattle.kt_dbfile.proofs.Common.{AreClean, HasTrees, Image, IsClean, View, [], ap, arith, clean_is, may_leave_is, open_from, outcomes, subst, sym, ◌∙◌, ◌≡◌, ∥∥₁_map}
+use Rattle.kt_dbfile.proofs.Common.{AreClean, HasTrees, Image, IsClean, IsTrue, View, [], ap, arith, clean_is, may_leave_is, open_from, outcomes, subst, sym, ◌∙◌, ◌≡◌, ∥∥₁_map}
 use Rattle.sqlite_trees.proofs.Doubt.{clean_of as sure, no_doubt}
 use Rattle.sqlite_store.specs.FileStore.{state, view}
 use Rattle.sqlite_store.proofs.StepLemmas.{quiet_then}
@@ -49,3 +49,11 @@ returns-in-Err-clause-failed g c =
           ∥∥₁_map (left_of last image (may_leave_is last.pool image honest may)) (λ it.
           (it.0, first.outcomes it.0 (second.outcomes it.0 it.1), it.2));
     }
+
+-- a store that is open was not changed by the checkpoint
+pub returns-in-Err-clause-numbered : goal.returns-in-Err-clause-numbered
+returns-in-Err-clause-numbered g c clean opened =
+    let first = c.rollback.ensures.undone in
+    let same = c.checkpoint.ensures.same opened in
+    let kept = first.kept (subst IsClean same clean) in
+    (kept.was_open (subst (λ (v : View). IsTrue v.is_open) same opened), ap (λ (v : View). v.is_numbered) same ∙ first.numbered)

@@ -1,12 +1,11 @@
-use Rattle.kt_dbfile.proofs.Common.{Ends, FailsToEnd, IfErr, OnOk, subst}
-use Rattle.kt_store.proofs.FaultLemmas.{on_err}
+use Rattle.kt_dbfile.proofs.Common.{Ends, FailsToEnd, StaysNumbered, subst, view}
 use Rattle.kt_dbfile.proofs.runs_file.RunsFile+FileStore+D.close.Goals as goal
 
-pub returns-clause-closed : goal.returns-clause-closed
-returns-clause-closed g c = subst Ends c.self.view_is (subst (λ r. OnOk r (Ends c.self.inside.store)) c.in_ok-ended.ensures.ok c.close_store.ensures.closed)
+pub returns-in-Ok-clause-closed : goal.returns-in-Ok-clause-closed
+returns-in-Ok-clause-closed g c = subst Ends c.self.view_is (rw c.in-Ok.is at c.close_store.ensures.closed)
 
-pub returns-in_err-ended-clause-left : goal.returns-in_err-ended-clause-left
-returns-in_err-ended-clause-left g c =
-    let it = c.in_err-ended.ensures.left in
-    let failed = subst (λ r. IfErr r (λ e. FailsToEnd c.self.inside.store e.1)) it.2 c.close_store.ensures.failed in
-    on_err _ c.from_residual.result (it.1, subst (λ s. FailsToEnd s it.1) c.self.view_is failed)
+pub returns-clause-left : goal.returns-clause-left
+returns-clause-left g c = subst (λ s. FailsToEnd s c.in-Err.left) c.self.view_is (rw c.in-Err.is at c.close_store.ensures.failed)
+
+pub returns-clause-numbered : goal.returns-clause-numbered
+returns-clause-numbered g c = subst (λ s. StaysNumbered (view s) (view c.in-Err.left)) c.self.view_is (rw c.in-Err.is at c.close_store.ensures.numbered)
