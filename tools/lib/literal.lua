@@ -81,6 +81,9 @@ local later = {
     execenv = 'the test runs without a jail', execenv_jail_params = 'the test runs without a jail',
     required_kmods = 'the test runs whether or not the module is loaded', has_cleanup = 'the list of an ATF program declares cleanups',
 }
+local known = {}
+for name in ([[allowed_architectures allowed_platforms description is_exclusive required_configs required_disk_space required_files
+    required_memory required_programs required_user test_suite timeout]]):gmatch('%S+') do known[name] = true end
 -- A value as a literal.
 local function literal(path, line, name, value)
     local kind = math.type and math.type(value) or type(value)
@@ -133,8 +136,12 @@ local function interface(path, statements)
                     say(path, line, name .. ' of ' .. properties.name .. ' is left out: ' .. later[name])
                     status = 1
                 else
+                    local value = literal(path, line, name, properties[name])
+                    if not known[name] and not name:match('^custom%.') then
+                        refuse(path, line, name .. ' of ' .. properties.name .. ' is not a property: kyuafile(5) has a table of them')
+                    end
                     local key = name:match('^[%a_][%w_]*$') and name or '[' .. quote(name) .. ']'
-                    parts[#parts + 1] = key .. '=' .. literal(path, line, name, properties[name])
+                    parts[#parts + 1] = key .. '=' .. value
                 end
             end
             add(call .. '{' .. table.concat(parts, ', ') .. '}')
