@@ -1,7 +1,7 @@
 """Functions that the scripts about mutants share: the lists of mutants, the functions of a source file, and the goals that reject a mutant.
 
 A function is named as `rt check` names it: CRATE::MODULE::TYPE::FUNCTION, and CRATE::MODULE::TYPETRAIT::FUNCTION in an implementation of a
-trait. A list names it without the modules: TYPE::FUNCTION.
+trait. In an implementation for a type such as `T<A<B>>`, the type is T+A+B. A list names it without the modules: TYPE::FUNCTION.
 """
 import functools
 import glob
@@ -76,7 +76,8 @@ def read_clauses():
 
 
 def head_names(head):
-    """Returns the type, the trait and the trait's arguments that the head of an `impl` names, without their modules and parameters."""
+    """Returns the type, the trait and the trait's arguments that the head of an `impl` names, without their modules and parameters.
+    Without a trait, the second value is what the arguments of the type add to its name."""
     text = re.sub(r"^(ghost )?impl\s*", "", head).split(" where ")[0].split("{")[0].strip()
     if text.startswith("<"):
         depth = 0
@@ -87,7 +88,11 @@ def head_names(head):
         text = text[at + 1 :].strip()
     trait, _, owner = text.rpartition(" for ")
     words = [it.split("::")[-1] for it in re.findall(r"(?<!['\w])[A-Z_a-z][\w:]*", re.sub(r"'\w+", "", trait))]
-    owner = re.match(r"&?(?:'\w+ )?(?:mut )?([\w:]+)", owner)[1].split("::")[-1]
+    owner, arguments = re.match(r"&?(?:'\w+ )?(?:mut )?([\w:]+)(.*)", owner).groups()
+    owner = owner.split("::")[-1]
+    if not trait and arguments.count("<") > 1:
+        # A method of a type with such arguments is named by all of them.
+        return owner, "".join(f"+{it}" for it in re.findall(r"\w+", arguments)), None
     return owner, "".join(it for it in words if len(it) > 1), words[0] if words else None
 
 
