@@ -79,8 +79,7 @@ part 'proofs, mutants and examples' "'rt check' in the crate's directory, 'rt mu
 cp "$room/log" "$room/mutants"
 part 'clauses of the mutants' 'scripts/clauses.py LOG' scripts/clauses.py "$room/mutants"
 part 'a mutant for each public function' scripts/mutants-public.py scripts/mutants-public.py
-# Each mutant of these crates was seen to be rejected at its clause. Add a crate once `mutants-rejected.sh --gate CRATE` passes.
-part 'mutants of public functions' 'scripts/mutants-rejected.sh CRATE' scripts/mutants-rejected.sh --gate kt_status kt_script kt_config kt_atflist kt_args
+part 'mutants of public functions' 'scripts/mutants-rejected.sh CRATE' scripts/mutants-rejected.sh --gate
 part 'effects without a contract' scripts/faults.sh scripts/faults.sh
 part 'definitions' scripts/definitions.sh scripts/definitions.sh
 part 'imports' scripts/circles.py scripts/circles.py
