@@ -18,12 +18,12 @@ is_listed cases name = list_any (has_case_name name) cases
 abbrev pub has_property : List Variable → List ℕ → Bool
 has_property pairs name = list_any (is_named name) pairs
 
--- `named name`: the test case with the name `name`, without properties and without a fault.
-abbrev pub named : List ℕ → CaseDef
-named name = record { name = name; props = []; fault = None }
+-- `empty_case name`: the test case with the name `name`, without properties and without a fault.
+abbrev pub empty_case : List ℕ → CaseDef
+empty_case name = record { name = name; props = []; fault = None }
 
--- `with_property block name value`: the case `block` with the property `name` appended, whose value
--- is `value`.
+-- `with_property block name value`: the test case `block` with the property `name` and its value
+-- `value` appended.
 abbrev pub with_property : CaseDef → List ℕ → List ℕ → CaseDef
 with_property block name value = record { name = block.name; props = block.props ++ record { name = name; value = value } ∷ []; fault = block.fault }
 

@@ -6,7 +6,7 @@ use Rattle.kt_base.specs.declared.child.Interface.TheVariants.{Atf, Tap, Plain}
 use Rattle.kt_base.specs.declared.verdict.Reason.{Reason}
 use Rattle.kt_base.specs.declared.variable.Variable.{Variable}
 use Rattle.kt_atflist.specs.Listings.{IsListingResult}
-use Rattle.kt_atflist.specs.Blocks.{named}
+use Rattle.kt_atflist.specs.Blocks.{empty_case}
 use Rattle.kt_atflist.specs.declared.listing.CaseDef.{CaseDef}
 use Rattle.kt_atflist.specs.declared.listing.Listing.{Listing}
 
@@ -17,15 +17,15 @@ overlaid_case props case = record { name = case.name; props = last_values (props
 
 -- `main_case`: the only case of a TAP or plain program, before the program's properties are added.
 abbrev pub main_case : CaseDef
-main_case = named (codes "main")
+main_case = empty_case (codes "main")
 
 -- `list_case reason`: the only case of a program whose list can't be used, with the reason `reason`
 -- as its fault.
 abbrev pub list_case : Reason → CaseDef
 list_case reason = record { name = codes "__test_cases_list__"; props = []; fault = Some reason }
 
--- `AreCases props interface listing cases`: a program with the properties `props`, the interface
--- `interface` and the optional listing `listing` has the test cases `cases`, in order.
+-- `AreCases props interface listing cases`: `cases` are the test cases, in order, of a program with
+-- the properties `props`, the interface `interface` and the optional listing `listing`.
 pub data AreCases (props : List Variable) : Interface → Option Listing → List CaseDef → Type 0 where
   tap : (listing : Option Listing) → AreCases props Tap listing (overlaid_case props main_case ∷ [])
   plain : (listing : Option Listing) → AreCases props Plain listing (overlaid_case props main_case ∷ [])

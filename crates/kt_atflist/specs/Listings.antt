@@ -18,7 +18,7 @@ use Rattle.kt_atflist.specs.declared.list_fault.ListFault.{ListFault}
 use Rattle.kt_atflist.specs.declared.listing.CaseDef.{CaseDef}
 use Rattle.kt_atflist.specs.declared.listing.Listing.{Listing}
 use Rattle.kt_atflist.specs.declared.listing.Listing.TheVariants as listing
-use Rattle.kt_atflist.specs.Spelling.{Spells, IsDue}
+use Rattle.kt_atflist.specs.Spelling.{IsListText, HasFault}
 
 -- `list_failure_reason outcome`: the reason why a program that ended with the outcome `outcome` did
 -- not list its cases, or nothing if it exited with 0.
@@ -45,8 +45,8 @@ fault_phrase NotUtf8 = Ok ListNotUtf8
 -- `IsParsedList text found`: the result of parsing the bytes `text` as a list is `found`: the cases
 -- of the list, or the reason why `text` isn't a list.
 pub data IsParsedList (text : List ℕ) : Result (List CaseDef) Reason → Type 0 where
-  no_list : (fault : ListFault) (phrase : Phrase) → IsDue text fault → fault_phrase fault.cause ≡ Ok phrase → IsParsedList text (Err (Counted phrase fault.line 0))
-  listed : (cases : List CaseDef) → Spells text cases → IsParsedList text (Ok cases)
+  no_list : (fault : ListFault) (phrase : Phrase) → HasFault text fault → fault_phrase fault.cause ≡ Ok phrase → IsParsedList text (Err (Counted phrase fault.line 0))
+  listed : (cases : List CaseDef) → IsListText text cases → IsParsedList text (Ok cases)
 
 -- `IsListingResult listing found`: the result of the listing `listing` of a program is `found`: the
 -- listed cases, or the reason why the listing can't be used.

@@ -2,7 +2,8 @@
 use Rattle.std.specs.Prelude.{List, Option}
 use Rattle.kt_atflist.specs.declared.listing.CaseDef.{CaseDef}
 
--- `Read`: the state of the reader: the cases of the finished blocks, and the block that has begun.
+-- `Read`: a state of the reader: the cases of the finished blocks, and the block that has begun, if
+-- any.
 pub record Read : Type 0 where
   -- The cases of the finished blocks.
   pub cases : List CaseDef

@@ -7,9 +7,9 @@ use Rattle.kt_base.specs.declared.no_memory.NoMemory.{NoMemory}
 use Rattle.kt_base.specs.declared.variable.Variable.{Variable}
 use Rattle.kt_base.specs.Lines.{lines}
 use Rattle.kt_base.specs.Texts.{is_empty}
-use Rattle.kt_atflist.specs.BlockLines.{ident_in, is_name, key_in, value_in}
+use Rattle.kt_atflist.specs.BlockLines.{line_ident, is_case_name, line_key, line_value}
 use Rattle.kt_metadata.specs.ListKeys.{name_of_key}
-use Rattle.kt_atflist.specs.Blocks.{is_listed, has_property, named, with_property, is_valid_property}
+use Rattle.kt_atflist.specs.Blocks.{is_listed, has_property, empty_case, with_property, is_valid_property}
 use Rattle.kt_atflist.specs.declared.list_fault.ListCause.{ListCause}
 use Rattle.kt_atflist.specs.declared.list_fault.ListCause.TheVariants as cause
 use Rattle.kt_atflist.specs.declared.list_fault.ListCause.TheVariants.{BadHeader, BadLine, NoIdent, RepeatedKey, RepeatedIdent, UnknownKey, BadValue, EmptyList, NotUtf8}
@@ -35,10 +35,10 @@ fault_at cause line = record { cause = cause; line = line }
 -- after it. Before the line, the finished blocks have the cases `cases`, and `block` is the block
 -- that has begun, or nothing between two blocks.
 pub data IsNextState (cases : List CaseDef) (line : List ℕ) : Option CaseDef → Read → Type 0 where
-  begins : (name : List ℕ) → ident_in line ≡ Some name → is_name name ≡ true → is_listed cases (lossy name) ≡ false
-      → IsNextState cases line None (record { cases = cases; block = Some (named (lossy name)) })
-  gives : (block : CaseDef) (value : List ℕ) (property : List ℕ) → is_empty line ≡ false → value_in line ≡ Some value → is_empty (key_in line) ≡ false
-      → bytes_eq (lossy (key_in line)) (codes "ident") ≡ false → name_of_key (lossy (key_in line)) ≡ Some property
+  begins : (name : List ℕ) → line_ident line ≡ Some name → is_case_name name ≡ true → is_listed cases (lossy name) ≡ false
+      → IsNextState cases line None (record { cases = cases; block = Some (empty_case (lossy name)) })
+  gives : (block : CaseDef) (value : List ℕ) (property : List ℕ) → is_empty line ≡ false → line_value line ≡ Some value → is_empty (line_key line) ≡ false
+      → bytes_eq (lossy (line_key line)) (codes "ident") ≡ false → name_of_key (lossy (line_key line)) ≡ Some property
       → has_property block.props property ≡ false → is_valid_property property (lossy value) ≡ true
       → IsNextState cases line (Some block) (record { cases = cases; block = Some (with_property block property (lossy value)) })
   ends : (block : CaseDef) → is_empty line ≡ true → IsNextState cases line (Some block) (record { cases = cases ++ block ∷ []; block = None })
@@ -54,11 +54,11 @@ pub data IsBlockSequence : List CaseDef → Option CaseDef → List (List ℕ) �
 
 -- ---- faulty lines
 
--- `is_repeated pairs name`: one of the properties `pairs` already has the name `name`. False if
+-- `is_repeated_property pairs name`: one of the properties `pairs` already has the name `name`. False if
 -- `name` is absent.
-abbrev pub is_repeated : List Variable → Option (List ℕ) → Bool
-is_repeated pairs None = false
-is_repeated pairs (Some property) = has_property pairs property
+abbrev pub is_repeated_property : List Variable → Option (List ℕ) → Bool
+is_repeated_property pairs None = false
+is_repeated_property pairs (Some property) = has_property pairs property
 
 -- `is_invalid_property name value`: the property `name` does not accept the value `value`. False if
 -- `name` is absent.
@@ -71,17 +71,17 @@ is_invalid_property (Some property) value = not (is_valid_property property valu
 -- if the line doesn't begin with `ident: `.
 abbrev pub is_first_line_cause : List CaseDef → Option (List ℕ) → ListCause → Bool
 is_first_line_cause cases None NoIdent = true
-is_first_line_cause cases (Some name) BadValue = not (is_name name)
+is_first_line_cause cases (Some name) BadValue = not (is_case_name name)
 is_first_line_cause cases (Some name) RepeatedIdent = is_listed cases (lossy name)
 is_first_line_cause cases ident _ = false
 
--- `is_later_line_cause block key value cause`: a later line of the block `block` has a fault with
--- the cause `cause`. `key` is the key in the line, and `value` is its value, or nothing if the line
--- has none.
+-- `is_later_line_cause block key value cause`: a line of the block `block`, after its first line,
+-- has a fault with the cause `cause`. `key` is the key in the line. `value` is the value in the
+-- line, or nothing if the line has none.
 abbrev pub is_later_line_cause : CaseDef → List ℕ → Option (List ℕ) → ListCause → Bool
 is_later_line_cause block key None BadLine = true
 is_later_line_cause block key (Some value) BadLine = is_empty key
-is_later_line_cause block key (Some value) RepeatedKey = bytes_eq (lossy key) (codes "ident") || is_repeated block.props (name_of_key (lossy key))
+is_later_line_cause block key (Some value) RepeatedKey = bytes_eq (lossy key) (codes "ident") || is_repeated_property block.props (name_of_key (lossy key))
 is_later_line_cause block key (Some value) UnknownKey = not (is_some (name_of_key (lossy key)))
 is_later_line_cause block key (Some value) BadValue = is_invalid_property (name_of_key (lossy key)) (lossy value)
 is_later_line_cause block key value _ = false
@@ -91,8 +91,8 @@ is_later_line_cause block key value _ = false
 abbrev pub first_line_causes : List ListCause
 first_line_causes = NoIdent ∷ BadValue ∷ RepeatedIdent ∷ []
 
--- `later_line_causes`: the possible causes of a fault in a later line of a block. The first cause
--- that applies is reported.
+-- `later_line_causes`: the possible causes of a fault in a line of a block after its first line.
+-- The first cause that applies is reported.
 abbrev pub later_line_causes : List ListCause
 later_line_causes = BadLine ∷ RepeatedKey ∷ UnknownKey ∷ BadValue ∷ []
 
@@ -100,8 +100,8 @@ later_line_causes = BadLine ∷ RepeatedKey ∷ UnknownKey ∷ BadValue ∷ []
 -- is reported. Before the line, the finished blocks have the cases `cases`, and `block` is the
 -- block that has begun, or nothing between two blocks. An empty line in a block is valid.
 pub data IsFaultyLine (cases : List CaseDef) (line : List ℕ) : Option CaseDef → ListCause → Type 0 where
-  first : (cause : ListCause) → find (is_first_line_cause cases (ident_in line)) first_line_causes ≡ Some cause → IsFaultyLine cases line None cause
-  further : (block : CaseDef) (cause : ListCause) → is_empty line ≡ false → find (is_later_line_cause block (key_in line) (value_in line)) later_line_causes ≡ Some cause
+  first : (cause : ListCause) → find (is_first_line_cause cases (line_ident line)) first_line_causes ≡ Some cause → IsFaultyLine cases line None cause
+  further : (block : CaseDef) (cause : ListCause) → is_empty line ≡ false → find (is_later_line_cause block (line_key line) (line_value line)) later_line_causes ≡ Some cause
       → IsFaultyLine cases line (Some block) cause
 
 -- `HasFirstFault n cases block lines fault`: one of the lines `lines` is faulty, and `fault` is the
@@ -133,26 +133,26 @@ pub data IsFault : List (List ℕ) → ListFault → Type 0 where
   in_blocks : (first second third : List ℕ) (rest : List (List ℕ)) (fault : ListFault) → bytes_eq first header ≡ true → is_empty second ≡ true
       → HasFirstFault 3 [] None (third ∷ rest) fault → IsFault (first ∷ second ∷ third ∷ rest) fault
 
--- `Spells text cases`: the bytes `text` are valid UTF-8 and a list of the cases `cases`.
-abbrev pub Spells : List ℕ → List CaseDef → Type 0
-Spells text cases = IsUtf8 text × IsList (lines text) cases
+-- `IsListText text cases`: the bytes `text` are valid UTF-8 and a list of the cases `cases`.
+abbrev pub IsListText : List ℕ → List CaseDef → Type 0
+IsListText text cases = IsUtf8 text × IsList (lines text) cases
 
--- `IsDue text fault`: the bytes `text` aren't a list, and `fault` is the fault: `text` isn't UTF-8,
--- or the fault is that of its first faulty or missing line.
-abbrev pub IsDue : List ℕ → ListFault → Type 0
-IsDue text fault = (¬ (IsUtf8 text) × (fault ≡ fault_at NotUtf8 0)) ⊎ (IsUtf8 text × IsFault (lines text) fault)
+-- `HasFault text fault`: the bytes `text` aren't a list, and `fault` is their fault. It is
+-- `NotUtf8` if `text` isn't UTF-8, otherwise the fault of the first faulty or missing line.
+abbrev pub HasFault : List ℕ → ListFault → Type 0
+HasFault text fault = (¬ (IsUtf8 text) × (fault ≡ fault_at NotUtf8 0)) ⊎ (IsUtf8 text × IsFault (lines text) fault)
 
--- `IsAnswer text result`: `result` has the cases of the list `text`, or is its first fault if
--- `text` isn't a list.
-abbrev pub IsAnswer : List ℕ → Result (List CaseDef) ListFault → Type 0
-IsAnswer text (Ok cases) = Spells text cases
-IsAnswer text (Err fault) = IsDue text fault
+-- `IsResult text result`: the result `result` has the cases of the list `text`, or is the fault of
+-- `text` if `text` isn't a list.
+abbrev pub IsResult : List ℕ → Result (List CaseDef) ListFault → Type 0
+IsResult text (Ok cases) = IsListText text cases
+IsResult text (Err fault) = HasFault text fault
 
 -- `IsOutOfMemory result`: the result `result` of a parser is the error of a failed allocation.
 abbrev pub IsOutOfMemory : Outcome → Type 0
 IsOutOfMemory result = (refusal : NoMemory) × (result ≡ Err (fault_at (cause.NoMemory refusal) 0))
 
--- `IsUnlessMemory result answer`: the result `result` of a parser is the specified result `answer`,
--- or the error of a failed allocation.
-abbrev pub IsUnlessMemory : Outcome → Outcome → Type 0
-IsUnlessMemory result answer = IsOutOfMemory result ⊎ (result ≡ answer)
+-- `IsResultOrOutOfMemory result answer`: the result `result` of a parser is the specified result
+-- `answer`, or the error of a failed allocation.
+abbrev pub IsResultOrOutOfMemory : Outcome → Outcome → Type 0
+IsResultOrOutOfMemory result answer = IsOutOfMemory result ⊎ (result ≡ answer)

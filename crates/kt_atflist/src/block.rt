@@ -1,6 +1,6 @@
 ghost use Rattle.std.specs.Prelude.{◌≡◌, Bool, false, None, Some, IfOk, OnOk, OnErr};
 ghost use Rattle.kt_metadata.specs.Properties.{definition_fault, IfFault};
-ghost use Rattle.kt_atflist.specs.Blocks.{has_property, named, with_property};
+ghost use Rattle.kt_atflist.specs.Blocks.{has_property, empty_case, with_property};
 
 use crate::CaseDef;
 use kt_base::Text;
@@ -8,9 +8,9 @@ use kt_metadata::{PropFault, Props};
 use std::alloc::Global;
 use std::marker::Model;
 
-/// A block of a list that has been read in part: a test case with its properties so far.
+/// A block of a list, as far as the block was read: a test case with its properties so far.
 ///
-/// In contracts, a `Block` is the case.
+/// In contracts, a `Block` is the test case, without a fault.
 #[derive(Drop)]
 pub struct Block {
     name: Text,
@@ -35,7 +35,7 @@ impl Block {
     ///
     /// Allocates nothing.
     pub fn new(alloc: Global, name: Text) -> Block
-        ensures { result ≡ named name }
+        ensures { result ≡ empty_case name }
     {
         Block {
             name,

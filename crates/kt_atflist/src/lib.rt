@@ -14,5 +14,5 @@ mod steps;
 
 pub use list_fault::{ListCause, ListFault};
 pub use listing::{CaseDef, ListBytes, Listing};
-pub use program_cases::{cases, theorem_of_one_answer};
+pub use program_cases::{cases, theorem_of_one_case_list};
 pub use reader::parse_list;

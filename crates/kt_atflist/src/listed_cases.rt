@@ -1,4 +1,4 @@
-//! The cases of a listing.
+//! The cases in the result of a listing.
 
 ghost use Rattle.std.specs.Prelude.{◌≡◌, IfOk};
 ghost use Rattle.kt_atflist.specs.Common.{list_failure_reason, IsParsedList, IsListingResult};
@@ -26,7 +26,7 @@ fn list_failure_reason(outcome: Outcome) -> Option<Reason>
 }
 
 /// Parses `text` as a list and returns its cases, or the reason why `text` isn't a list.
-fn read_bytes(alloc: Global, text: &Bytes) -> Result<Result<Items<CaseDef>, Reason>, NoMemory>
+fn parse_list_bytes(alloc: Global, text: &Bytes) -> Result<Result<Items<CaseDef>, Reason>, NoMemory>
     ensures { IfOk result (λ found. IsParsedList text.now found) }
 {
     match parse_list(alloc, text.as_slice()) {
@@ -38,7 +38,7 @@ fn read_bytes(alloc: Global, text: &Bytes) -> Result<Result<Items<CaseDef>, Reas
     }
 }
 
-/// Returns the cases of the listing `listing`, or the reason why it can't be used.
+/// Returns the cases in the listing `listing`, or the reason why the listing can't be used.
 ///
 /// # Errors
 ///
@@ -56,7 +56,7 @@ pub fn listed_cases(
             None => match bytes {
                 ListBytes::Unreadable => Ok(Err(Reason::Fixed(Phrase::ListUnreadable))),
                 ListBytes::TooLong => Ok(Err(Reason::Fixed(Phrase::ListTooLong))),
-                ListBytes::Read(text) => read_bytes(alloc, text),
+                ListBytes::Read(text) => parse_list_bytes(alloc, text),
             },
         },
     }

@@ -8,13 +8,13 @@ use std::marker::Model;
 
 /// A set of case names, with lookup in constant time.
 ///
-/// In contracts, a `Names` is the list of the names in the order of their insertion.
+/// In contracts, a `NameSet` is the list of the names in the order of their insertion.
 #[derive(Drop)]
-pub struct Names {
+pub struct NameSet {
     keys: IndexSet<String>,
 }
 
-impl Model for Names {
+impl Model for NameSet {
     ghost use Rattle.std.specs.Prelude.{ℕ, List, map};
     ghost use Rattle.kt_atflist.specs.Inner.Keys.{characters};
 
@@ -23,14 +23,14 @@ impl Model for Names {
     ghost view = { λ names. map characters names.keys.keys };
 }
 
-impl Names {
+impl NameSet {
     /// Creates an empty set of names.
     ///
     /// Allocates nothing.
-    pub fn new(alloc: Global) -> Names
+    pub fn new(alloc: Global) -> NameSet
         ensures { result ≡ [] }
     {
-        Names {
+        NameSet {
             keys: IndexSet::new(alloc),
         }
     }

@@ -1,7 +1,7 @@
 //! The test cases of a program.
 
 ghost use Rattle.std.specs.Prelude.{◌≡◌, ◌∷◌, ◌++◌, [], List, map, chars, Some, None, IfOk, OnOk, IsSome, ℕ, Option, Result};
-ghost use Rattle.kt_atflist.specs.Common.{Atf, Variable, overlaid_case, main_case, list_case, AreCases, Interface, IsAnswer, CaseDef, ListFault, Listing};
+ghost use Rattle.kt_atflist.specs.Common.{Atf, Variable, overlaid_case, main_case, list_case, AreCases, Interface, IsResult, CaseDef, ListFault, Listing};
 
 use crate::listed_cases::listed_cases;
 use crate::{CaseDef, Listing};
@@ -18,7 +18,7 @@ const LIST_CASE_NAME: &str = "__test_cases_list__";
 /// Appends `case` to `cases`, with the properties `props` of its program added.
 ///
 /// A property of the case replaces the same property of the program.
-fn add(cases: &mut Items<CaseDef>, props: &Props, case: CaseDef) -> Result<(), NoMemory>
+fn push_overlaid(cases: &mut Items<CaseDef>, props: &Props, case: CaseDef) -> Result<(), NoMemory>
     ensures { OnOk result (cases.new ≡ cases.old ++ overlaid_case props.now case ∷ []) }
 {
     let CaseDef {
@@ -42,16 +42,16 @@ fn overlay_each(
 {
     let mut cases = Items::new(alloc);
     for case in found.into_vec() {
-        add(&mut cases, props, case)?;
+        push_overlaid(&mut cases, props, case)?;
     }
     Ok(cases)
 }
 
-/// Adds a copy of the program's properties `props` to each case in `found`.
+/// Adds the properties `props` of the program to each case in `found`. The cases share one
+/// reference-counted copy of `props`.
 ///
-/// The cases share the memory of this copy. A property of a case replaces the same property of the
-/// program.
-fn overlay_all(
+/// A property of a case replaces the same property of the program.
+fn overlay_shared(
     alloc: Global,
     props: &Props,
     found: Items<CaseDef>,
@@ -62,9 +62,10 @@ fn overlay_all(
     overlay_each(alloc, &shared, found)
 }
 
-/// Creates a list of one case, with the name `name`, the program's properties and the fault
-/// `fault`.
-fn one_case(
+/// Creates a list of one case, with the name `name` and the fault `fault`.
+///
+/// The case has the properties `props` of its program.
+fn single_case_list(
     alloc: Global,
     name: &str,
     props: &Props,
@@ -79,11 +80,11 @@ fn one_case(
         fault,
     };
     let mut cases = Items::new(alloc);
-    add(&mut cases, props, case)?;
+    push_overlaid(&mut cases, props, case)?;
     Ok(cases)
 }
 
-/// Returns the cases of an ATF program with the properties `props` and the listing `listing`.
+/// Returns the cases of the ATF program with the properties `props` and the listing `listing`.
 ///
 /// If the listing can't be used, the program has the one case `__test_cases_list__`.
 fn listed(alloc: Global, props: &Props, listing: &Listing) -> Result<Items<CaseDef>, NoMemory>
@@ -91,17 +92,17 @@ fn listed(alloc: Global, props: &Props, listing: &Listing) -> Result<Items<CaseD
 {
     let found = listed_cases(alloc, listing)?;
     match found {
-        Ok(found) => overlay_all(alloc, props, found),
-        Err(reason) => one_case(alloc, LIST_CASE_NAME, props, Some(reason)),
+        Ok(found) => overlay_shared(alloc, props, found),
+        Err(reason) => single_case_list(alloc, LIST_CASE_NAME, props, Some(reason)),
     }
 }
 
-/// Returns the test cases of a program, in order.
+/// Returns the test cases of a program with the properties `props`, in order.
 ///
-/// A TAP or plain program has the one case `main`. An ATF program has the cases of its listing,
-/// which the caller provides. If the listing can't be used, the program has the one case
-/// `__test_cases_list__`, whose `fault` is the reason. A case's own properties take precedence over
-/// its program's.
+/// A TAP or plain program has the one case `main`. An ATF program has the cases of `listing`, which
+/// must be present. If the listing can't be used, the program has the one case
+/// `__test_cases_list__`, whose `fault` is the reason. Each case has the properties of its program.
+/// A property of the case replaces the same property of the program.
 ///
 /// # Errors
 ///
@@ -116,7 +117,7 @@ pub fn cases(
     ensures { IfOk result (λ cases. AreCases props.now interface listing.now cases) }
 {
     match interface {
-        Interface::Tap | Interface::Plain => one_case(alloc, MAIN_CASE_NAME, props, None),
+        Interface::Tap | Interface::Plain => single_case_list(alloc, MAIN_CASE_NAME, props, None),
         Interface::Atf => match listing {
             None => unreachable!(),
             Some(listing) => listed(alloc, props, listing),
@@ -124,12 +125,13 @@ pub fn cases(
     }
 }
 
-/// Theorem: by the rules, a text has at most one result, and a program at most one list of cases.
+/// Theorem: by the rules, a list's text has at most one result, and a program at most one list of
+/// cases.
 ///
 /// The result of a text consists of the cases of its list, or is its first fault.
-pub fn theorem_of_one_answer()
+pub fn theorem_of_one_case_list()
     ensures text { (text : List ℕ) → (first : Result (List CaseDef) ListFault)
-        → (second : Result (List CaseDef) ListFault) → IsAnswer text first → IsAnswer text second
+        → (second : Result (List CaseDef) ListFault) → IsResult text first → IsResult text second
         → first ≡ second }
     ensures program { (props : List Variable) → (interface : Interface) → (listing : Option Listing)
         → (first : List CaseDef) → (second : List CaseDef) → AreCases props interface listing first

@@ -1,7 +1,7 @@
 //! The parser of a list of test cases.
 
 ghost use Rattle.std.specs.Prelude.{◌⊎◌, List, Result, ◌≡◌, ◌<◌, ◌∷◌, [], length, MatchOption, IfSome};
-ghost use Rattle.kt_atflist.specs.Common.{IsAnswer, IsOutOfMemory, IsUnlessMemory, ListFault, CaseDef, lines, read_from, initial_state, read_blocks, read_from_line_2, read_lines};
+ghost use Rattle.kt_atflist.specs.Common.{IsResult, IsOutOfMemory, IsResultOrOutOfMemory, ListFault, CaseDef, lines, read_rest, initial_state, read_blocks, read_from_line_2, read_lines};
 
 use crate::reading::{ListReader, ListStep};
 use crate::steps::{finish, step};
@@ -12,7 +12,7 @@ use std::alloc::Global;
 /// Splits `text` after its first line: returns the line without its newline, and the rest.
 ///
 /// Returns `None` if `text` is empty.
-fn first_line(text: &[u8]) -> Option<(&[u8], &[u8])>
+fn split_first_line(text: &[u8]) -> Option<(&[u8], &[u8])>
     ensures value { MatchOption result (lines text.now ≡ [])
         (λ parts. lines text.now ≡ parts.0.now ∷ lines parts.1.now) }
     ensures shorter { IfSome result (λ parts. length parts.1.now < length text.now) }
@@ -30,17 +30,17 @@ fn first_line(text: &[u8]) -> Option<(&[u8], &[u8])>
 /// The first line of each list of test cases, without its newline (atf-test-program(1)).
 const LIST_HEADER: &[u8] = b"Content-Type: application/X-atf-tp; version=\"1\"";
 
-/// Parses the blocks of a list. `text` consists of its lines from line 3 on.
-fn read_from(alloc: Global, text: &[u8]) -> Result<Items<CaseDef>, ListFault>
-    ensures { IsUnlessMemory result (read_from 3 initial_state (lines text.now)) }
+/// Parses `text`, the blocks of a list from line 3 on, and returns the cases.
+fn read_rest(alloc: Global, text: &[u8]) -> Result<Items<CaseDef>, ListFault>
+    ensures { IsResultOrOutOfMemory result (read_rest 3 initial_state (lines text.now)) }
 {
     let mut line = 3u64;
     let mut rest = text;
     let mut reading = ListReader::new(alloc);
-    while let Some((first, after)) = first_line(rest) {
+    while let Some((first, after)) = split_first_line(rest) {
         match step(alloc, reading, first)? {
-            ListStep::Wrong(cause) => return Err(ListFault { cause, line }),
-            ListStep::To(next) => reading = next,
+            ListStep::FaultyLine(cause) => return Err(ListFault { cause, line }),
+            ListStep::NextState(next) => reading = next,
         }
         line += 1;
         rest = after;
@@ -49,32 +49,32 @@ fn read_from(alloc: Global, text: &[u8]) -> Result<Items<CaseDef>, ListFault>
     Ok(cases)
 }
 
-/// Parses `text`, which consists of the lines of a list from line 3 on.
+/// Parses `text`, the lines of a list from line 3 on, and returns the cases.
 ///
 /// Fails with `EmptyList` if line 3 is missing.
 fn read_blocks(alloc: Global, text: &[u8]) -> Result<Items<CaseDef>, ListFault>
-    ensures { IsUnlessMemory result (read_blocks (lines text.now)) }
+    ensures { IsResultOrOutOfMemory result (read_blocks (lines text.now)) }
 {
-    if first_line(text).is_none() {
+    if split_first_line(text).is_none() {
         return Err(ListFault {
             cause: ListCause::EmptyList,
             line: 3,
         });
     }
-    read_from(alloc, text)
+    read_rest(alloc, text)
 }
 
-/// Parses `text`, which consists of the lines of a list from line 2 on.
+/// Parses `text`, the lines of a list from line 2 on, and returns the cases.
 ///
 /// Fails with `BadHeader` if line 2 is missing or not empty.
 fn read_from_line_2(alloc: Global, text: &[u8]) -> Result<Items<CaseDef>, ListFault>
-    ensures { IsUnlessMemory result (read_from_line_2 (lines text.now)) }
+    ensures { IsResultOrOutOfMemory result (read_from_line_2 (lines text.now)) }
 {
     let wrong = ListFault {
         cause: ListCause::BadHeader,
         line: 2,
     };
-    let Some((line, rest)) = first_line(text) else {
+    let Some((line, rest)) = split_first_line(text) else {
         return Err(wrong);
     };
     if !line.is_empty() {
@@ -83,17 +83,17 @@ fn read_from_line_2(alloc: Global, text: &[u8]) -> Result<Items<CaseDef>, ListFa
     read_blocks(alloc, rest)
 }
 
-/// Parses `text`, which consists of all lines of a list.
+/// Parses `text`, the lines of a list of test cases, and returns the cases.
 ///
 /// Fails with `BadHeader` if line 1 is missing or is not `LIST_HEADER`.
 fn read_lines(alloc: Global, text: &[u8]) -> Result<Items<CaseDef>, ListFault>
-    ensures { IsUnlessMemory result (read_lines (lines text.now)) }
+    ensures { IsResultOrOutOfMemory result (read_lines (lines text.now)) }
 {
     let wrong = ListFault {
         cause: ListCause::BadHeader,
         line: 1,
     };
-    let Some((line, rest)) = first_line(text) else {
+    let Some((line, rest)) = split_first_line(text) else {
         return Err(wrong);
     };
     if line != LIST_HEADER {
@@ -114,9 +114,9 @@ fn read_lines(alloc: Global, text: &[u8]) -> Result<Items<CaseDef>, ListFault>
 /// - `NoMemory` at line 0: an allocation fails.
 pub fn parse_list(alloc: Global, text: &[u8]) -> Result<Items<CaseDef>, ListFault>
     // Unless an allocation failed, the result is the cases of the text or its first fault.
-    ensures answer { IsOutOfMemory result ⊎ IsAnswer text.now result }
-    ensures only { (answer : Result (List CaseDef) ListFault) → IsAnswer text.now answer
-        → IsUnlessMemory result answer }
+    ensures answer { IsOutOfMemory result ⊎ IsResult text.now result }
+    ensures only { (answer : Result (List CaseDef) ListFault) → IsResult text.now answer
+        → IsResultOrOutOfMemory result answer }
 {
     match str::from_utf8(text) {
         Err(_) => Err(ListFault {

@@ -2,22 +2,22 @@ ghost use Rattle.std.specs.Prelude.{◌≡◌};
 ghost use Rattle.kt_atflist.specs.Inner.Reading.{initial_state};
 
 use crate::block::Block;
-use crate::names::Names;
+use crate::names::NameSet;
 use crate::{CaseDef, ListCause};
 use kt_base::Items;
 use std::alloc::Global;
 use std::marker::Model;
 
-/// The state of a list's reader between two lines.
+/// A state of the reader of a list, between two lines.
 ///
-/// In contracts, a `ListReader` is the cases of the finished blocks, and the case of the block that
-/// has begun.
+/// In contracts, a `ListReader` is a `Read`: the cases of the finished blocks, and the block that
+/// has begun, if any.
 #[derive(Drop)]
 pub struct ListReader {
     /// The cases of the finished blocks.
     pub cases: Items<CaseDef>,
-    /// The names of `cases`, and the name of `block`.
-    pub names: Names,
+    /// The names of `cases`, and the name of `block` if it is `Some`.
+    pub names: NameSet,
     /// The block that has begun and is not finished, or `None` between two blocks.
     pub block: Option<Block>,
 }
@@ -43,7 +43,7 @@ impl ListReader {
     {
         ListReader {
             cases: Items::new(alloc),
-            names: Names::new(alloc),
+            names: NameSet::new(alloc),
             block: None,
         }
     }
@@ -53,7 +53,7 @@ impl ListReader {
 #[derive(Drop)]
 pub enum ListStep {
     /// The line is valid. The field is the state of the reader after the line.
-    To(ListReader),
+    NextState(ListReader),
     /// The line is faulty. The field is the cause of the fault.
-    Wrong(ListCause),
+    FaultyLine(ListCause),
 }

@@ -3,52 +3,53 @@
 ghost use Rattle.std.specs.Prelude.{◌≡◌, true, false, List, ℕ, None, Some, IfOk};
 ghost use Rattle.kt_atflist.specs.Blocks.{has_property, is_valid_property, with_property};
 ghost use Rattle.kt_base.specs.Lossy.{lossy};
-ghost use Rattle.kt_atflist.specs.Common.{names_of, case_name_in, begin_block, begin_block_if_named, set_property, set_key, set_line, changed, step_with_change, go_on, step_of, closed, finished, ident_in, key_in, value_in};
+ghost use Rattle.kt_atflist.specs.Common.{names_of, case_name_in, begin_block, first_line_step, set_property, set_key, set_from_line, change_result, property_line_step, later_line_step, step_of, cases_with_block, cases_at_end, line_ident, line_key, line_value};
 
 use crate::block::Block;
-use crate::list_line::{ident_in, is_name, key_in, value_in};
-use crate::names::Names;
+use crate::list_line::{is_case_name, line_ident, line_key, line_value};
+use crate::names::NameSet;
 use crate::reading::{ListReader, ListStep};
 use crate::{CaseDef, ListCause};
 use kt_base::{Items, NoMemory, Text, lossy};
 use kt_metadata::{PropFault, property_name_of_key};
 use std::alloc::Global;
 
-/// Begins a block for the case `name`, and returns the state of the reader after its first line.
+/// Begins a block for the case `name`, and returns the state of the reader after the block's first
+/// line.
 ///
-/// `cases` are the cases of the earlier blocks, and `names` their names. Returns the fault
-/// `RepeatedIdent` if one of them has the name `name`.
+/// `cases` are the cases of the earlier blocks, and `names` are their names. Returns the fault
+/// `RepeatedIdent` if one of these cases has the name `name`.
 fn begin_block(
     alloc: Global,
     cases: Items<CaseDef>,
-    mut names: Names,
+    mut names: NameSet,
     name: Text,
 ) -> Result<ListStep, NoMemory>
     requires { names ≡ names_of cases None }
     ensures { IfOk result (λ step. step ≡ begin_block cases name) }
 {
     if names.has(&name) {
-        return Ok(ListStep::Wrong(ListCause::RepeatedIdent));
+        return Ok(ListStep::FaultyLine(ListCause::RepeatedIdent));
     }
     names.push(alloc, &name)?;
-    Ok(ListStep::To(ListReader {
+    Ok(ListStep::NextState(ListReader {
         cases,
         names,
         block: Some(Block::new(alloc, name)),
     }))
 }
 
-/// Parses the first line of a block and returns the name of the case.
+/// Parses `line`, the first line of a block, and returns the name of the case.
 ///
 /// Returns `NoIdent` if the line does not begin with `ident: `, or `BadValue` if the name is empty
 /// or contains a colon.
-fn name_in(alloc: Global, line: &[u8]) -> Result<Result<Text, ListCause>, NoMemory>
-    ensures { IfOk result (λ found. found ≡ case_name_in (ident_in line.now)) }
+fn parse_case_name(alloc: Global, line: &[u8]) -> Result<Result<Text, ListCause>, NoMemory>
+    ensures { IfOk result (λ found. found ≡ case_name_in (line_ident line.now)) }
 {
-    match ident_in(line) {
+    match line_ident(line) {
         None => Ok(Err(ListCause::NoIdent)),
         Some(name) => {
-            if !is_name(name) {
+            if !is_case_name(name) {
                 return Ok(Err(ListCause::BadValue));
             }
             Ok(Ok(lossy(alloc, name)?))
@@ -56,28 +57,30 @@ fn name_in(alloc: Global, line: &[u8]) -> Result<Result<Text, ListCause>, NoMemo
     }
 }
 
-/// Processes `line` as the first line of a block.
+/// Processes `line`, the first line of a block.
 ///
-/// `cases` are the cases of the earlier blocks, and `names` their names. Returns the state after
-/// the line, or the cause of the fault in the line.
-fn begin(
+/// `cases` are the cases of the earlier blocks, and `names` are their names. Returns the state
+/// after the line, or the cause of the fault in the line.
+fn read_first_line(
     alloc: Global,
     cases: Items<CaseDef>,
-    names: Names,
+    names: NameSet,
     line: &[u8],
 ) -> Result<ListStep, NoMemory>
     requires { names ≡ names_of cases None }
-    ensures { IfOk result (λ step. step ≡ begin_block_if_named cases (case_name_in (ident_in line.now))) }
+    ensures { IfOk result (λ step. step ≡ first_line_step cases (case_name_in (line_ident
+        line.now))) }
 {
-    match name_in(alloc, line)? {
-        Err(cause) => Ok(ListStep::Wrong(cause)),
+    match parse_case_name(alloc, line)? {
+        Err(cause) => Ok(ListStep::FaultyLine(cause)),
         Ok(name) => begin_block(alloc, cases, names, name),
     }
 }
 
 /// Sets the property `name` of `block` to `value`. Returns `true` if the property accepts `value`.
 ///
-/// Otherwise, `block` is unchanged. The caller checks that the property is not set yet.
+/// If the property does not accept `value`, `block` is unchanged. The caller checks that the
+/// property is not set yet.
 fn try_set(block: &mut Block, name: &Text, value: &Text) -> Result<bool, NoMemory>
     requires { has_property block.old.props name.now ≡ false }
     ensures good { IfOk result (λ good. good ≡ is_valid_property name.now value.now) }
@@ -92,16 +95,17 @@ fn try_set(block: &mut Block, name: &Text, value: &Text) -> Result<bool, NoMemor
     }
 }
 
-/// Sets the property `name` of `block` to `value`. Returns the cause of a fault, or `None`.
+/// Sets the property `name` of `block` to `value`. Returns the cause of the fault, or `None` if
+/// there is no fault.
 ///
-/// If `name` is `None`, no property has the key of the line.
+/// If `name` is `None`, no property has the key of the line, and the cause is `UnknownKey`.
 fn set_property(
     block: &mut Block,
     name: &Option<Text>,
     value: &Text,
 ) -> Result<Option<ListCause>, NoMemory>
     ensures change { IfOk result (λ fault.
-        changed block.new fault ≡ set_property block.old name.now value.now) }
+        change_result block.new fault ≡ set_property block.old name.now value.now) }
     ensures name { block.new.name ≡ block.old.name }
 {
     match name {
@@ -118,7 +122,9 @@ fn set_property(
     }
 }
 
-/// Sets the property with the key `key` to `value`. Returns the cause of a fault, or `None`.
+/// Sets a property of `block` to `value`. `key` is the key of the property in a list.
+///
+/// Returns the cause of the fault, or `None` if there is no fault.
 fn set_key(
     alloc: Global,
     block: &mut Block,
@@ -126,7 +132,7 @@ fn set_key(
     value: &Text,
 ) -> Result<Option<ListCause>, NoMemory>
     ensures change { IfOk result (λ fault.
-        changed block.new fault ≡ set_key block.old key.now value.now) }
+        change_result block.new fault ≡ set_key block.old key.now value.now) }
     ensures name { block.new.name ≡ block.old.name }
 {
     if key.is_word("ident") {
@@ -136,9 +142,10 @@ fn set_key(
     set_property(block, &name, value)
 }
 
-/// Decodes `key` and `value` as UTF-8, and sets the property with this key to this value.
+/// Decodes `key` and `value` as UTF-8, and sets the property of `block` with this key to this
+/// value.
 ///
-/// Returns the cause of a fault, or `None`.
+/// Returns the cause of the fault, or `None` if there is no fault.
 fn set_decoded_key(
     alloc: Global,
     block: &mut Block,
@@ -146,7 +153,7 @@ fn set_decoded_key(
     value: &[u8],
 ) -> Result<Option<ListCause>, NoMemory>
     ensures change { IfOk result (λ fault.
-        changed block.new fault ≡ set_key block.old (lossy key.now) (lossy value.now)) }
+        change_result block.new fault ≡ set_key block.old (lossy key.now) (lossy value.now)) }
     ensures name { block.new.name ≡ block.old.name }
 {
     let key = lossy(alloc, key)?;
@@ -154,18 +161,23 @@ fn set_decoded_key(
     set_key(alloc, block, &key, &value)
 }
 
-/// Sets the property in `line`, which has the form `KEY: VALUE`.
+/// Parses `line` as `KEY: VALUE`, and sets the property of `block` with this key to this value.
 ///
-/// Returns the cause of the fault in the line, or `None`.
-fn set_line(alloc: Global, block: &mut Block, line: &[u8]) -> Result<Option<ListCause>, NoMemory>
+/// Returns the cause of the fault in the line, or `None` if the line has no fault.
+fn set_from_line(
+    alloc: Global,
+    block: &mut Block,
+    line: &[u8],
+) -> Result<Option<ListCause>, NoMemory>
     ensures change { IfOk result (λ fault.
-        changed block.new fault ≡ set_line block.old (key_in line.now) (value_in line.now)) }
+        change_result block.new fault ≡ set_from_line block.old (line_key line.now) (line_value
+        line.now)) }
     ensures name { block.new.name ≡ block.old.name }
 {
-    match value_in(line) {
+    match line_value(line) {
         None => Ok(Some(ListCause::BadLine)),
         Some(value) => {
-            let key = key_in(line);
+            let key = line_key(line);
             if key.is_empty() {
                 return Ok(Some(ListCause::BadLine));
             }
@@ -174,24 +186,24 @@ fn set_line(alloc: Global, block: &mut Block, line: &[u8]) -> Result<Option<List
     }
 }
 
-/// Processes `line`, which sets a property of `block`.
+/// Processes `line`, a line that sets a property of `block`.
 ///
-/// `cases` are the cases of the earlier blocks. Returns the state after the line, or the cause of
-/// the fault in the line.
-fn step_with_change(
+/// `cases` are the cases of the earlier blocks. `names` are the names of these cases and of
+/// `block`. Returns the state after the line, or the cause of the fault in the line.
+fn property_line_step(
     alloc: Global,
     cases: Items<CaseDef>,
-    names: Names,
+    names: NameSet,
     mut block: Block,
     line: &[u8],
 ) -> Result<ListStep, NoMemory>
     requires { names ≡ names_of cases (Some block) }
-    ensures { IfOk result (λ step. step ≡ step_with_change cases
-        (set_line block (key_in line.now) (value_in line.now))) }
+    ensures { IfOk result (λ step. step ≡ property_line_step cases
+        (set_from_line block (line_key line.now) (line_value line.now))) }
 {
-    match set_line(alloc, &mut block, line)? {
-        Some(cause) => Ok(ListStep::Wrong(cause)),
-        None => Ok(ListStep::To(ListReader {
+    match set_from_line(alloc, &mut block, line)? {
+        Some(cause) => Ok(ListStep::FaultyLine(cause)),
+        None => Ok(ListStep::NextState(ListReader {
             cases,
             names,
             block: Some(block),
@@ -199,40 +211,40 @@ fn step_with_change(
     }
 }
 
-/// Appends the case of `block`, which is finished, to the cases `cases` of the earlier blocks.
-fn with_block(mut cases: Items<CaseDef>, block: Block) -> Result<Items<CaseDef>, NoMemory>
-    ensures { IfOk result (λ all. all ≡ closed cases (Some block)) }
+/// Appends the case of the finished block `block` to `cases`, the cases of the earlier blocks.
+fn append_block(mut cases: Items<CaseDef>, block: Block) -> Result<Items<CaseDef>, NoMemory>
+    ensures { IfOk result (λ all. all ≡ cases_with_block cases (Some block)) }
 {
     cases.push(block.into_case())?;
     Ok(cases)
 }
 
-/// Processes `line` as a later line of `block`. An empty line ends the block.
+/// Processes `line`, a line of `block` after its first line. An empty line ends the block.
 ///
-/// `cases` are the cases of the earlier blocks. Returns the state after the line, or the cause of
-/// the fault in the line.
-fn go_on(
+/// `cases` are the cases of the earlier blocks. `names` are the names of these cases and of
+/// `block`. Returns the state after the line, or the cause of the fault in the line.
+fn later_line_step(
     alloc: Global,
     cases: Items<CaseDef>,
-    names: Names,
+    names: NameSet,
     block: Block,
     line: &[u8],
 ) -> Result<ListStep, NoMemory>
     requires { names ≡ names_of cases (Some block) }
-    ensures { IfOk result (λ step. step ≡ go_on cases block line.now) }
+    ensures { IfOk result (λ step. step ≡ later_line_step cases block line.now) }
 {
     if !line.is_empty() {
-        return step_with_change(alloc, cases, names, block, line);
+        return property_line_step(alloc, cases, names, block, line);
     }
-    let cases = with_block(cases, block)?;
-    Ok(ListStep::To(ListReader {
+    let cases = append_block(cases, block)?;
+    Ok(ListStep::NextState(ListReader {
         cases,
         names,
         block: None,
     }))
 }
 
-/// Processes the next line of a list, from line 3 on, in the state `reading` of the reader.
+/// Processes `line`, a line of a list from line 3 on, in the state `reading` of the reader.
 ///
 /// Returns the state after the line, or the cause of the fault in the line.
 ///
@@ -248,22 +260,24 @@ pub fn step(alloc: Global, reading: ListReader, line: &[u8]) -> Result<ListStep,
         block,
     } = reading;
     match block {
-        None => begin(alloc, cases, names, line),
-        Some(block) => go_on(alloc, cases, names, block, line),
+        None => read_first_line(alloc, cases, names, line),
+        Some(block) => later_line_step(alloc, cases, names, block, line),
     }
 }
 
-/// Returns the cases of a list that ends in the state `reading`. The end finishes a begun block.
+/// Returns the cases of a list that ends in the state `reading` of the reader.
+///
+/// The end of the list finishes a block that has begun.
 ///
 /// # Errors
 ///
 /// - `NoMemory`: an allocation fails.
 pub fn finish(reading: ListReader) -> Result<Items<CaseDef>, NoMemory>
-    ensures { IfOk result (λ cases. cases ≡ finished reading) }
+    ensures { IfOk result (λ cases. cases ≡ cases_at_end reading) }
 {
     let ListReader { cases, block, .. } = reading;
     match block {
         None => Ok(cases),
-        Some(block) => with_block(cases, block),
+        Some(block) => append_block(cases, block),
     }
 }

@@ -13,13 +13,13 @@ pub use Rattle.std.specs.Option.{option_or}
 pub use Rattle.std.specs.Str.{IsUtf8, IsValidUpTo, NonePass, bytes_eq, is_utf8}
 unfoldable pub use Rattle.std.specs.Str.{chars}
 pub use Rattle.std.specs.String.{string_bytes}
-pub use Rattle.kt_base.specs.Digits.{decimal_from, up_to}
-pub use Rattle.kt_base.specs.Inner.Parts.{number_text}
-pub use Rattle.kt_base.specs.LastValues.{IsReplaced, is_named, last_values, value_of, without}
-pub use Rattle.kt_base.specs.Lossy.{character, front, further, lossy}
+pub use Rattle.kt_base.specs.Digits.{decimal_from, number_up_to}
+pub use Rattle.kt_base.specs.Inner.ReasonParts.{number_text}
+pub use Rattle.kt_base.specs.LastValues.{Replaces, is_named, last_values, value_of, pairs_without}
+pub use Rattle.kt_base.specs.Lossy.{decoded_character, front, further, lossy}
 unfoldable pub use Rattle.kt_base.specs.Lossy.{first, lossy_from}
 pub use Rattle.kt_base.specs.Phrases.{phrase_text}
-pub use Rattle.kt_base.specs.Shows.{AppendsText, Shows, joined, joined_after}
+pub use Rattle.kt_base.specs.Emits.{AppendsText, Emits, joined, joined_after}
 pub use Rattle.kt_base.specs.Texts.{after, before, is_empty}
 pub use Rattle.kt_base.specs.Utf8.{utf8}
 pub use Rattle.kt_base.specs.declared.phrase.Phrase.{Phrase}

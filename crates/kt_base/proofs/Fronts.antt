@@ -1,6 +1,6 @@
 -- Lossy decoding: the characters at the beginning of bytes, and a byte where no character begins.
 use Rattle.std.proofs.Common.{◌≡◌, ℕ, zero, suc, ◌+◌, ◌-◌, ◌<◌, ◌≤◌, Bool, true, false, List, [], ◌∷◌, ◌++◌, length, take, drop, get_or, Some, None, Option, refl, ap, ◌∙◌, sym, subst, append_assoc, length-append, take-append-drop, drop-cons, add-one, arith, nat_le, ◌==◌, encode_utf8, encode_utf8_all}
-use Rattle.kt_base.proofs.Common.{IsScalar, IsUtf8, IsValidUpTo, is_utf8, chars, append-nil, length-take-le, le-leb, leb-true, eqb-true, false_from_ne_true, and_parts, IsUtf8-from_is_utf8, is_utf8-from_IsUtf8, IsUtf8-encode, IsUtf8-append, chars-encodes, chars_from_encodes, encode_same, len_utf8_bounds, length-encode, front, first, character, further, lossy_from, lossy}
+use Rattle.kt_base.proofs.Common.{IsScalar, IsUtf8, IsValidUpTo, is_utf8, chars, append-nil, length-take-le, le-leb, leb-true, eqb-true, false_from_ne_true, and_parts, IsUtf8-from_is_utf8, is_utf8-from_IsUtf8, IsUtf8-encode, IsUtf8-append, chars-encodes, chars_from_encodes, encode_same, len_utf8_bounds, length-encode, front, first, decoded_character, further, lossy_from, lossy}
 use Rattle.std.proofs.Math.Utf8.{scalars}
 use Rattle.std.proofs.Math.Seq.{drop-append_seam, take-append_seam, take-add}
 
@@ -68,7 +68,7 @@ past_first : (s rest : List ℕ) → 0 < length s → first (s ++ rest) ≡ Some
 unfolding lossy_from
 past_first [] rest some is = absurd (omega (arith, some))
 past_first (b ∷ s) rest some is =
-    ap (λ (o : Option (List ℕ)). character o ++ lossy_from (further o) (s ++ rest)) is
+    ap (λ (o : Option (List ℕ)). decoded_character o ++ lossy_from (further o) (s ++ rest)) is
     ∙ ap (λ (n : ℕ). chars (b ∷ s) ++ lossy_from n (s ++ rest)) (one_less (length s))
     ∙ ap (λ (xs : List ℕ). chars (b ∷ s) ++ xs) (skips (length s) (s ++ rest) ∙ ap lossy (drop-append_seam s rest))
 
@@ -90,8 +90,8 @@ unfolding lossy_from first
 past_byte b bytes bad =
     rw (front_none 1 (b ∷ bytes) (bad 1 (omega arith)), front_none 2 (b ∷ bytes) (bad 2 (omega arith)), front_none 3 (b ∷ bytes) (bad 3 (omega arith)), front_none 4 (b ∷ bytes) (bad 4 (omega arith))) refl
 
--- bytes whose first `n` bytes are valid and whose byte `n` is not decode to the text of the first
--- `n` bytes, U+FFFD, and the text of the bytes after byte `n`
+-- if the first `n` of some bytes are valid and byte `n` is not, the bytes decode to the text of the
+-- first `n` bytes, U+FFFD, and the text of the bytes after byte `n`
 pub past_fault : (bytes : List ℕ) (n : ℕ) → IsValidUpTo bytes n → lossy bytes ≡ chars (take n bytes) ++ 65533 ∷ lossy (drop (suc n) bytes)
 past_fault bytes n valid =
     let u = valid.front in

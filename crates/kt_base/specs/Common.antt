@@ -5,16 +5,16 @@ pub use Rattle.std.specs.IoError.{error_kind}
 pub use Rattle.std.specs.List.{list_any, prefix_len}
 pub use Rattle.std.specs.Str.{IsUtf8, chars}
 pub use Rattle.kt_base.specs.Characters.{is_absolute, is_slash}
-pub use Rattle.kt_base.specs.Digits.{decimal_from, is_digit, up_to}
-pub use Rattle.kt_base.specs.Inner.Pairs.{pairs_of}
-pub use Rattle.kt_base.specs.Inner.Parts.{number_text, parts_text}
+pub use Rattle.kt_base.specs.Digits.{decimal_from, is_digit, number_up_to}
+pub use Rattle.kt_base.specs.Inner.Pairs.{shared_or_own}
+pub use Rattle.kt_base.specs.Inner.ReasonParts.{number_text, parts_text}
 pub use Rattle.kt_base.specs.Kinds.{good, word}
-pub use Rattle.kt_base.specs.LastValues.{IsReplaced, last_values, value_of}
+pub use Rattle.kt_base.specs.LastValues.{Replaces, last_values, value_of}
 pub use Rattle.kt_base.specs.Lines.{is_newline}
 pub use Rattle.kt_base.specs.Lossy.{lossy}
 pub use Rattle.kt_base.specs.Phrases.{phrase_text}
 pub use Rattle.kt_base.specs.Reasons.{core_dump_text, counted_text, outcome_text, reason_text, refused_reason}
-pub use Rattle.kt_base.specs.Shows.{Shows, joined}
+pub use Rattle.kt_base.specs.Emits.{Emits, joined}
 pub use Rattle.kt_base.specs.Texts.{after, before, is_empty}
 pub use Rattle.kt_base.specs.Utf8.{utf8}
 pub use Rattle.kt_base.specs.Verdicts.{broken, expected_failure, failed, passed, skipped}

@@ -11,9 +11,9 @@ abbrev pub decimal_from : ℕ → List ℕ → ℕ
 decimal_from v [] = v
 decimal_from v (c ∷ cs) = decimal_from (10 * v + (c - 48)) cs
 
--- `up_to greatest n`: the number `n`, or nothing if `n` is above the limit `greatest`.
-abbrev pub up_to : ℕ → ℕ → Option ℕ
-up_to greatest n = if nat_le n greatest then Some n else None
+-- `number_up_to greatest n`: the number `n`, or nothing if `n` is above the limit `greatest`.
+abbrev pub number_up_to : ℕ → ℕ → Option ℕ
+number_up_to greatest n = if nat_le n greatest then Some n else None
 
 -- `fits n`: the number `n`, or nothing if `n` does not fit in 64 bits.
 abbrev pub fits : ℕ → Option ℕ

@@ -1,3 +1,3 @@
 -- Definitions that only private functions cite.
 pub mod Pairs
-pub mod Parts
+pub mod ReasonParts

@@ -11,7 +11,7 @@ pub mod Lossy
 pub mod Moments
 pub mod Phrases
 pub mod Reasons
-pub mod Shows
+pub mod Emits
 pub mod Texts
 pub mod Utf8
 pub mod Verdicts

@@ -13,11 +13,11 @@ front bytes n = if nat_le n (length bytes) && is_utf8 (take n bytes) then Some (
 unfoldable pub first : List ℕ → Option (List ℕ)
 first bytes = option_or (front bytes 1) (option_or (front bytes 2) (option_or (front bytes 3) (front bytes 4)))
 
--- `character found`: the text of one character: the one that the bytes `found` encode, or U+FFFD if
--- `found` is absent.
-abbrev pub character : Option (List ℕ) → List ℕ
-character None = 65533 ∷ []
-character (Some bytes) = chars bytes
+-- `decoded_character found`: the text of one character: the character that the bytes `found` encode, or
+-- U+FFFD if `found` is absent.
+abbrev pub decoded_character : Option (List ℕ) → List ℕ
+decoded_character None = 65533 ∷ []
+decoded_character (Some bytes) = chars bytes
 
 -- `further found`: the number of bytes after the first byte in a character's encoding `found`, or 0
 -- if `found` is absent.
@@ -29,7 +29,7 @@ further (Some bytes) = length bytes - 1
 -- character that began before `bytes`.
 unfoldable pub lossy_from : ℕ → List ℕ → List ℕ
 lossy_from n [] = []
-lossy_from zero (b ∷ bytes) = character (first (b ∷ bytes)) ++ lossy_from (further (first (b ∷ bytes))) bytes
+lossy_from zero (b ∷ bytes) = decoded_character (first (b ∷ bytes)) ++ lossy_from (further (first (b ∷ bytes))) bytes
 lossy_from (suc n) (b ∷ bytes) = lossy_from n bytes
 
 -- `lossy bytes`: the text that `bytes` are decoded to, from left to right: each well-formed

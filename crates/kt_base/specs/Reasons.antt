@@ -17,8 +17,8 @@ abbrev pub core_dump_text : Bool → List ℕ
 core_dump_text false = []
 core_dump_text true = codes " (core dumped)"
 
--- `outcome_text outcome`: the text of the exit status or signal of the process with the outcome
--- `outcome`. It is empty for a timeout and for a failed wait.
+-- `outcome_text outcome`: the text of the exit status or signal in `outcome`, the outcome of a
+-- process. It is empty for a timeout and for a failed wait.
 abbrev pub outcome_text : Outcome → List ℕ
 outcome_text (Exited code) = codes "exited with code " ++ decimal code
 outcome_text (Signaled signal core) = codes "received signal " ++ decimal signal ++ core_dump_text core
@@ -42,8 +42,8 @@ reason_text (Ended phrase ending) = phrase_text phrase ++ outcome_text ending
 reason_text (Counted phrase m n) = counted_text phrase m n
 reason_text (Owned text) = text
 
--- `refused_reason cause`: the reason of the verdict on a case whose child process could not be
--- started, because of `cause`.
+-- `refused_reason cause`: the reason of a `broken` verdict for a failed start with the cause
+-- `cause`.
 abbrev pub refused_reason : Refused → Reason
 refused_reason Directory = Fixed NoDirectory
 refused_reason Output = Fixed NoOutput

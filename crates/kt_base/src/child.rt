@@ -5,7 +5,7 @@ pub enum Interface {
     Atf,
     /// The Test Anything Protocol (TAP), on standard output.
     Tap,
-    /// The exit status alone.
+    /// A plain program: only the outcome of its process counts, such as the exit status.
     Plain,
 }
 
@@ -23,10 +23,11 @@ pub enum Role {
 pub enum Outcome {
     /// The process exited by itself, with this exit status.
     Exited(u8),
-    /// The signal with this number killed the process. The flag is `true` if it left a core dump.
+    /// The signal with this number killed the process. The flag is `true` if the process left a
+    /// core dump.
     Signaled(u8, bool),
-    /// The runner killed the process at its time limit.
+    /// The process reached its time limit, and the runner killed it.
     TimedOut,
-    /// The system failed to report how the process ended.
+    /// The wait for the process failed, so its exit status is unknown.
     WaitFailed,
 }

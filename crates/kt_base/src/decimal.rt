@@ -10,7 +10,7 @@ use std::marker::Model;
 /// contracts, a `Decimal` is the list of the digits' bytes.
 #[derive(Drop)]
 pub struct Decimal {
-    /// The buffer, in bytes. The digits are at its end.
+    /// The bytes of the buffer. The digits are at the end of the buffer.
     buffer: [u8; 40],
     /// The index of the first digit in the buffer, at most 40.
     start: usize,
@@ -32,13 +32,13 @@ impl Decimal {
         ensures value { result ≡ decimal n }
         ensures ascii { utf8 (decimal n) ≡ decimal n }
     {
-        Decimal::wide(u128::from(n))
+        Decimal::from_u128(u128::from(n))
     }
 
     /// Creates the decimal digits of the 128-bit number `n`, without leading zeros.
     ///
     /// Allocates nothing.
-    pub fn wide(n: u128) -> Decimal
+    pub fn from_u128(n: u128) -> Decimal
         ensures value { result ≡ decimal n }
         ensures ascii { utf8 (decimal n) ≡ decimal n }
     {

@@ -1,5 +1,5 @@
 ghost use Rattle.std.specs.Prelude.{◌≡◌, ◌≤◌, ◌<◌, true, false, is_err, length, map, take};
-ghost use Rattle.kt_base.specs.Common.{Appends, Shows, joined};
+ghost use Rattle.kt_base.specs.Common.{Appends, Emits, joined};
 
 use std::io::Write;
 use thiserror::Error;
@@ -45,7 +45,7 @@ pub fn send<W: Write>(bytes: &[u8], out: &mut W) -> (usize, bool)
 /// - `OutputFault`: a write failed, was interrupted or wrote no byte. A proper prefix of `bytes`
 ///   was written.
 pub fn emit<W: Write>(bytes: &[u8], out: &mut W) -> Result<(), OutputFault>
-    ensures { Shows (W.contents out.old) (W.contents out.new) (is_err result) bytes.now }
+    ensures { Emits (W.contents out.old) (W.contents out.new) (is_err result) bytes.now }
 {
     let (_, failed) = send(bytes, out);
     if failed {
@@ -61,7 +61,7 @@ pub fn emit<W: Write>(bytes: &[u8], out: &mut W) -> Result<(), OutputFault>
 /// - `OutputFault`: a write failed, was interrupted or wrote no byte. A proper prefix of the joined
 ///   `parts` was written.
 pub fn emit_all<W: Write>(parts: &[&[u8]], out: &mut W) -> Result<(), OutputFault>
-    ensures { Shows (W.contents out.old) (W.contents out.new) (is_err result)
+    ensures { Emits (W.contents out.old) (W.contents out.new) (is_err result)
         (joined (map (λ part. part.now) parts.now)) }
 {
     for part in parts {

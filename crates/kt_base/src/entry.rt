@@ -13,7 +13,7 @@ pub struct Output {
     pub err: Bytes,
 }
 
-/// The recorded result of one test case of a run.
+/// The recorded result of one test case in a run.
 pub struct Entry {
     /// The position of the case among the selected cases, counted from 0.
     pub position: u32,
@@ -23,16 +23,18 @@ pub struct Entry {
     pub case_name: Text,
     /// The verdict: its kind and its reason.
     pub verdict: Verdict,
-    /// The start time of the body, in milliseconds since 1970 in UTC, or 0 if the body was not
-    /// started.
+    /// The start time of the body, in milliseconds since 1970 in UTC.
+    ///
+    /// The time is 0 if the body was not started, or if the clock failed at its start.
     pub started: u64,
     /// The time from the start of the body to the end of the case, in milliseconds.
     ///
-    /// The time is 0 if the body was not started, or if the clock was set back to before its start.
+    /// The time is 0 if the body was not started, or if the clock reports an earlier time at the
+    /// end.
     pub millis: u64,
-    /// The output of the body. Empty if the body was not started.
+    /// The output of the body. Both streams are empty if the body was not started.
     pub body: Output,
-    /// The output of the cleanup. Empty if no cleanup was started.
+    /// The output of the cleanup. Both streams are empty if no cleanup was started.
     pub cleanup: Output,
     /// The properties of the case: their names and values.
     pub meta: Variables,

@@ -1,11 +1,11 @@
 use crate::{Phrase, Reason};
 
-/// A cause of a failed start of a child process.
+/// A cause for which a child process could not be started.
 #[derive(Clone, Copy, Debug)]
 pub enum Refused {
     /// The work directory could not be created.
     Directory,
-    /// The files for the output could not be created.
+    /// The files for standard output and standard error could not be created.
     Output,
     /// The system failed to start the program.
     Spawn,
@@ -17,7 +17,7 @@ impl Refused {
     ghost use Rattle.std.specs.Prelude.{◌≡◌};
     ghost use Rattle.kt_base.specs.Common.{refused_reason};
 
-    /// Returns the reason of the verdict `broken` on a case whose start failed for this cause.
+    /// Returns the reason of a `broken` verdict for a failed start with this cause.
     pub fn reason(self) -> Reason
         ensures { result ≡ refused_reason self }
     {

@@ -1,18 +1,19 @@
 ghost use Rattle.std.specs.Prelude.{◌≡◌, ℕ, List, [], ◌∷◌, ◌++◌, None, IsSome};
-ghost use Rattle.kt_base.specs.Common.{Variable, value_of, last_values, IsReplaced};
+ghost use Rattle.kt_base.specs.Common.{Variable, value_of, last_values, Replaces};
 
-/// Theorem: a list of last values is updated if each new pair replaces the pair of its name, or is
-/// appended.
+/// Theorem: a pair appended to a list replaces the pair of its name in `last_values` of the list,
+/// or is appended there.
 ///
-/// Proofs use these facts for code that replaces a value in place or appends a pair. `last_values`
-/// returns the list of each name's last value.
+/// `last_values` has one pair for each name, with the last value of the name. Proofs use the
+/// theorem for code that replaces a value in place or appends a pair.
 pub fn theorem_of_last_values()
     ensures value { (name : List ℕ) → (pairs : List Variable)
         → value_of name (last_values pairs) ≡ value_of name pairs }
 
     // An added pair replaces the pair of the same name. Without such a pair, it is appended.
-    ensures replaced { (pairs : List Variable) → (pair : Variable) → IsSome (value_of pair.name pairs)
-        → IsReplaced pair (last_values pairs) (last_values (pairs ++ pair ∷ [])) }
+    ensures replaced { (pairs : List Variable) → (pair : Variable)
+        → IsSome (value_of pair.name pairs)
+        → Replaces pair (last_values pairs) (last_values (pairs ++ pair ∷ [])) }
     ensures appended { (pairs : List Variable) → (pair : Variable) → value_of pair.name pairs ≡ None
         → last_values (pairs ++ pair ∷ []) ≡ last_values pairs ++ pair ∷ [] }
 

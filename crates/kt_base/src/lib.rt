@@ -1,4 +1,4 @@
-//! Shared values of the test runner: texts, bytes, numbers, verdicts, entries and their output.
+//! Shared values of the test runner, such as texts and entries, and functions that write output.
 #![tactic(auto)]
 
 mod bytes;
@@ -33,7 +33,9 @@ pub use lossy_text::lossy;
 pub use no_memory::{NoMemory, OUT_OF_MEMORY};
 pub use number::{emit_number, emit_u128};
 pub use phrase::Phrase;
-pub use scanning::{decimal_up_to, digits_length, has_slash, is_absolute, is_digit, line_length};
+pub use scanning::{
+    digits_length, has_slash, is_absolute, is_digit, line_length, parse_decimal_up_to,
+};
 pub use text::Text;
 pub use variable::Variable;
 pub use variables::Variables;

@@ -16,11 +16,12 @@ fn push_if_utf8(text: &mut Text, bytes: &[u8]) -> Result<(), NoMemory>
 
 /// Decodes `bytes` up to and including the first invalid byte, and appends the result to `text`.
 ///
-/// U+FFFD is appended for the invalid byte. Returns the bytes after the invalid byte, or an empty
-/// slice if `bytes` is valid UTF-8.
-fn push_valid_prefix<'a>(text: &mut Text, bytes: &'a [u8]) -> Result<&'a [u8], NoMemory>
+/// The result for the invalid byte is U+FFFD. Returns the bytes after the invalid byte. If `bytes`
+/// is valid UTF-8, decodes all bytes and returns an empty slice.
+fn push_utf8_chunk<'a>(text: &mut Text, bytes: &'a [u8]) -> Result<&'a [u8], NoMemory>
     ensures text { IfOk result (λ rest. text.new ++ lossy rest.now ≡ text.old ++ lossy bytes.now) }
-    ensures shorter { 0 < length bytes.now → IfOk result (λ rest. length rest.now < length bytes.now) }
+    ensures shorter { 0 < length bytes.now → IfOk result (λ rest. length rest.now < length
+        bytes.now) }
 {
     match str::from_utf8(bytes) {
         Ok(all) => {
@@ -49,7 +50,7 @@ pub fn lossy(alloc: Global, bytes: &[u8]) -> Result<Text, NoMemory>
     let mut text = Text::new(alloc);
     let mut rest = bytes;
     while !rest.is_empty() {
-        rest = push_valid_prefix(&mut text, rest)?;
+        rest = push_utf8_chunk(&mut text, rest)?;
     }
     Ok(text)
 }

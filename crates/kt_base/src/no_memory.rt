@@ -9,7 +9,7 @@ pub const OUT_OF_MEMORY: &str = "out of memory";
 /// A failed allocation in this program or in the system.
 ///
 /// Only this module creates a `NoMemory`: from an allocator's error (`From`), or from a system
-/// error of kind `OutOfMemory` (`in_error`). Callers return it with `?`.
+/// error of kind `OutOfMemory` (`from_io_error`). Callers return it with `?`.
 #[derive(Clone, Copy, Debug, Error)]
 #[error("{OUT_OF_MEMORY}")]
 pub struct NoMemory {
@@ -25,7 +25,7 @@ impl NoMemory {
     ghost use Rattle.kt_base.specs.Common.{error_kind};
 
     /// Returns `NoMemory` if the kind of `error` is `OutOfMemory`, otherwise `None`.
-    pub fn in_error(error: &io::Error) -> Option<NoMemory>
+    pub fn from_io_error(error: &io::Error) -> Option<NoMemory>
         ensures told { error_kind error.now ≡ ErrorKind.OutOfMemory → is_some result ≡ true }
         ensures only { is_some result ≡ true → error_kind error.now ≡ ErrorKind.OutOfMemory }
     {

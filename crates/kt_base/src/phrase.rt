@@ -75,7 +75,7 @@ pub enum Phrase {
 }
 
 impl Phrase {
-    /// Returns the message of the phrase, up to the place of its outcome or of its first number.
+    /// Returns the message of the phrase, up to its outcome or its first number.
     pub fn text(self) -> &'static str
         ensures { result.now ≡ phrase_text self }
     {

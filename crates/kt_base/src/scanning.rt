@@ -1,5 +1,5 @@
 ghost use Rattle.std.specs.Prelude.{◌≡◌, ◌≤◌, not, length, chars, IfSome};
-ghost use Rattle.kt_base.specs.Common.{prefix_len, is_newline, list_any, is_absolute, is_slash, is_digit, decimal_from, up_to};
+ghost use Rattle.kt_base.specs.Common.{prefix_len, is_newline, list_any, is_absolute, is_slash, is_digit, decimal_from, number_up_to};
 
 /// Returns the length of the first line of `text` in bytes, without its newline.
 pub fn line_length(text: &[u8]) -> usize
@@ -41,8 +41,8 @@ pub fn digits_length(text: &[u8]) -> usize
 /// Parses `digits` as a decimal number, or returns `None` if the number is above `greatest`.
 ///
 /// Leading zeros are allowed, and an empty slice is 0. The caller checks that each byte is a digit.
-pub fn decimal_up_to(greatest: u64, digits: &[u8]) -> Option<u64>
-    ensures value { result ≡ up_to greatest (decimal_from 0 digits.now) }
+pub fn parse_decimal_up_to(greatest: u64, digits: &[u8]) -> Option<u64>
+    ensures value { result ≡ number_up_to greatest (decimal_from 0 digits.now) }
     ensures within { IfSome result (λ n. n ≤ greatest) }
 {
     let mut value = 0u64;

@@ -13,7 +13,7 @@ use std::marker::Model;
 
 /// A growable UTF-8 string whose methods return `NoMemory` if an allocation fails.
 ///
-/// In contracts, a `Text` is the list of its characters. `utf8` returns their bytes.
+/// In contracts, a `Text` is the list of its characters, and `utf8` encodes them as bytes.
 #[derive(Debug)]
 pub struct Text {
     string: String,
@@ -124,9 +124,11 @@ impl Text {
         self.as_str() == word
     }
 
-    /// Splits the text at the first `sign` and returns copies of the text before and after `sign`.
+    /// Splits the text at the first occurrence of the character `sign`, and returns copies of both
+    /// parts.
     ///
-    /// If the text does not contain `sign`, returns a copy of the whole text and `None`.
+    /// The parts do not contain this occurrence. Returns a copy of the whole text and `None` if the
+    /// text does not contain `sign`.
     ///
     /// # Errors
     ///
@@ -144,7 +146,8 @@ impl Text {
         }
     }
 
-    /// Splits the text at each ASCII character `sign` and returns copies of the parts.
+    /// Splits the text at each occurrence of the ASCII character `sign`, and returns copies of the
+    /// parts.
     ///
     /// # Errors
     ///

@@ -1,5 +1,5 @@
 ghost use Rattle.std.specs.Prelude.{◌≡◌, ◌↔◌, [], ◌∷◌, ◌++◌, List, length, IfOk, OnOk, OnErr, IsTrue};
-ghost use Rattle.kt_base.specs.Common.{Variable, pairs_of};
+ghost use Rattle.kt_base.specs.Common.{Variable, shared_or_own};
 
 use crate::{NoMemory, Variable};
 use std::alloc::Global;
@@ -27,7 +27,7 @@ impl Drop for Variables {
 impl Model for Variables {
     ghost Value = { List Variable };
 
-    ghost view = { λ v. pairs_of v.shared v.own.items };
+    ghost view = { λ v. shared_or_own v.shared v.own.items };
 }
 
 impl Variables {
@@ -77,7 +77,7 @@ impl Variables {
         ensures err { OnErr result (self.new ≡ self.old) }
     {
         if let Some(pairs) = &self.shared {
-            self.own = copies(pairs)?;
+            self.own = copy_pairs(pairs)?;
             self.shared = None;
         }
         self.own.push(variable)?;
@@ -118,7 +118,7 @@ impl Variables {
                 shared: Some(pairs.clone()?),
             }),
             None => Ok(Variables {
-                own: copies(&self.own)?,
+                own: copy_pairs(&self.own)?,
                 shared: None,
             }),
         }
@@ -126,7 +126,7 @@ impl Variables {
 }
 
 /// Copies `pairs` into new allocations.
-fn copies(pairs: &Vec<Variable>) -> Result<Vec<Variable>, NoMemory>
+fn copy_pairs(pairs: &Vec<Variable>) -> Result<Vec<Variable>, NoMemory>
     ensures { IfOk result (λ copy. copy.items ≡ pairs.now.items) }
 {
     let mut copied = Vec::new(*pairs.allocator());

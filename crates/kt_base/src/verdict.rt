@@ -2,7 +2,7 @@ use crate::{NoMemory, Outcome, OutputFault, Phrase, Text};
 use std::io::Write;
 use std::marker::Model;
 
-/// The reason of a verdict. Fixed messages are stored without an allocation.
+/// A reason for a verdict. Only `Owned` contains an allocated text.
 pub enum Reason {
     /// No reason, because the case passed.
     Nothing,
@@ -34,15 +34,15 @@ impl Reason {
     ghost use Rattle.kt_base.specs.Common.{parts_text, reason_text};
 
     /// Splits the text of the reason into parts that can be written without an allocation.
-    pub(crate) fn parts(&self) -> Parts<'_>
+    pub(crate) fn parts(&self) -> ReasonParts<'_>
         ensures { parts_text result ≡ reason_text self.now }
     {
         match self {
-            Reason::Nothing => Parts::words(""),
-            Reason::Fixed(phrase) => Parts::words(phrase.text()),
-            Reason::Ended(phrase, ending) => Parts::ended(*phrase, *ending),
-            Reason::Counted(phrase, m, n) => Parts::counted(*phrase, *m, *n),
-            Reason::Owned(text) => Parts::words(text.as_str()),
+            Reason::Nothing => ReasonParts::words(""),
+            Reason::Fixed(phrase) => ReasonParts::words(phrase.text()),
+            Reason::Ended(phrase, ending) => ReasonParts::with_outcome(*phrase, *ending),
+            Reason::Counted(phrase, m, n) => ReasonParts::with_numbers(*phrase, *m, *n),
+            Reason::Owned(text) => ReasonParts::words(text.as_str()),
         }
     }
 }
@@ -100,9 +100,9 @@ impl Model for Verdict {
     ghost use Rattle.std.specs.Prelude.{◌≡◌, []};
     ghost use Rattle.kt_base.specs.declared.verdict.Kind.TheVariants.{Passed};
     ghost use Rattle.kt_base.specs.Reasons.{reason_text};
-    ghost use Rattle.kt_base.specs.Verdicts.{Judged};
+    ghost use Rattle.kt_base.specs.Verdicts.{VerdictValue};
 
-    ghost Value = { Judged };
+    ghost Value = { VerdictValue };
 
     ghost view = { λ v. record { kind = v.kind; reason = reason_text v.reason } };
 
@@ -111,7 +111,7 @@ impl Model for Verdict {
 
 impl Verdict {
     ghost use Rattle.std.specs.Prelude.{◌≡◌, [], ◌++◌, OnOk, OnErr, is_err};
-    ghost use Rattle.kt_base.specs.Common.{Passed, reason_text, Shows, utf8, passed, skipped, expected_failure, failed, broken};
+    ghost use Rattle.kt_base.specs.Common.{Passed, reason_text, Emits, utf8, passed, skipped, expected_failure, failed, broken};
 
     /// Creates the verdict on a case that passed.
     pub fn passed() -> Verdict
@@ -163,7 +163,9 @@ impl Verdict {
         }
     }
 
-    /// Creates a verdict of `kind` with the reason `reason`. A `Passed` verdict drops the reason.
+    /// Creates a verdict of the kind `kind` with the reason `reason`.
+    ///
+    /// A passed case has no reason: for `Passed`, the call drops `reason`.
     pub fn of(kind: Kind, reason: Text) -> Verdict
         ensures { (kind ≡ Passed → reason ≡ []) → result ≡ record { kind = kind; reason = reason } }
     {
@@ -194,7 +196,7 @@ impl Verdict {
         ensures err { OnErr result (out.new ≡ out.old) }
     {
         let mut text = Text::new(out.allocator());
-        self.reason.parts().push_onto(&mut text)?;
+        self.reason.parts().append_to(&mut text)?;
         out.push_str(text.as_str())
     }
 
@@ -205,7 +207,7 @@ impl Verdict {
     /// - `OutputFault`: a write failed, was interrupted or wrote no byte. A proper prefix of the
     ///   text was written.
     pub fn print_reason<W: Write>(&self, out: &mut W) -> Result<(), OutputFault>
-        ensures { Shows (W.contents out.old) (W.contents out.new) (is_err result)
+        ensures { Emits (W.contents out.old) (W.contents out.new) (is_err result)
             (utf8 self.now.reason) }
     {
         self.reason.parts().print(out)
@@ -217,7 +219,7 @@ impl Verdict {
 /// The text is the concatenation of the fields in their order, with numbers in decimal. `None` adds
 /// nothing.
 #[derive(Clone, Copy)]
-pub struct Parts<'a> {
+pub struct ReasonParts<'a> {
     /// The beginning of the text.
     pub head: &'a str,
     /// The text between the beginning and the first number.

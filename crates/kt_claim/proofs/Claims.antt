@@ -1,6 +1,6 @@
 -- A file has no other claim than `claim_of` of the file.
 use Rattle.std.proofs.Common.{◌≡◌, ℕ, ◌-◌, ◌≤◌, ◌<◌, true, false, eqb, ltb, List, [], ◌∷◌, ◌++◌, length, drop, Option, Some, Result, Ok, Err, refl, ap, sym, subst, ◌∙◌, append_assoc, inl, inr, arith, nat_eq, codes, MatchOption, IfOk}
-use Rattle.kt_claim.proofs.Common.{bytes_eq, prefix_len, ends_with, list_any, list_all, false≢true, lt-ltb, le-ltb, ne_eqb, length-append, is_digit, lossy, is_newline, newline, number, limit, IsReason, IsNumber, with_reason, with_number, Says, line, is, IsClaimOf, word_of, claim_with, numbered, reason_in, with_reason_in, value_of, number_in, with_number_in, claim_of_line, claim_of, Claim, ClaimFault, Word}
+use Rattle.kt_claim.proofs.Common.{bytes_eq, prefix_len, ends_with, list_any, list_all, false≢true, lt-ltb, le-ltb, ne_eqb, length-append, is_digit, lossy, is_newline, newline, number, limit, IsReason, IsNumber, reason_suffix, number_suffix, SpellsClaim, line, is, IsClaimOf, keyword_of, claim_with_reason, claim_with_number, reason_in, claim_from_reason, byte_value, number_in, claim_from_number, claim_of_line, claim_of, Claim, ClaimFault, Word}
 use Rattle.std.proofs.Math.Seq.{take-append_seam, drop-append_seam}
 use Rattle.kt_claim.specs.ResultFile as says
 use Rattle.kt_claim.specs.declared.evidence.Claim.TheVariants as claim
@@ -43,34 +43,34 @@ pub number_found : (n rest : List ℕ) → IsNumber n → number_in (n ++ 41 ∷
 unfolding number_in
 number_found n rest isn =
     let all : prefix_len is_digit (n ++ 41 ∷ rest) ≡ length n = all_digits n rest isn.1 in
-    let value : value_of n ≡ Some (number n) = valued n (lt-ltb 0 (length n) isn.0) (lt-ltb (number n) 256 isn.2) in
+    let value : byte_value n ≡ Some (number n) = valued n (lt-ltb 0 (length n) isn.0) (lt-ltb (number n) 256 isn.2) in
     rw (all, take-append_seam n (41 ∷ rest), drop-append_seam n (41 ∷ rest), value) refl
 
--- A keyword with a number in round brackets spells `with_number`.
-pub number_parts : (w n r : List ℕ) → (w ++ 40 ∷ (n ++ 41 ∷ 58 ∷ 32 ∷ r)) ++ newline ≡ w ++ with_number n r
+-- A keyword with a number in round brackets spells `number_suffix`.
+pub number_parts : (w n r : List ℕ) → (w ++ 40 ∷ (n ++ 41 ∷ 58 ∷ 32 ∷ r)) ++ newline ≡ w ++ number_suffix n r
 number_parts w n r =
     append_assoc w (40 ∷ (n ++ 41 ∷ 58 ∷ 32 ∷ r)) newline
-    ∙ ap (λ (xs : List ℕ). w ++ 40 ∷ xs) (append_assoc n (41 ∷ 58 ∷ 32 ∷ r) newline ∙ sym (append_assoc n (41 ∷ []) (with_reason r)))
+    ∙ ap (λ (xs : List ℕ). w ++ 40 ∷ xs) (append_assoc n (41 ∷ 58 ∷ 32 ∷ r) newline ∙ sym (append_assoc n (41 ∷ []) (reason_suffix r)))
 
-pub numbered_file : (w n r : List ℕ) (c : Claim) → IsNumber n → IsReason r → length (w ++ with_number n r) ≤ limit → list_any is_newline (w ++ 40 ∷ (n ++ 41 ∷ 58 ∷ 32 ∷ r)) ≡ false
-    → claim_of_line (w ++ 40 ∷ (n ++ 41 ∷ 58 ∷ 32 ∷ r)) ≡ c → claim_of (w ++ with_number n r) ≡ c
+pub numbered_file : (w n r : List ℕ) (c : Claim) → IsNumber n → IsReason r → length (w ++ number_suffix n r) ≤ limit → list_any is_newline (w ++ 40 ∷ (n ++ 41 ∷ 58 ∷ 32 ∷ r)) ≡ false
+    → claim_of_line (w ++ 40 ∷ (n ++ 41 ∷ 58 ∷ 32 ∷ r)) ≡ c → claim_of (w ++ number_suffix n r) ≡ c
 numbered_file w n r c isn isr short none is =
     subst (λ (xs : List ℕ). claim_of xs ≡ c) (number_parts w n r)
     (whole (w ++ 40 ∷ (n ++ 41 ∷ 58 ∷ 32 ∷ r)) (subst (λ (xs : List ℕ). length xs ≤ limit) (sym (number_parts w n r)) short) none ∙ is)
 
-pub numbered_line : (k : Word) (n r : List ℕ) → IsNumber n → IsReason r → with_number_in k (number_in (n ++ 41 ∷ 58 ∷ 32 ∷ r)) ≡ numbered k (number n) (lossy r)
-numbered_line k n r isn isr = ap (with_number_in k) (number_found n (58 ∷ 32 ∷ r) isn) ∙ ap (with_reason_in (numbered k (number n))) (reason_found r isr.0)
+pub numbered_line : (k : Word) (n r : List ℕ) → IsNumber n → IsReason r → claim_from_number k (number_in (n ++ 41 ∷ 58 ∷ 32 ∷ r)) ≡ claim_with_number k (number n) (lossy r)
+numbered_line k n r isn isr = ap (claim_from_number k) (number_found n (58 ∷ 32 ∷ r) isn) ∙ ap (claim_from_reason (claim_with_number k (number n))) (reason_found r isr.0)
 
-pub said : (file : List ℕ) (c : Claim) → length file ≤ limit → Says file c → claim_of file ≡ c
-unfolding claim_of_line word_of
+pub said : (file : List ℕ) (c : Claim) → length file ≤ limit → SpellsClaim file c → claim_of file ≡ c
+unfolding claim_of_line keyword_of
 said _ _ short says.passed = whole (codes "passed") short refl
-said _ _ short (says.failed r isr) = whole (codes "failed" ++ 58 ∷ 32 ∷ r) short isr.1 ∙ ap (with_reason_in (claim_with word.Failed)) (reason_found r isr.0)
-said _ _ short (says.skipped r isr) = whole (codes "skipped" ++ 58 ∷ 32 ∷ r) short isr.1 ∙ ap (with_reason_in (claim_with word.Skipped)) (reason_found r isr.0)
-said _ _ short (says.expected_death r isr) = whole (codes "expected_death" ++ 58 ∷ 32 ∷ r) short isr.1 ∙ ap (with_reason_in (claim_with word.ExpectedDeath)) (reason_found r isr.0)
-said _ _ short (says.expected_failure r isr) = whole (codes "expected_failure" ++ 58 ∷ 32 ∷ r) short isr.1 ∙ ap (with_reason_in (claim_with word.ExpectedFailure)) (reason_found r isr.0)
-said _ _ short (says.expected_timeout r isr) = whole (codes "expected_timeout" ++ 58 ∷ 32 ∷ r) short isr.1 ∙ ap (with_reason_in (claim_with word.ExpectedTimeout)) (reason_found r isr.0)
-said _ _ short (says.expected_exit r isr) = whole (codes "expected_exit" ++ 58 ∷ 32 ∷ r) short isr.1 ∙ ap (with_reason_in (claim_with word.ExpectedExit)) (reason_found r isr.0)
-said _ _ short (says.expected_signal r isr) = whole (codes "expected_signal" ++ 58 ∷ 32 ∷ r) short isr.1 ∙ ap (with_reason_in (claim_with word.ExpectedSignal)) (reason_found r isr.0)
+said _ _ short (says.failed r isr) = whole (codes "failed" ++ 58 ∷ 32 ∷ r) short isr.1 ∙ ap (claim_from_reason (claim_with_reason word.Failed)) (reason_found r isr.0)
+said _ _ short (says.skipped r isr) = whole (codes "skipped" ++ 58 ∷ 32 ∷ r) short isr.1 ∙ ap (claim_from_reason (claim_with_reason word.Skipped)) (reason_found r isr.0)
+said _ _ short (says.expected_death r isr) = whole (codes "expected_death" ++ 58 ∷ 32 ∷ r) short isr.1 ∙ ap (claim_from_reason (claim_with_reason word.ExpectedDeath)) (reason_found r isr.0)
+said _ _ short (says.expected_failure r isr) = whole (codes "expected_failure" ++ 58 ∷ 32 ∷ r) short isr.1 ∙ ap (claim_from_reason (claim_with_reason word.ExpectedFailure)) (reason_found r isr.0)
+said _ _ short (says.expected_timeout r isr) = whole (codes "expected_timeout" ++ 58 ∷ 32 ∷ r) short isr.1 ∙ ap (claim_from_reason (claim_with_reason word.ExpectedTimeout)) (reason_found r isr.0)
+said _ _ short (says.expected_exit r isr) = whole (codes "expected_exit" ++ 58 ∷ 32 ∷ r) short isr.1 ∙ ap (claim_from_reason (claim_with_reason word.ExpectedExit)) (reason_found r isr.0)
+said _ _ short (says.expected_signal r isr) = whole (codes "expected_signal" ++ 58 ∷ 32 ∷ r) short isr.1 ∙ ap (claim_from_reason (claim_with_reason word.ExpectedSignal)) (reason_found r isr.0)
 said _ _ short (says.expected_exit_of n r isn isr) =
     numbered_file (codes "expected_exit") n r (claim.ExpectedExit (Some (number n)) (lossy r)) isn isr short (digits_clean n (41 ∷ 58 ∷ 32 ∷ r) isn.1 isr.1) (numbered_line word.ExpectedExit n r isn isr)
 said _ _ short (says.expected_signal_of n r isn isr) =
@@ -79,7 +79,7 @@ said _ _ short (says.expected_signal_of n r isn isr) =
 -- Each claim of a file is equal to `claim_of` of the file.
 pub only_claim : (file : List ℕ) (c : Claim) → IsClaimOf file c → claim_of file ≡ c
 only_claim file c (inl h) = said file c h.0 h.1
-only_claim file c (inr h) = subst (λ (o : Option ClaimFault). MatchOption o ((length file ≤ limit) × Says file (claim_of file)) (λ g. claim_of file ≡ claim.Malformed g)) h.1 (read_file file) ∙ sym h.2
+only_claim file c (inr h) = subst (λ (o : Option ClaimFault). MatchOption o ((length file ≤ limit) × SpellsClaim file (claim_of file)) (λ g. claim_of file ≡ claim.Malformed g)) h.1 (read_file file) ∙ sym h.2
 
 pub related : {E : Type 0} (r : Result Claim E) (file : List ℕ) → IfOk r (λ c. c ≡ claim_of file) → IfOk r (λ c. IsClaimOf file c)
 related (Ok c) file is = subst (λ (x : Claim). IsClaimOf file x) (sym is) (claims file)

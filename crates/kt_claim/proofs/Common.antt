@@ -6,17 +6,17 @@ pub use Rattle.std.specs.List.{cons_option, ends_with, filter, filter_map, find,
 pub use Rattle.std.specs.Option.{option_or}
 pub use Rattle.std.specs.Str.{bytes_eq}
 unfoldable pub use Rattle.std.specs.Str.{chars}
-pub use Rattle.kt_base.specs.Digits.{decimal_from, is_digit, up_to}
-pub use Rattle.kt_base.specs.Lines.{is_newline, lines, onto}
+pub use Rattle.kt_base.specs.Digits.{decimal_from, is_digit, number_up_to}
+pub use Rattle.kt_base.specs.Lines.{is_newline, lines, with_prepended_byte}
 pub use Rattle.kt_base.specs.Lossy.{lossy}
 pub use Rattle.kt_claim.specs.Bytes.{is_blank, is_keyword_byte, newline, number}
-pub use Rattle.kt_claim.specs.ClaimReading.{ClaimReading, Holds}
-pub use Rattle.kt_claim.specs.Inner.LineStates.{Facts, KeepsFor, IsStateAfter, LineState, IsStateMidLine, after_opening, bailing, facts_of, facts_of_kind, facts_with, with_held_return, is_decided, is_reason, nothing, opened, planning, test_facts}
-pub use Rattle.kt_claim.specs.Inner.ResultReading.{after_bracket, claim_of_keyword, claim_after, claim_with, closed, may_have_number, numbered, plainly, reason_in, value_of, with_number_in, with_reason_in}
-unfoldable pub use Rattle.kt_claim.specs.Inner.ResultReading.{claim_of, claim_of_line, number_in, word_of}
+pub use Rattle.kt_claim.specs.ClaimReaderState.{ClaimReaderState, KeepsBytes}
+pub use Rattle.kt_claim.specs.Inner.LineStates.{Facts, KeepsIfReason, IsStateAfter, LineState, IsStateMidLine, after_opening, bail_out_facts, facts_of, facts_of_kind, facts_with, with_held_cr, is_kind_known, is_reason, no_facts, opened, plan_facts, test_facts}
+pub use Rattle.kt_claim.specs.Inner.ResultReading.{claim_after_bracket, claim_of_keyword, claim_after, claim_with_reason, number_before_bracket, may_have_number, claim_with_number, claim_without_bracket, reason_in, byte_value, claim_from_number, claim_from_reason}
+unfoldable pub use Rattle.kt_claim.specs.Inner.ResultReading.{claim_of, claim_of_line, number_in, keyword_of}
 pub use Rattle.kt_claim.specs.Inner.TapReading.{HasLines, IsTally, first, has_second, one, state_of, with_plan}
-pub use Rattle.kt_claim.specs.ResultFile.{IsClaimOf, IsNumber, IsReason, Says, after_digits, after_number, after_word, closes, digits, fault_of, line_has_fault, has_bracket, has_number, has_reason, is, limit, line, with_number, with_reason}
-pub use Rattle.kt_claim.specs.TapStream.{begins, below_limit, count, directive_in, is_plan_end, front, heard, is_bail, is_test, is_unexcused, lines_of, past, plan, plan_for, planned_from, skip_reason, skips, tap_of_lines, trimmed, why, without_return}
+pub use Rattle.kt_claim.specs.ResultFile.{IsClaimOf, IsNumber, IsReason, SpellsClaim, after_digits, after_number, after_word, has_closing_bracket, digits, fault_of, line_has_fault, has_bracket, has_number, has_reason, is, limit, line, number_suffix, reason_suffix}
+pub use Rattle.kt_claim.specs.TapStream.{begins, below_limit, count, directive_in, is_plan_end, front, lines_before_bail_out, is_bail_out, is_test, is_unexcused, lines_of, without_leading, plan, plan_for, planned_from, skip_reason, reason_of_skip, tap_of_lines, without_trailing_blanks, plan_reason, without_cr}
 pub use Rattle.kt_claim.specs.declared.begun.LineProgress.{LineProgress}
 pub use Rattle.kt_claim.specs.declared.begun.LineProgress.TheVariants.{Digits, Nothing}
 pub use Rattle.kt_claim.specs.declared.begun.LineKind.{LineKind}

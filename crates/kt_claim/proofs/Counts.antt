@@ -1,6 +1,6 @@
 -- The lines before the first bail out, and their counts.
 use Rattle.std.proofs.Common.{◌≡◌, ℕ, ◌+◌, ◌≤◌, Bool, true, false, cond, List, [], ◌∷◌, ◌++◌, length, Option, Some, None, Result, Ok, Err, refl, ap, sym, ◌∙◌, arith, ◌&&◌, ◌||◌, is_some, IfOk, codes}
-use Rattle.kt_claim.proofs.Common.{list_any, filter, filter_map, cons_option, chars, false≢true, option_or, is_bail, plan, count, heard, skip_reason, one, first, has_second}
+use Rattle.kt_claim.proofs.Common.{list_any, filter, filter_map, cons_option, chars, false≢true, option_or, is_bail_out, plan, count, lines_before_bail_out, skip_reason, one, first, has_second}
 use Rattle.std.proofs.Math.Bool.{or-false, or_assoc}
 use Rattle.std.proofs.lemmas.Bool.{or_parts}
 
@@ -19,29 +19,29 @@ pub any-snoc : (p : List ℕ → Bool) (xs : List (List ℕ)) (x : List ℕ) →
 any-snoc p [] x = or-false (p x)
 any-snoc p (y ∷ xs) x = ap (λ (b : Bool). p y || b) (any-snoc p xs x) ∙ sym (or_assoc (p y) (list_any p xs) (p x))
 
-pub stops_at : (t : Bool) (y x : List ℕ) (ys : List (List ℕ)) → is_bail y ≡ t → (list_any is_bail ys ≡ true → heard (ys ++ x ∷ []) ≡ heard ys)
-    → (t || list_any is_bail ys) ≡ true → heard ((y ∷ ys) ++ x ∷ []) ≡ heard (y ∷ ys)
+pub stops_at : (t : Bool) (y x : List ℕ) (ys : List (List ℕ)) → is_bail_out y ≡ t → (list_any is_bail_out ys ≡ true → lines_before_bail_out (ys ++ x ∷ []) ≡ lines_before_bail_out ys)
+    → (t || list_any is_bail_out ys) ≡ true → lines_before_bail_out ((y ∷ ys) ++ x ∷ []) ≡ lines_before_bail_out (y ∷ ys)
 stops_at true y x ys is so_far h = rw is refl
 stops_at false y x ys is so_far h = rw is (ap (λ (zs : List (List ℕ)). y ∷ zs) (so_far h))
 
 -- A line after a bail out doesn't count.
-pub heard_none : (ys : List (List ℕ)) (x : List ℕ) → list_any is_bail ys ≡ true → heard (ys ++ x ∷ []) ≡ heard ys
+pub heard_none : (ys : List (List ℕ)) (x : List ℕ) → list_any is_bail_out ys ≡ true → lines_before_bail_out (ys ++ x ∷ []) ≡ lines_before_bail_out ys
 heard_none [] x h = absurd (false≢true h)
-heard_none (y ∷ ys) x h = stops_at (is_bail y) y x ys refl (heard_none ys x) h
+heard_none (y ∷ ys) x h = stops_at (is_bail_out y) y x ys refl (heard_none ys x) h
 
-pub heard_bail : (ys : List (List ℕ)) (x : List ℕ) → list_any is_bail ys ≡ false → is_bail x ≡ true → heard (ys ++ x ∷ []) ≡ heard ys
+pub heard_bail : (ys : List (List ℕ)) (x : List ℕ) → list_any is_bail_out ys ≡ false → is_bail_out x ≡ true → lines_before_bail_out (ys ++ x ∷ []) ≡ lines_before_bail_out ys
 heard_bail [] x none is = rw is refl
 heard_bail (y ∷ ys) x none is =
-    rw (or_parts (is_bail y) (list_any is_bail ys) none).0 (ap (λ (zs : List (List ℕ)). y ∷ zs) (heard_bail ys x (or_parts (is_bail y) (list_any is_bail ys) none).1 is))
+    rw (or_parts (is_bail_out y) (list_any is_bail_out ys) none).0 (ap (λ (zs : List (List ℕ)). y ∷ zs) (heard_bail ys x (or_parts (is_bail_out y) (list_any is_bail_out ys) none).1 is))
 
-pub heard_more : (ys : List (List ℕ)) (x : List ℕ) → list_any is_bail ys ≡ false → is_bail x ≡ false → heard (ys ++ x ∷ []) ≡ heard ys ++ x ∷ []
+pub heard_more : (ys : List (List ℕ)) (x : List ℕ) → list_any is_bail_out ys ≡ false → is_bail_out x ≡ false → lines_before_bail_out (ys ++ x ∷ []) ≡ lines_before_bail_out ys ++ x ∷ []
 heard_more [] x none isnt = rw isnt refl
 heard_more (y ∷ ys) x none isnt =
-    rw (or_parts (is_bail y) (list_any is_bail ys) none).0 (ap (λ (zs : List (List ℕ)). y ∷ zs) (heard_more ys x (or_parts (is_bail y) (list_any is_bail ys) none).1 isnt))
+    rw (or_parts (is_bail_out y) (list_any is_bail_out ys) none).0 (ap (λ (zs : List (List ℕ)). y ∷ zs) (heard_more ys x (or_parts (is_bail_out y) (list_any is_bail_out ys) none).1 isnt))
 
-pub heard-le : (ys : List (List ℕ)) → length (heard ys) ≤ length ys
-heard-le [] = omega arith
-heard-le (y ∷ ys) = omega (arith, heard-le ys, cut (is_bail y) y (heard ys)) where
+pub lines_before_bail_out-le : (ys : List (List ℕ)) → length (lines_before_bail_out ys) ≤ length ys
+lines_before_bail_out-le [] = omega arith
+lines_before_bail_out-le (y ∷ ys) = omega (arith, lines_before_bail_out-le ys, cut (is_bail_out y) y (lines_before_bail_out ys)) where
   cut : (t : Bool) (y : List ℕ) (zs : List (List ℕ)) → length (cond t [] (y ∷ zs)) ≤ 1 + length zs
   cut true y zs = omega arith
   cut false y zs = omega arith

@@ -1,6 +1,6 @@
 -- The keyword that a line begins with.
 use Rattle.std.proofs.Common.{◌≡◌, ℕ, Bool, true, false, List, refl, sym, subst, codes}
-use Rattle.kt_claim.proofs.Common.{bytes_eq, list_any, bytes_eq-Decides, is_newline, word_of, claim_of_keyword}
+use Rattle.kt_claim.proofs.Common.{bytes_eq, list_any, bytes_eq-Decides, is_newline, keyword_of, claim_of_keyword}
 use Rattle.kt_claim.specs.ResultFile as says
 use Rattle.kt_claim.specs.declared.result_line.Word.TheVariants as word
 use Rattle.kt_claim.proofs.Words.{Agrees, plain_word, passed_word, number_word}
@@ -14,44 +14,44 @@ by_word false w x P e here next = next e
 -- `Read rest w`: `claim_of_keyword` gives the claim of a line of the keyword `w` and `rest`, or its
 -- error.
 abbrev pub Read : List ℕ → List ℕ → Type 0
-Read rest w = Agrees w rest (claim_of_keyword (word_of w) rest)
+Read rest w = Agrees w rest (claim_of_keyword (keyword_of w) rest)
 
 pub unknown : (w rest : List ℕ) → bytes_eq w (codes "passed") ≡ false → bytes_eq w (codes "failed") ≡ false → bytes_eq w (codes "skipped") ≡ false
     → bytes_eq w (codes "expected_death") ≡ false → bytes_eq w (codes "expected_failure") ≡ false → bytes_eq w (codes "expected_timeout") ≡ false
     → bytes_eq w (codes "expected_exit") ≡ false → bytes_eq w (codes "expected_signal") ≡ false → Read rest w
-unfolding word_of
+unfolding keyword_of
 unknown w rest e1 e2 e3 e4 e5 e6 e7 e8 = rw (e1, e2, e3, e4, e5, e6, e7, e8) refl
 
 pub read_passed : (rest : List ℕ) → Read rest (codes "passed")
-unfolding word_of
+unfolding keyword_of
 read_passed rest = passed_word rest
 
 pub read_failed : (rest : List ℕ) → list_any is_newline rest ≡ false → Read rest (codes "failed")
-unfolding word_of
+unfolding keyword_of
 read_failed rest none = plain_word (codes "failed") rest word.Failed refl (λ r. refl) says.failed none
 
 pub read_skipped : (rest : List ℕ) → list_any is_newline rest ≡ false → Read rest (codes "skipped")
-unfolding word_of
+unfolding keyword_of
 read_skipped rest none = plain_word (codes "skipped") rest word.Skipped refl (λ r. refl) says.skipped none
 
 pub read_death : (rest : List ℕ) → list_any is_newline rest ≡ false → Read rest (codes "expected_death")
-unfolding word_of
+unfolding keyword_of
 read_death rest none = plain_word (codes "expected_death") rest word.ExpectedDeath refl (λ r. refl) says.expected_death none
 
 pub read_failure : (rest : List ℕ) → list_any is_newline rest ≡ false → Read rest (codes "expected_failure")
-unfolding word_of
+unfolding keyword_of
 read_failure rest none = plain_word (codes "expected_failure") rest word.ExpectedFailure refl (λ r. refl) says.expected_failure none
 
 pub read_timeout : (rest : List ℕ) → list_any is_newline rest ≡ false → Read rest (codes "expected_timeout")
-unfolding word_of
+unfolding keyword_of
 read_timeout rest none = plain_word (codes "expected_timeout") rest word.ExpectedTimeout refl (λ r. refl) says.expected_timeout none
 
 pub read_exit : (rest : List ℕ) → list_any is_newline rest ≡ false → Read rest (codes "expected_exit")
-unfolding word_of
+unfolding keyword_of
 read_exit rest none = number_word (codes "expected_exit") rest word.ExpectedExit refl (λ r. refl) says.expected_exit says.expected_exit_of none
 
 pub read_signal : (rest : List ℕ) → list_any is_newline rest ≡ false → Read rest (codes "expected_signal")
-unfolding word_of
+unfolding keyword_of
 read_signal rest none = number_word (codes "expected_signal") rest word.ExpectedSignal refl (λ r. refl) says.expected_signal says.expected_signal_of none
 
 pub read_word : (w rest : List ℕ) → list_any is_newline rest ≡ false → Read rest w

@@ -1,6 +1,6 @@
 -- The errors of a result file in their order, and its reason.
 use Rattle.std.proofs.Common.{◌≡◌, ℕ, ◌<◌, Bool, true, false, not, cond, List, [], ◌∷◌, ◌++◌, length, drop, Option, Some, None, refl, ap, sym, subst, ◌∙◌, arith, ◌&&◌, nat_eq, nat_lt, MatchOption}
-use Rattle.kt_claim.proofs.Common.{list_any, false≢true, eqb-true, ltb-true, lossy, is_newline, newline, IsReason, with_reason, Says, has_reason, reason_in, with_reason_in, Claim, ClaimFault, NoReason}
+use Rattle.kt_claim.proofs.Common.{list_any, false≢true, eqb-true, ltb-true, lossy, is_newline, newline, IsReason, reason_suffix, SpellsClaim, has_reason, reason_in, claim_from_reason, Claim, ClaimFault, NoReason}
 use Rattle.kt_claim.specs.declared.evidence.Claim.TheVariants as claim
 use Rattle.std.proofs.lemmas.Bool.{and_parts}
 
@@ -38,20 +38,20 @@ no_newline_after rest r parts none = sym (ap (list_any is_newline) parts) ∙ no
 -- `Wanted w make`: the keyword `w` with any reason spells the claim that `make` makes of the
 -- reason.
 abbrev pub Wanted : List ℕ → (List ℕ → Claim) → Type 0
-Wanted w make = (r : List ℕ) → IsReason r → Says (w ++ with_reason r) (make (lossy r))
+Wanted w make = (r : List ℕ) → IsReason r → SpellsClaim (w ++ reason_suffix r) (make (lossy r))
 
 pub reasoned_at : (t : Bool) (w rest : List ℕ) (make : List ℕ → Claim) → has_reason rest ≡ t → Wanted w make → list_any is_newline rest ≡ false
-    → MatchOption (cond (not t) (Some NoReason) None) (Says (w ++ (rest ++ newline)) (with_reason_in make (reason_in rest))) (λ g. with_reason_in make (reason_in rest) ≡ claim.Malformed g)
+    → MatchOption (cond (not t) (Some NoReason) None) (SpellsClaim (w ++ (rest ++ newline)) (claim_from_reason make (reason_in rest))) (λ g. claim_from_reason make (reason_in rest) ≡ claim.Malformed g)
 reasoned_at true w rest make e wants none =
     let p = reason_parts rest e in
     let found : reason_in rest ≡ Some p.0 = rw e (ap (λ (xs : List ℕ). Some (drop 2 xs)) p.1) in
-    let said : Says (w ++ ((58 ∷ 32 ∷ p.0) ++ newline)) (make (lossy p.0)) = wants p.0 (p.2, no_newline_after rest p.0 p.1 none) in
-    subst (λ (o : Option (List ℕ)). Says (w ++ (rest ++ newline)) (with_reason_in make o)) (sym found)
-    (subst (λ (xs : List ℕ). Says (w ++ (xs ++ newline)) (make (lossy p.0))) (sym p.1) said)
-reasoned_at false w rest make e wants none = ap (with_reason_in make) found where
+    let said : SpellsClaim (w ++ ((58 ∷ 32 ∷ p.0) ++ newline)) (make (lossy p.0)) = wants p.0 (p.2, no_newline_after rest p.0 p.1 none) in
+    subst (λ (o : Option (List ℕ)). SpellsClaim (w ++ (rest ++ newline)) (claim_from_reason make o)) (sym found)
+    (subst (λ (xs : List ℕ). SpellsClaim (w ++ (xs ++ newline)) (make (lossy p.0))) (sym p.1) said)
+reasoned_at false w rest make e wants none = ap (claim_from_reason make) found where
   found : reason_in rest ≡ None
   found = rw e refl
 
 pub reasoned : (w rest : List ℕ) (make : List ℕ → Claim) → Wanted w make → list_any is_newline rest ≡ false
-    → MatchOption (cond (not (has_reason rest)) (Some NoReason) None) (Says (w ++ (rest ++ newline)) (with_reason_in make (reason_in rest))) (λ g. with_reason_in make (reason_in rest) ≡ claim.Malformed g)
+    → MatchOption (cond (not (has_reason rest)) (Some NoReason) None) (SpellsClaim (w ++ (rest ++ newline)) (claim_from_reason make (reason_in rest))) (λ g. claim_from_reason make (reason_in rest) ≡ claim.Malformed g)
 reasoned w rest make wants none = reasoned_at (has_reason rest) w rest make refl wants none

@@ -1,15 +1,15 @@
 -- A tally with one more line.
 use Rattle.std.proofs.Common.{◌≡◌, ℕ, ◌+◌, ◌<◌, ◌^◌, Bool, true, false, List, [], ◌∷◌, ◌++◌, length, Option, Some, None, Result, Ok, Err, refl, ap, sym, subst, ◌∙◌, arith, ◌&&◌, ◌||◌, is_some, IfOk}
-use Rattle.kt_claim.proofs.Common.{list_any, filter_map, append-nil, Facts, facts_of, nothing, bailing, test_facts, planning, option_or, is_bail, is_test, is_unexcused, plan, count, heard, tap_of_lines, IsTally, one, first, has_second, with_plan, Tally}
-use Rattle.kt_claim.proofs.Counts.{any-snoc, heard_none, heard_bail, heard_more, heard-le, count-snoc, count-le, plans-snoc, first-snoc, second-snoc}
+use Rattle.kt_claim.proofs.Common.{list_any, filter_map, append-nil, Facts, facts_of, no_facts, bail_out_facts, test_facts, plan_facts, option_or, is_bail_out, is_test, is_unexcused, plan, count, lines_before_bail_out, tap_of_lines, IsTally, one, first, has_second, with_plan, Tally}
+use Rattle.kt_claim.proofs.Counts.{any-snoc, heard_none, heard_bail, heard_more, lines_before_bail_out-le, count-snoc, count-le, plans-snoc, first-snoc, second-snoc}
 use Rattle.std.proofs.Math.Bool.{or-false}
 
 -- ---- a tally and a line
 
 -- A line that doesn't count leaves the tally as it is.
-pub same_heard : (t : Tally) (ls ms : List (List ℕ)) → heard ms ≡ heard ls → t.bailed ≡ list_any is_bail ms
-    → t.plan ≡ first (filter_map plan (heard ls)) → t.second ≡ has_second (filter_map plan (heard ls))
-    → t.tests ≡ count is_test (heard ls) → t.failures ≡ count is_unexcused (heard ls) → IsTally t ms
+pub same_heard : (t : Tally) (ls ms : List (List ℕ)) → lines_before_bail_out ms ≡ lines_before_bail_out ls → t.bailed ≡ list_any is_bail_out ms
+    → t.plan ≡ first (filter_map plan (lines_before_bail_out ls)) → t.second ≡ has_second (filter_map plan (lines_before_bail_out ls))
+    → t.tests ≡ count is_test (lines_before_bail_out ls) → t.failures ≡ count is_unexcused (lines_before_bail_out ls) → IsTally t ms
 same_heard t ls ms same bailed planned second tests failures = record {
   bailed = bailed;
   planned = planned ∙ ap (λ (zs : List (List ℕ)). first (filter_map plan zs)) (sym same);
@@ -20,35 +20,35 @@ same_heard t ls ms same bailed planned second tests failures = record {
 
 pub after_bail : (t : Tally) (line : List ℕ) (lines : List (List ℕ)) → t.bailed ≡ true → IsTally t lines → IsTally t (lines ++ line ∷ [])
 after_bail t line lines bailed h =
-    let any : list_any is_bail lines ≡ true = sym h.bailed ∙ bailed in
-    same_heard t lines (lines ++ line ∷ []) (heard_none lines line any) (bailed ∙ ap (λ (b : Bool). b || is_bail line) (sym any) ∙ sym (any-snoc is_bail lines line))
+    let any : list_any is_bail_out lines ≡ true = sym h.bailed ∙ bailed in
+    same_heard t lines (lines ++ line ∷ []) (heard_none lines line any) (bailed ∙ ap (λ (b : Bool). b || is_bail_out line) (sym any) ∙ sym (any-snoc is_bail_out lines line))
     h.planned h.second h.tests h.failures
 
 -- A line before the first bail out is added to the tally.
-pub more_heard : (old new : Tally) (line : List ℕ) (lines : List (List ℕ)) → old.bailed ≡ false → is_bail line ≡ false → new.bailed ≡ false
+pub more_heard : (old new : Tally) (line : List ℕ) (lines : List (List ℕ)) → old.bailed ≡ false → is_bail_out line ≡ false → new.bailed ≡ false
     → new.plan ≡ option_or old.plan (plan line) → new.second ≡ (old.second || (is_some old.plan && is_some (plan line)))
     → new.tests ≡ old.tests + one (is_test line) → new.failures ≡ old.failures + one (is_unexcused line)
     → IsTally old lines → IsTally new (lines ++ line ∷ [])
 more_heard old new line lines was isnt goes plans seconds tests failures h =
-    let none : list_any is_bail lines ≡ false = sym h.bailed ∙ was in
-    let more : heard (lines ++ line ∷ []) ≡ heard lines ++ line ∷ [] = heard_more lines line none isnt in
+    let none : list_any is_bail_out lines ≡ false = sym h.bailed ∙ was in
+    let more : lines_before_bail_out (lines ++ line ∷ []) ≡ lines_before_bail_out lines ++ line ∷ [] = heard_more lines line none isnt in
     record {
-      bailed = goes ∙ sym (any-snoc is_bail lines line ∙ ap (λ (b : Bool). b || is_bail line) none ∙ isnt);
-      planned = plans ∙ ap (λ (o : Option (ℕ × List ℕ)). option_or o (plan line)) h.planned ∙ sym (first-snoc (filter_map plan (heard lines)) (plan line))
-          ∙ sym (ap first (plans-snoc (heard lines) line)) ∙ ap (λ (zs : List (List ℕ)). first (filter_map plan zs)) (sym more);
+      bailed = goes ∙ sym (any-snoc is_bail_out lines line ∙ ap (λ (b : Bool). b || is_bail_out line) none ∙ isnt);
+      planned = plans ∙ ap (λ (o : Option (ℕ × List ℕ)). option_or o (plan line)) h.planned ∙ sym (first-snoc (filter_map plan (lines_before_bail_out lines)) (plan line))
+          ∙ sym (ap first (plans-snoc (lines_before_bail_out lines) line)) ∙ ap (λ (zs : List (List ℕ)). first (filter_map plan zs)) (sym more);
       second = seconds ∙ ap (λ (b : Bool). b || (is_some old.plan && is_some (plan line))) h.second
-          ∙ ap (λ (o : Option (ℕ × List ℕ)). has_second (filter_map plan (heard lines)) || (is_some o && is_some (plan line))) h.planned
-          ∙ sym (second-snoc (filter_map plan (heard lines)) (plan line)) ∙ sym (ap has_second (plans-snoc (heard lines) line))
+          ∙ ap (λ (o : Option (ℕ × List ℕ)). has_second (filter_map plan (lines_before_bail_out lines)) || (is_some o && is_some (plan line))) h.planned
+          ∙ sym (second-snoc (filter_map plan (lines_before_bail_out lines)) (plan line)) ∙ sym (ap has_second (plans-snoc (lines_before_bail_out lines) line))
           ∙ ap (λ (zs : List (List ℕ)). has_second (filter_map plan zs)) (sym more);
-      tests = tests ∙ ap (λ (n : ℕ). n + one (is_test line)) h.tests ∙ sym (count-snoc is_test (heard lines) line) ∙ ap (count is_test) (sym more);
-      failures = failures ∙ ap (λ (n : ℕ). n + one (is_unexcused line)) h.failures ∙ sym (count-snoc is_unexcused (heard lines) line) ∙ ap (count is_unexcused) (sym more);
+      tests = tests ∙ ap (λ (n : ℕ). n + one (is_test line)) h.tests ∙ sym (count-snoc is_test (lines_before_bail_out lines) line) ∙ ap (count is_test) (sym more);
+      failures = failures ∙ ap (λ (n : ℕ). n + one (is_unexcused line)) h.failures ∙ sym (count-snoc is_unexcused (lines_before_bail_out lines) line) ∙ ap (count is_unexcused) (sym more);
     }
 
 pub few_tests : (t : Tally) (lines : List (List ℕ)) → length lines < 2 ^ 32 → IsTally t lines → t.tests < 2 ^ 32
-few_tests t lines few h = omega (arith, h.tests, count-le is_test (heard lines), heard-le lines, few)
+few_tests t lines few h = omega (arith, h.tests, count-le is_test (lines_before_bail_out lines), lines_before_bail_out-le lines, few)
 
 pub few_failures : (t : Tally) (lines : List (List ℕ)) → length lines < 2 ^ 32 → IsTally t lines → t.failures < 2 ^ 32
-few_failures t lines few h = omega (arith, h.failures, count-le is_unexcused (heard lines), heard-le lines, few)
+few_failures t lines few h = omega (arith, h.failures, count-le is_unexcused (lines_before_bail_out lines), lines_before_bail_out-le lines, few)
 
 pub option_or_none : (o : Option (ℕ × List ℕ)) → o ≡ option_or o None
 option_or_none None = refl
@@ -71,16 +71,16 @@ no_plan old new line lines tests fails is was goes plans seconds more worse h =
     (more ∙ ap (λ (b : Bool). old.tests + one b) (sym (ap (λ (f : Facts). f.tests) is)))
     (worse ∙ ap (λ (b : Bool). old.failures + one b) (sym (ap (λ (f : Facts). f.fails) is))) h
 
-pub with_other : (t : Tally) (line : List ℕ) (lines : List (List ℕ)) → facts_of line ≡ nothing → t.bailed ≡ false → IsTally t lines → IsTally t (lines ++ line ∷ [])
+pub with_other : (t : Tally) (line : List ℕ) (lines : List (List ℕ)) → facts_of line ≡ no_facts → t.bailed ≡ false → IsTally t lines → IsTally t (lines ++ line ∷ [])
 with_other t line lines is was h = no_plan t t line lines false false is was was refl refl (omega arith) (omega arith) h
 
-pub with_bail : (t new : Tally) (line : List ℕ) (lines : List (List ℕ)) → facts_of line ≡ bailing → t.bailed ≡ false → new ≡ record t { bailed = true }
+pub with_bail_out : (t new : Tally) (line : List ℕ) (lines : List (List ℕ)) → facts_of line ≡ bail_out_facts → t.bailed ≡ false → new ≡ record t { bailed = true }
     → IsTally t lines → IsTally new (lines ++ line ∷ [])
-with_bail t new line lines is was made h =
-    let none : list_any is_bail lines ≡ false = sym h.bailed ∙ was in
-    let bails : is_bail line ≡ true = ap (λ (f : Facts). f.bails) is in
+with_bail_out t new line lines is was made h =
+    let none : list_any is_bail_out lines ≡ false = sym h.bailed ∙ was in
+    let bails : is_bail_out line ≡ true = ap (λ (f : Facts). f.bails) is in
     rw made (same_heard (record t { bailed = true }) lines (lines ++ line ∷ []) (heard_bail lines line none bails)
-    (sym (any-snoc is_bail lines line ∙ ap (λ (b : Bool). b || is_bail line) none ∙ bails)) h.planned h.second h.tests h.failures)
+    (sym (any-snoc is_bail_out lines line ∙ ap (λ (b : Bool). b || is_bail_out line) none ∙ bails)) h.planned h.second h.tests h.failures)
 
 pub with_test : (t new : Tally) (line : List ℕ) (lines : List (List ℕ)) → facts_of line ≡ test_facts true false → t.bailed ≡ false
     → (t.tests < 2 ^ 32 → new ≡ record t { tests = t.tests + 1 }) → length lines < 2 ^ 32 → IsTally t lines → IsTally new (lines ++ line ∷ [])
@@ -109,7 +109,7 @@ first_plan t n reason e = rw e refl
 pub second_plan : (t : Tally) (n : ℕ) (reason : List ℕ) → is_some t.plan ≡ true → record t { second = true } ≡ with_plan t n reason
 second_plan t n reason e = rw e refl
 
-pub planned_at : (t : Tally) (o : Option (ℕ × List ℕ)) (line : List ℕ) (lines : List (List ℕ)) (n : ℕ) (reason : List ℕ) → t.plan ≡ o → facts_of line ≡ planning (Some (n, reason)) → t.bailed ≡ false
+pub planned_at : (t : Tally) (o : Option (ℕ × List ℕ)) (line : List ℕ) (lines : List (List ℕ)) (n : ℕ) (reason : List ℕ) → t.plan ≡ o → facts_of line ≡ plan_facts (Some (n, reason)) → t.bailed ≡ false
     → IsTally t lines → IsTally (with_plan t n reason) (lines ++ line ∷ [])
 planned_at t None line lines n reason has is was h =
     let this : plan line ≡ Some (n, reason) = ap (λ (f : Facts). f.plans) is in
@@ -128,7 +128,7 @@ planned_at t (Some p) line lines n reason has is was h =
     (omega (arith, ap one (ap (λ (f : Facts). f.tests) is)))
     (omega (arith, ap one (ap (λ (f : Facts). f.fails) is))) h)
 
-pub with_one_plan : (t new : Tally) (line : List ℕ) (lines : List (List ℕ)) (n : ℕ) (reason : List ℕ) → facts_of line ≡ planning (Some (n, reason)) → t.bailed ≡ false
+pub with_one_plan : (t new : Tally) (line : List ℕ) (lines : List (List ℕ)) (n : ℕ) (reason : List ℕ) → facts_of line ≡ plan_facts (Some (n, reason)) → t.bailed ≡ false
     → new ≡ with_plan t n reason → IsTally t lines → IsTally new (lines ++ line ∷ [])
 with_one_plan t new line lines n reason is was made h = subst (λ (m : Tally). IsTally m (lines ++ line ∷ [])) (sym made) (planned_at t t.plan line lines n reason refl is was h)
 
@@ -138,14 +138,14 @@ if_ok (Err e) P Q f h = tt
 
 -- ---- an empty line at the end
 
-pub quiet_at : (t : Bool) (lines : List (List ℕ)) → list_any is_bail lines ≡ t → tap_of_lines (lines ++ [] ∷ []) ≡ tap_of_lines lines
-quiet_at true lines is = rw (any-snoc is_bail lines [], is) refl
+pub quiet_at : (t : Bool) (lines : List (List ℕ)) → list_any is_bail_out lines ≡ t → tap_of_lines (lines ++ [] ∷ []) ≡ tap_of_lines lines
+quiet_at true lines is = rw (any-snoc is_bail_out lines [], is) refl
 quiet_at false lines is =
-    let more : heard (lines ++ [] ∷ []) ≡ heard lines ++ [] ∷ [] = heard_more lines [] is refl in
-    let plans : filter_map plan (heard (lines ++ [] ∷ [])) ≡ filter_map plan (heard lines) = ap (filter_map plan) more ∙ plans-snoc (heard lines) [] ∙ append-nil (filter_map plan (heard lines)) in
-    let tests : count is_test (heard (lines ++ [] ∷ [])) ≡ count is_test (heard lines) = ap (count is_test) more ∙ count-snoc is_test (heard lines) [] ∙ (omega arith) in
-    let fails : count is_unexcused (heard (lines ++ [] ∷ [])) ≡ count is_unexcused (heard lines) = ap (count is_unexcused) more ∙ count-snoc is_unexcused (heard lines) [] ∙ (omega arith) in
-    rw (any-snoc is_bail lines [], is, plans, tests, fails) refl
+    let more : lines_before_bail_out (lines ++ [] ∷ []) ≡ lines_before_bail_out lines ++ [] ∷ [] = heard_more lines [] is refl in
+    let plans : filter_map plan (lines_before_bail_out (lines ++ [] ∷ [])) ≡ filter_map plan (lines_before_bail_out lines) = ap (filter_map plan) more ∙ plans-snoc (lines_before_bail_out lines) [] ∙ append-nil (filter_map plan (lines_before_bail_out lines)) in
+    let tests : count is_test (lines_before_bail_out (lines ++ [] ∷ [])) ≡ count is_test (lines_before_bail_out lines) = ap (count is_test) more ∙ count-snoc is_test (lines_before_bail_out lines) [] ∙ (omega arith) in
+    let fails : count is_unexcused (lines_before_bail_out (lines ++ [] ∷ [])) ≡ count is_unexcused (lines_before_bail_out lines) = ap (count is_unexcused) more ∙ count-snoc is_unexcused (lines_before_bail_out lines) [] ∙ (omega arith) in
+    rw (any-snoc is_bail_out lines [], is, plans, tests, fails) refl
 
 pub quiet : (lines : List (List ℕ)) → tap_of_lines (lines ++ [] ∷ []) ≡ tap_of_lines lines
-quiet lines = quiet_at (list_any is_bail lines) lines refl
+quiet lines = quiet_at (list_any is_bail_out lines) lines refl

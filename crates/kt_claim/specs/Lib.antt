@@ -1,7 +1,7 @@
 pub mod Common
 pub mod Bytes
-pub mod ClaimReading
+pub mod ClaimReaderState
 pub mod Inner
 pub mod ResultFile
-pub mod StreamReading
+pub mod TapReaderState
 pub mod TapStream

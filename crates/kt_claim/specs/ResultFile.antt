@@ -20,33 +20,33 @@ limit = 65536
 abbrev pub IsReason : List ℕ → Type 0
 IsReason reason = (0 < length reason) × (list_any is_newline reason ≡ false)
 
--- `IsNumber digits`: `digits` are the decimal number of an exit status or of a signal, less than
--- 256.
+-- `IsNumber digits`: `digits` are one decimal digit or more, and their number is less than 256. It
+-- is an exit status or a signal.
 abbrev pub IsNumber : List ℕ → Type 0
 IsNumber digits = (0 < length digits) × (list_all is_digit digits ≡ true) × (number digits < 256)
 
--- `with_reason reason`: the bytes after a keyword without a number: a colon, a space, `reason` and
+-- `reason_suffix reason`: the bytes after a keyword without a number: a colon, a space, `reason` and
 -- a newline.
-abbrev pub with_reason : List ℕ → List ℕ
-with_reason reason = codes ": " ++ reason ++ newline
+abbrev pub reason_suffix : List ℕ → List ℕ
+reason_suffix reason = codes ": " ++ reason ++ newline
 
--- `with_number digits reason`: the bytes after a keyword with a number: `digits` in round brackets,
--- and then `with_reason reason`.
-abbrev pub with_number : List ℕ → List ℕ → List ℕ
-with_number digits reason = codes "(" ++ digits ++ codes ")" ++ with_reason reason
+-- `number_suffix digits reason`: the bytes after a keyword with a number: `digits` in round brackets,
+-- and then `reason_suffix reason`.
+abbrev pub number_suffix : List ℕ → List ℕ → List ℕ
+number_suffix digits reason = codes "(" ++ digits ++ codes ")" ++ reason_suffix reason
 
--- `Says file claim`: `file` is one line, with its newline, that spells `claim`.
-pub data Says : List ℕ → Claim → Type 0 where
-  passed : Says (codes "passed" ++ newline) Passed
-  failed : (r : List ℕ) → IsReason r → Says (codes "failed" ++ with_reason r) (Failed (lossy r))
-  skipped : (r : List ℕ) → IsReason r → Says (codes "skipped" ++ with_reason r) (Skipped (lossy r))
-  expected_death : (r : List ℕ) → IsReason r → Says (codes "expected_death" ++ with_reason r) (ExpectedDeath (lossy r))
-  expected_failure : (r : List ℕ) → IsReason r → Says (codes "expected_failure" ++ with_reason r) (ExpectedFailure (lossy r))
-  expected_timeout : (r : List ℕ) → IsReason r → Says (codes "expected_timeout" ++ with_reason r) (ExpectedTimeout (lossy r))
-  expected_exit : (r : List ℕ) → IsReason r → Says (codes "expected_exit" ++ with_reason r) (ExpectedExit None (lossy r))
-  expected_signal : (r : List ℕ) → IsReason r → Says (codes "expected_signal" ++ with_reason r) (ExpectedSignal None (lossy r))
-  expected_exit_of : (n r : List ℕ) → IsNumber n → IsReason r → Says (codes "expected_exit" ++ with_number n r) (ExpectedExit (Some (number n)) (lossy r))
-  expected_signal_of : (n r : List ℕ) → IsNumber n → IsReason r → Says (codes "expected_signal" ++ with_number n r) (ExpectedSignal (Some (number n)) (lossy r))
+-- `SpellsClaim file claim`: `file` is one line, with its newline, that spells `claim`.
+pub data SpellsClaim : List ℕ → Claim → Type 0 where
+  passed : SpellsClaim (codes "passed" ++ newline) Passed
+  failed : (r : List ℕ) → IsReason r → SpellsClaim (codes "failed" ++ reason_suffix r) (Failed (lossy r))
+  skipped : (r : List ℕ) → IsReason r → SpellsClaim (codes "skipped" ++ reason_suffix r) (Skipped (lossy r))
+  expected_death : (r : List ℕ) → IsReason r → SpellsClaim (codes "expected_death" ++ reason_suffix r) (ExpectedDeath (lossy r))
+  expected_failure : (r : List ℕ) → IsReason r → SpellsClaim (codes "expected_failure" ++ reason_suffix r) (ExpectedFailure (lossy r))
+  expected_timeout : (r : List ℕ) → IsReason r → SpellsClaim (codes "expected_timeout" ++ reason_suffix r) (ExpectedTimeout (lossy r))
+  expected_exit : (r : List ℕ) → IsReason r → SpellsClaim (codes "expected_exit" ++ reason_suffix r) (ExpectedExit None (lossy r))
+  expected_signal : (r : List ℕ) → IsReason r → SpellsClaim (codes "expected_signal" ++ reason_suffix r) (ExpectedSignal None (lossy r))
+  expected_exit_of : (n r : List ℕ) → IsNumber n → IsReason r → SpellsClaim (codes "expected_exit" ++ number_suffix n r) (ExpectedExit (Some (number n)) (lossy r))
+  expected_signal_of : (n r : List ℕ) → IsNumber n → IsReason r → SpellsClaim (codes "expected_signal" ++ number_suffix n r) (ExpectedSignal (Some (number n)) (lossy r))
 
 -- ---- files with an error
 
@@ -81,10 +81,10 @@ abbrev pub has_bracket : List ℕ → Bool
 has_bracket [] = false
 has_bracket (b ∷ rest) = b == 40
 
--- `closes rest`: `rest` begins with a closing round bracket.
-abbrev pub closes : List ℕ → Bool
-closes [] = false
-closes (b ∷ rest) = b == 41
+-- `has_closing_bracket rest`: `rest` begins with a closing round bracket.
+abbrev pub has_closing_bracket : List ℕ → Bool
+has_closing_bracket [] = false
+has_closing_bracket (b ∷ rest) = b == 41
 
 -- `digits rest`: the digits after the first byte of `rest`, which is a bracket.
 abbrev pub digits : List ℕ → List ℕ
@@ -97,7 +97,7 @@ after_digits rest = drop (prefix_len is_digit (drop 1 rest)) (drop 1 rest)
 -- `has_number rest`: a number less than 256 and a closing bracket follow the first byte of `rest`,
 -- which is an opening bracket.
 abbrev pub has_number : List ℕ → Bool
-has_number rest = nat_lt 0 (length (digits rest)) && nat_lt (number (digits rest)) 256 && closes (after_digits rest)
+has_number rest = nat_lt 0 (length (digits rest)) && nat_lt (number (digits rest)) 256 && has_closing_bracket (after_digits rest)
 
 -- `after_number rest`: `rest` without the number in round brackets that it begins with, if any.
 abbrev pub after_number : List ℕ → List ℕ
@@ -107,8 +107,9 @@ after_number rest = if has_bracket rest then drop 1 (after_digits rest) else res
 abbrev pub has_reason : List ℕ → Bool
 has_reason rest = starts_with nat_eq rest (codes ": ") && nat_lt 2 (length rest)
 
--- `line_has_fault w rest fault`: a line of the keyword `w` and the bytes `rest` has the error `fault`,
--- if it has no earlier error of `rows`.
+-- `line_has_fault w rest fault`: the error `fault` applies to a line of the keyword `w` and the
+-- bytes `rest` after it. The result has a meaning only if no earlier error of `fault_order`
+-- applies.
 abbrev pub line_has_fault : List ℕ → List ℕ → ClaimFault → Bool
 line_has_fault w rest UnknownWord = not (is_known w)
 line_has_fault w rest BadNumber = has_bracket rest && not (takes_number w && has_number rest)
@@ -116,7 +117,8 @@ line_has_fault w rest UnexpectedReason = is (codes "passed") w && nat_lt 0 (leng
 line_has_fault w rest NoReason = not (is (codes "passed") w) && not (has_reason (after_number rest))
 line_has_fault w rest _ = false
 
--- `fits file fault`: `file` has the error `fault`, if it has no earlier error of `rows`.
+-- `fits file fault`: the error `fault` applies to `file`. The result has a meaning only if no
+-- earlier error of `fault_order` applies.
 abbrev pub fits : List ℕ → ClaimFault → Bool
 fits file TooLong = nat_lt limit (length file)
 fits file Empty = length file == 0
@@ -124,18 +126,19 @@ fits file NoNewline = not (ends_with nat_eq file newline)
 fits file SeveralLines = list_any is_newline (line file)
 fits file fault = line_has_fault (word file) (after_word file) fault
 
--- `rows`: the errors of result files, in the order in which they are checked. A file has the first
--- error that fits it.
-abbrev pub rows : List ClaimFault
-rows = TooLong ∷ Empty ∷ NoNewline ∷ SeveralLines ∷ UnknownWord ∷ BadNumber ∷ UnexpectedReason ∷ NoReason ∷ []
+-- `fault_order`: the errors of result files, in the order in which they are checked. A file has the
+-- first error that applies to it.
+abbrev pub fault_order : List ClaimFault
+fault_order = TooLong ∷ Empty ∷ NoNewline ∷ SeveralLines ∷ UnknownWord ∷ BadNumber ∷ UnexpectedReason ∷ NoReason ∷ []
 
--- `fault_of file`: the first error of `rows` that fits `file`, or `None` if `file` is valid.
+-- `fault_of file`: the first error of `fault_order` that applies to `file`, or `None` if `file` is
+-- valid.
 abbrev pub fault_of : List ℕ → Option ClaimFault
-fault_of file = find (fits file) rows
+fault_of file = find (fits file) fault_order
 
 -- ---- all files
 
 -- `IsClaimOf file claim`: `file` has at most `limit` bytes and spells `claim`, or `claim` is
 -- `Malformed` with the first error of `file`.
 abbrev pub IsClaimOf : List ℕ → Claim → Type 0
-IsClaimOf file claim = ((length file ≤ limit) × Says file claim) ⊎ ((fault : ClaimFault) × (fault_of file ≡ Some fault) × (claim ≡ Malformed fault))
+IsClaimOf file claim = ((length file ≤ limit) × SpellsClaim file claim) ⊎ ((fault : ClaimFault) × (fault_of file ≡ Some fault) × (claim ≡ Malformed fault))

@@ -13,9 +13,9 @@ pub enum LineKind {
     Plan(u64),
 }
 
-/// The letters of `TODO` or `SKIP` that were read, in upper or lower case.
+/// A prefix of the word `TODO` or `SKIP` that begins a directive, in upper or lower case.
 #[derive(Clone, Copy)]
-pub enum Letters {
+pub enum DirectivePrefix {
     T,
     To,
     Tod,
@@ -24,7 +24,7 @@ pub enum Letters {
     Ski,
 }
 
-/// A reason to look for a directive in a line.
+/// A purpose for which a directive is searched in a line.
 #[derive(Clone, Copy)]
 pub enum DirectivePurpose {
     /// A directive excuses a failed test.
@@ -33,7 +33,7 @@ pub enum DirectivePurpose {
     Explain,
 }
 
-/// A beginning of the lines that affect the result: `Bail out!`, `ok`, `not ok` or `1..`.
+/// An opening of a line that affects the result of a stream: `Bail out!`, `ok`, `not ok` or `1..`.
 #[derive(Clone, Copy)]
 pub enum Opening {
     BailOut,
@@ -47,27 +47,28 @@ pub enum Opening {
 pub enum LineProgress {
     /// No byte was read.
     Nothing,
-    /// A part of an opening, of which these bytes are missing.
-    Opened(Opening, &'static [u8]),
-    /// `1..` and the digits of a plan. The number is their value, or `None` before the first digit.
+    /// An opening, as far as it was read. The second field has the bytes of the opening that are
+    /// missing.
+    PartialOpening(Opening, &'static [u8]),
+    /// `1..` and digits of a plan. The number is the value of the digits, or `None` without digits.
     Digits(Option<u64>),
     /// `1..`, the digits of a plan, and one or more blanks. The number is the value of the digits.
     Blanks(u64),
-    /// Bytes without a directive; a directive may follow. The flag is `true` if the last byte is a
-    /// backslash.
-    Looking(DirectivePurpose, bool),
-    /// A hash, and blanks if any. A directive may follow.
+    /// No directive was found yet, but a directive for this purpose may follow. The flag is `true`
+    /// if the last byte is a backslash.
+    DirectiveSearch(DirectivePurpose, bool),
+    /// A hash, and blanks if any. A directive for this purpose may follow.
     Hash(DirectivePurpose),
-    /// A hash, blanks if any, and the first letters of a directive.
-    DirectiveLetters(DirectivePurpose, Letters),
-    /// A skip directive, with more bytes of its word if any.
+    /// A hash, blanks if any, and the first letters of a directive for this purpose.
+    DirectiveLetters(DirectivePurpose, DirectivePrefix),
+    /// The letters `SKIP` of a directive, with more bytes of the same word if any.
     Word,
     /// Blanks after the word of a skip directive.
     Gap,
     /// The first bytes of the reason of a skip directive.
     Reason,
     /// The kind of the line is known. The rest of the line is ignored.
-    Decided(LineKind),
+    KnownKind(LineKind),
 }
 
 /// A TAP line that was not read to its end. Of its bytes, only the reason of a plan is kept.

@@ -23,10 +23,10 @@ pub struct ClaimReader {
 
 impl Model for ClaimReader {
     ghost use Rattle.std.specs.Prelude.{◌≤◌, length, is_some};
-    ghost use Rattle.kt_claim.specs.ClaimReading.{ClaimReading};
+    ghost use Rattle.kt_claim.specs.ClaimReaderState.{ClaimReaderState};
     ghost use Rattle.kt_claim.specs.ResultFile.{limit};
 
-    ghost Value = { ClaimReading };
+    ghost Value = { ClaimReaderState };
 
     ghost view = { λ r. record {
       kept = r.bytes.items;
@@ -53,7 +53,7 @@ impl ClaimReader {
         }
     }
 
-    /// Reads the next bytes of the result file.
+    /// Reads `piece`, the next bytes of the result file.
     ///
     /// If the file has more than 65,536 bytes, its claim is `Malformed(TooLong)`.
     ///
@@ -106,7 +106,7 @@ impl ClaimReader {
     }
 }
 
-/// Parses a whole result file, and returns its claim (this profile).
+/// Parses `file`, a whole result file, and returns its claim (this profile).
 ///
 /// # Errors
 ///

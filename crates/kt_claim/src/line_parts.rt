@@ -1,15 +1,15 @@
 //! Reads the parts of a line, and finds the kind of a line at its end.
 
 ghost use Rattle.std.specs.Prelude.{◌≡◌, ◌∷◌, ◌++◌, ℕ, List, [], IfOk, OnOk, None, false, true};
-ghost use Rattle.kt_claim.specs.Common.{facts_with, is_kept, is_decided, KeepsFor, IsStateAfter, IsStateMidLine, trimmed, after_opening, directed, facts_of_kind, is_reason};
+ghost use Rattle.kt_claim.specs.Common.{facts_with, is_reason_byte, is_kind_known, KeepsIfReason, IsStateAfter, IsStateMidLine, without_trailing_blanks, after_opening, directive_facts, facts_of_kind, is_reason};
 
 use crate::begun::{DirectivePurpose, LineKind, LineProgress, OpenLine, Opening};
 use crate::line_steps::{LIMIT, is_blank, step};
 use kt_base::NoMemory;
 
 /// Returns `text` without the spaces and tabs at its end.
-pub fn trimmed(text: &[u8]) -> &[u8]
-    ensures { result.now ≡ trimmed text.now }
+pub fn without_trailing_blanks(text: &[u8]) -> &[u8]
+    ensures { result.now ≡ without_trailing_blanks text.now }
 {
     let mut rest = text;
     while let Some((b, front)) = rest.split_last() {
@@ -21,8 +21,8 @@ pub fn trimmed(text: &[u8]) -> &[u8]
     rest
 }
 
-/// Returns the kind of a TAP line that is only an opening, such as `ok`.
-fn lone(opening: Opening) -> LineKind
+/// Returns the kind of a TAP line that consists of the opening `opening` alone, such as `ok`.
+fn kind_of_opening(opening: Opening) -> LineKind
     ensures { facts_of_kind result [] ≡ after_opening opening [] }
 {
     match opening {
@@ -35,23 +35,24 @@ fn lone(opening: Opening) -> LineKind
 
 /// Returns the kind of a TAP line that ends within its opening or directly after it.
 ///
-/// `lacks` are the missing bytes of the opening.
+/// The opening is `opening`, and `lacks` are its missing bytes.
 fn opened(opening: Opening, lacks: &'static [u8]) -> LineKind
     ensures { (kept : List ℕ) → facts_of_kind result []
-        ≡ facts_with (LineProgress.Opened opening lacks.entry) kept [] }
+        ≡ facts_with (LineProgress.PartialOpening opening lacks.entry) kept [] }
 {
     if lacks.is_empty() {
-        lone(opening)
+        kind_of_opening(opening)
     } else {
         LineKind::Other
     }
 }
 
-/// Returns the kind of a TAP line that plans `tests` tests.
+/// Returns the kind of a TAP line that has the form of a plan of `tests` tests.
 ///
 /// With 1,000,000,000 tests or more, the line is not a plan.
 fn planned(tests: u64) -> LineKind
-    ensures { (kept : List ℕ) → facts_of_kind result [] ≡ facts_with (LineProgress.Blanks tests) kept [] }
+    ensures { (kept : List ℕ) → facts_of_kind result []
+        ≡ facts_with (LineProgress.Blanks tests) kept [] }
 {
     if tests < LIMIT {
         LineKind::Plan(tests)
@@ -63,8 +64,9 @@ fn planned(tests: u64) -> LineKind
 /// Returns the kind of a TAP line that ends after `1..` and the digits of a plan.
 ///
 /// `value` is the value of the digits. Without digits, it is `None`, and the line is not a plan.
-fn counted(value: Option<u64>) -> LineKind
-    ensures { (kept : List ℕ) → facts_of_kind result [] ≡ facts_with (LineProgress.Digits value) kept [] }
+fn kind_of_digits(value: Option<u64>) -> LineKind
+    ensures { (kept : List ℕ) → facts_of_kind result []
+        ≡ facts_with (LineProgress.Digits value) kept [] }
 {
     match value {
         None => LineKind::Other,
@@ -72,11 +74,11 @@ fn counted(value: Option<u64>) -> LineKind
     }
 }
 
-/// Returns the kind of a TAP line that ends without a directive.
+/// Returns the kind of a TAP line in which a directive was searched for `purpose`, and not found.
 ///
-/// It is a failed test for `Excuse`, and a plan of no tests for `Explain`.
-fn undirected(purpose: DirectivePurpose) -> LineKind
-    ensures { facts_of_kind result [] ≡ directed purpose None }
+/// The line is a failed test for `Excuse`, and a plan of no tests for `Explain`.
+fn kind_without_directive(purpose: DirectivePurpose) -> LineKind
+    ensures { facts_of_kind result [] ≡ directive_facts purpose None }
 {
     match purpose {
         DirectivePurpose::Excuse => LineKind::Failure,
@@ -87,29 +89,29 @@ fn undirected(purpose: DirectivePurpose) -> LineKind
 /// Returns the kind of a TAP line that ends in the state `begun`.
 ///
 /// The kind of a plan of no tests does not contain the plan's reason.
-pub fn ended(begun: LineProgress) -> LineKind
+pub fn kind_at_end(begun: LineProgress) -> LineKind
     ensures plain { is_reason begun ≡ false → (kept : List ℕ)
         → facts_of_kind result [] ≡ facts_with begun kept [] }
     ensures reason { is_reason begun ≡ true → result ≡ LineKind.Plan 0 }
 {
     match begun {
         LineProgress::Nothing => LineKind::Other,
-        LineProgress::Opened(opening, lacks) => opened(opening, lacks),
-        LineProgress::Digits(value) => counted(value),
+        LineProgress::PartialOpening(opening, lacks) => opened(opening, lacks),
+        LineProgress::Digits(value) => kind_of_digits(value),
         LineProgress::Blanks(tests) => planned(tests),
-        LineProgress::Looking(purpose, _) => undirected(purpose),
-        LineProgress::Hash(purpose) => undirected(purpose),
-        LineProgress::DirectiveLetters(purpose, _) => undirected(purpose),
+        LineProgress::DirectiveSearch(purpose, _) => kind_without_directive(purpose),
+        LineProgress::Hash(purpose) => kind_without_directive(purpose),
+        LineProgress::DirectiveLetters(purpose, _) => kind_without_directive(purpose),
         LineProgress::Word => LineKind::Plan(0),
         LineProgress::Gap => LineKind::Plan(0),
         LineProgress::Reason => LineKind::Plan(0),
-        LineProgress::Decided(kind) => kind,
+        LineProgress::KnownKind(kind) => kind,
     }
 }
 
-/// Returns `true` if the byte `b` belongs to a reason after the state `begun`.
-fn is_kept(begun: LineProgress, b: u8) -> bool
-    ensures { result ≡ is_kept begun b }
+/// Returns `true` if `b`, the byte after the state `begun`, belongs to the reason of a plan.
+fn is_reason_byte(begun: LineProgress, b: u8) -> bool
+    ensures { result ≡ is_reason_byte begun b }
 {
     match begun {
         LineProgress::Reason => true,
@@ -119,32 +121,33 @@ fn is_kept(begun: LineProgress, b: u8) -> bool
 }
 
 /// Returns `true` if the kind of a TAP line in the state `begun` is known.
-fn is_decided(begun: LineProgress) -> bool
-    ensures { result ≡ is_decided begun }
+fn is_kind_known(begun: LineProgress) -> bool
+    ensures { result ≡ is_kind_known begun }
 {
-    matches!(begun, LineProgress::Decided(_))
+    matches!(begun, LineProgress::KnownKind(_))
 }
 
-/// Reads the next bytes of a TAP line, and returns the new state.
+/// Reads `part`, the next bytes of a TAP line, and returns the state after them.
 ///
-/// Bytes of a reason are appended to `kept`. Once the kind of the line is known, the rest is
-/// ignored.
+/// `begun` is the state before the bytes. Bytes of a reason are appended to `kept`. Once the kind
+/// of the line is known, the rest of the bytes is ignored.
 fn feed_bytes(
     begun: LineProgress,
     kept: &mut Vec<u8>,
     part: &[u8],
 ) -> Result<LineProgress, NoMemory>
-    ensures { IfOk result (λ after. KeepsFor begun kept.old.items → KeepsFor after kept.new.items
+    ensures { IfOk result (λ after. KeepsIfReason begun kept.old.items
+        → KeepsIfReason after kept.new.items
         × ((more : List ℕ) → facts_with begun kept.old.items (part.now ++ more)
         ≡ facts_with after kept.new.items more)) }
 {
     let mut state = begun;
     let mut rest = part;
     while let Some((b, after)) = rest.split_first() {
-        if is_decided(state) {
+        if is_kind_known(state) {
             return Ok(state);
         }
-        if is_kept(state, *b) {
+        if is_reason_byte(state, *b) {
             kept.extend_from_slice(rest)?;
             return Ok(LineProgress::Reason);
         }
@@ -156,8 +159,13 @@ fn feed_bytes(
 
 /// Reads the carriage return that was held back, if `held` is `true`, and returns the new state.
 ///
-/// The caller has more bytes of the TAP line, so the carriage return is not at its end.
-fn release(begun: LineProgress, kept: &mut Vec<u8>, held: bool) -> Result<LineProgress, NoMemory>
+/// `begun` is the state of the TAP line before the carriage return, and `kept` has its kept bytes.
+/// The caller has more bytes of the line, so the carriage return is not at its end.
+fn feed_held_cr(
+    begun: LineProgress,
+    kept: &mut Vec<u8>,
+    held: bool,
+) -> Result<LineProgress, NoMemory>
     ensures { IfOk result (λ after. (came : List ℕ) → IsStateAfter begun kept.old.items held came
         → IsStateMidLine after kept.new.items came) }
 {
@@ -168,14 +176,15 @@ fn release(begun: LineProgress, kept: &mut Vec<u8>, held: bool) -> Result<LinePr
     }
 }
 
-/// Reads `part`, the next bytes of a TAP line, which contain no newline.
+/// Reads `part`, the next bytes of the open TAP line `line`.
 ///
-/// A carriage return at the end of the part is held back, since it may be at the end of the line.
+/// The bytes contain no newline. A carriage return at their end is held back, since it may be at
+/// the end of the line.
 ///
 /// # Errors
 ///
 /// - `NoMemory`: an allocation fails.
-pub fn go_on(line: &mut OpenLine, part: &[u8]) -> Result<(), NoMemory>
+pub fn feed_line(line: &mut OpenLine, part: &[u8]) -> Result<(), NoMemory>
     ensures { OnOk result ((came : List ℕ)
         → IsStateAfter line.old.begun line.old.kept.items line.old.held came
         → IsStateAfter line.new.begun line.new.kept.items line.new.held (came ++ part.now)) }
@@ -183,7 +192,7 @@ pub fn go_on(line: &mut OpenLine, part: &[u8]) -> Result<(), NoMemory>
     let Some((last, front)) = part.split_last() else {
         return Ok(());
     };
-    let begun = release(line.begun, &mut line.kept, line.held)?;
+    let begun = feed_held_cr(line.begun, &mut line.kept, line.held)?;
     if *last == b'\r' {
         line.begun = feed_bytes(begun, &mut line.kept, front)?;
         line.held = true;

@@ -1,15 +1,15 @@
 //! Computes the state of a line after one more byte.
 
 ghost use Rattle.std.specs.Prelude.{◌≡◌, [], ◌∷◌, ℕ, List, false, option_map, Some, true, ◌<◌, ◌^◌, ◌-◌};
-ghost use Rattle.kt_claim.specs.Common.{is_digit, is_blank, directive_in, planned_from, below_limit, reason_of, skips, plan_for, facts_of, planning, after_opening, opened, directed, directive_after_letters, facts_with, is_kept, is_reason, next_letter, with_letter};
+ghost use Rattle.kt_claim.specs.Common.{is_digit, is_blank, directive_in, planned_from, below_limit, reason_of, reason_of_skip, plan_for, facts_of, plan_facts, after_opening, opened, directive_facts, directive_after_letters, facts_with, is_reason_byte, is_reason, next_letter, facts_after_letter};
 
-use crate::begun::{DirectivePurpose, Letters, LineKind, LineProgress, Opening};
+use crate::begun::{DirectivePrefix, DirectivePurpose, LineKind, LineProgress, Opening};
 use kt_base::is_digit;
 
 /// The upper bound of the number of tests in a plan: a plan has fewer tests.
 pub const LIMIT: u64 = 1_000_000_000;
 
-/// Returns `true` for a space or a tab.
+/// Returns `true` if the byte `b` is a space or a tab.
 pub fn is_blank(b: u8) -> bool
     ensures { result ≡ is_blank b }
 {
@@ -22,45 +22,49 @@ fn first(b: u8) -> LineProgress
     ensures plain { is_reason result ≡ false }
 {
     match b {
-        b'B' => LineProgress::Opened(Opening::BailOut, b"ail out!"),
-        b'o' => LineProgress::Opened(Opening::Ok, b"k"),
-        b'n' => LineProgress::Opened(Opening::NotOk, b"ot ok"),
-        b'1' => LineProgress::Opened(Opening::Plan, b".."),
-        _ => LineProgress::Decided(LineKind::Other),
+        b'B' => LineProgress::PartialOpening(Opening::BailOut, b"ail out!"),
+        b'o' => LineProgress::PartialOpening(Opening::Ok, b"k"),
+        b'n' => LineProgress::PartialOpening(Opening::NotOk, b"ot ok"),
+        b'1' => LineProgress::PartialOpening(Opening::Plan, b".."),
+        _ => LineProgress::KnownKind(LineKind::Other),
     }
 }
 
-/// Returns the state of a TAP line after the four letters of a directive, `SKIP` if `is_skip`, else
-/// `TODO`.
+/// Returns the state of a TAP line after the four letters of a directive.
+///
+/// The letters are `SKIP` if `is_skip` is `true`, otherwise `TODO`. The directive was searched for
+/// `purpose`.
 fn found(purpose: DirectivePurpose, is_skip: bool) -> LineProgress
     ensures facts { (kept more : List ℕ) → facts_with result kept more
-        ≡ directed purpose (Some (is_skip, reason_of more)) }
+        ≡ directive_facts purpose (Some (is_skip, reason_of more)) }
     ensures plain { is_reason result ≡ false }
 {
     match purpose {
-        DirectivePurpose::Excuse => LineProgress::Decided(LineKind::Test),
+        DirectivePurpose::Excuse => LineProgress::KnownKind(LineKind::Test),
         DirectivePurpose::Explain if is_skip => LineProgress::Word,
-        DirectivePurpose::Explain => LineProgress::Decided(LineKind::Plan(0)),
+        DirectivePurpose::Explain => LineProgress::KnownKind(LineKind::Plan(0)),
     }
 }
 
-/// Returns the state of a TAP line after the byte `b`, where a hash may begin a directive.
+/// Returns the state of a TAP line after the byte `b`, while a directive is searched for `purpose`.
 ///
-/// `escaped` is `true` if the byte before `b` is a backslash. Then a hash does not begin a
-/// directive.
-fn looking(purpose: DirectivePurpose, escaped: bool, b: u8) -> LineProgress
+/// A hash may begin the directive. `escaped` is `true` if the byte before `b` is a backslash. Then
+/// a hash does not begin a directive.
+fn state_in_search(purpose: DirectivePurpose, escaped: bool, b: u8) -> LineProgress
     ensures facts { (kept more : List ℕ) → facts_with result kept more
-        ≡ directed purpose (directive_in escaped (b ∷ more)) }
+        ≡ directive_facts purpose (directive_in escaped (b ∷ more)) }
     ensures plain { is_reason result ≡ false }
 {
     if b == b'#' && !escaped {
         LineProgress::Hash(purpose)
     } else {
-        LineProgress::Looking(purpose, b == b'\\')
+        LineProgress::DirectiveSearch(purpose, b == b'\\')
     }
 }
 
 /// Returns the state of a TAP line after a hash, blanks if any, and the byte `b`.
+///
+/// A directive is searched for `purpose`.
 fn state_after_hash(purpose: DirectivePurpose, b: u8) -> LineProgress
     ensures facts { (kept more : List ℕ) → facts_with result kept more
         ≡ facts_with (LineProgress.Hash purpose) kept (b ∷ more) }
@@ -70,43 +74,48 @@ fn state_after_hash(purpose: DirectivePurpose, b: u8) -> LineProgress
         return LineProgress::Hash(purpose);
     }
     match b.to_ascii_lowercase() {
-        b't' => LineProgress::DirectiveLetters(purpose, Letters::T),
-        b's' => LineProgress::DirectiveLetters(purpose, Letters::S),
-        _ => looking(purpose, false, b),
+        b't' => LineProgress::DirectiveLetters(purpose, DirectivePrefix::T),
+        b's' => LineProgress::DirectiveLetters(purpose, DirectivePrefix::S),
+        _ => state_in_search(purpose, false, b),
     }
 }
 
 /// Returns the letter of a directive that follows `letters`, in lower case.
-fn next_letter(letters: Letters) -> u8
+fn next_letter(letters: DirectivePrefix) -> u8
     ensures { result ≡ next_letter letters }
 {
     match letters {
-        Letters::T | Letters::Tod => b'o',
-        Letters::To => b'd',
-        Letters::S => b'k',
-        Letters::Sk => b'i',
-        Letters::Ski => b'p',
+        DirectivePrefix::T | DirectivePrefix::Tod => b'o',
+        DirectivePrefix::To => b'd',
+        DirectivePrefix::S => b'k',
+        DirectivePrefix::Sk => b'i',
+        DirectivePrefix::Ski => b'p',
     }
 }
 
 /// Returns the state of a TAP line after `letters` and the next letter of their directive.
-fn state_after_letter(purpose: DirectivePurpose, letters: Letters) -> LineProgress
-    ensures facts { (kept more : List ℕ) → facts_with result kept more ≡ with_letter purpose letters more }
+///
+/// The directive is searched for `purpose`.
+fn state_after_letter(purpose: DirectivePurpose, letters: DirectivePrefix) -> LineProgress
+    ensures facts { (kept more : List ℕ) → facts_with result kept more
+        ≡ facts_after_letter purpose letters more }
     ensures plain { is_reason result ≡ false }
 {
     match letters {
-        Letters::T => LineProgress::DirectiveLetters(purpose, Letters::To),
-        Letters::To => LineProgress::DirectiveLetters(purpose, Letters::Tod),
-        Letters::Tod => found(purpose, false),
-        Letters::S => LineProgress::DirectiveLetters(purpose, Letters::Sk),
-        Letters::Sk => LineProgress::DirectiveLetters(purpose, Letters::Ski),
-        Letters::Ski => found(purpose, true),
+        DirectivePrefix::T => LineProgress::DirectiveLetters(purpose, DirectivePrefix::To),
+        DirectivePrefix::To => LineProgress::DirectiveLetters(purpose, DirectivePrefix::Tod),
+        DirectivePrefix::Tod => found(purpose, false),
+        DirectivePrefix::S => LineProgress::DirectiveLetters(purpose, DirectivePrefix::Sk),
+        DirectivePrefix::Sk => LineProgress::DirectiveLetters(purpose, DirectivePrefix::Ski),
+        DirectivePrefix::Ski => found(purpose, true),
     }
 }
 
 /// Returns the state of a TAP line after `letters`, the first letters of a directive, and the byte
 /// `b`.
-fn state_after_letters(purpose: DirectivePurpose, letters: Letters, b: u8) -> LineProgress
+///
+/// The directive is searched for `purpose`.
+fn state_after_letters(purpose: DirectivePurpose, letters: DirectivePrefix, b: u8) -> LineProgress
     ensures facts { (kept more : List ℕ) → facts_with result kept more
         ≡ facts_with (LineProgress.DirectiveLetters purpose letters) kept (b ∷ more) }
     ensures plain { is_reason result ≡ false }
@@ -114,7 +123,7 @@ fn state_after_letters(purpose: DirectivePurpose, letters: Letters, b: u8) -> Li
     if b.to_ascii_lowercase() == next_letter(letters) {
         state_after_letter(purpose, letters)
     } else {
-        looking(purpose, false, b)
+        state_in_search(purpose, false, b)
     }
 }
 
@@ -124,16 +133,16 @@ fn state_after_letters(purpose: DirectivePurpose, letters: Letters, b: u8) -> Li
 /// plan.
 fn state_after_plan_hash(tests: u64) -> LineProgress
     ensures facts { (kept more : List ℕ) → facts_with result kept more
-        ≡ planning (option_map (plan_for (skips (directive_in false (35 ∷ more))))
+        ≡ plan_facts (option_map (plan_for (reason_of_skip (directive_in false (35 ∷ more))))
         (below_limit tests)) }
     ensures plain { is_reason result ≡ false }
 {
     if tests == 0 {
         LineProgress::Hash(DirectivePurpose::Explain)
     } else if tests < LIMIT {
-        LineProgress::Decided(LineKind::Plan(tests))
+        LineProgress::KnownKind(LineKind::Plan(tests))
     } else {
-        LineProgress::Decided(LineKind::Other)
+        LineProgress::KnownKind(LineKind::Other)
     }
 }
 
@@ -148,23 +157,25 @@ fn state_after_blanks(tests: u64, b: u8) -> LineProgress
     } else if b == b'#' {
         state_after_plan_hash(tests)
     } else {
-        LineProgress::Decided(LineKind::Other)
+        LineProgress::KnownKind(LineKind::Other)
     }
 }
 
-/// Returns the state of a TAP line after the digits of a plan with the value `value`, and `digit`.
+/// Returns the state of a TAP line after the digits of a plan and one more digit.
 ///
-/// If `value` is 1,000,000,000 or more, the line is not a plan.
+/// `value` is the value of the digits, and `digit` that of the digit after them. If `value` is
+/// 1,000,000,000 or more, the line is not a plan.
 fn state_after_more_digits(value: u64, digit: u64) -> LineProgress
     requires { digit < 2 ^ 8 }
     ensures facts { (b : ℕ) → is_digit b ≡ true → digit ≡ b - 48 → (kept more : List ℕ)
-        → facts_with result kept more ≡ facts_with (LineProgress.Digits (Some value)) kept (b ∷ more) }
+        → facts_with result kept more ≡ facts_with (LineProgress.Digits (Some value)) kept (b ∷
+        more) }
     ensures plain { is_reason result ≡ false }
 {
     if value < LIMIT {
         LineProgress::Digits(Some(10 * value + digit))
     } else {
-        LineProgress::Decided(LineKind::Other)
+        LineProgress::KnownKind(LineKind::Other)
     }
 }
 
@@ -195,7 +206,7 @@ fn state_after_plan_digits(value: Option<u64>, b: u8) -> LineProgress
         return state_after_digit(value, b);
     }
     match value {
-        None => LineProgress::Decided(LineKind::Other),
+        None => LineProgress::KnownKind(LineKind::Other),
         Some(tests) => state_after_blanks(tests, b),
     }
 }
@@ -207,11 +218,14 @@ fn after_opening(opening: Opening, b: u8) -> LineProgress
     ensures plain { is_reason result ≡ false }
 {
     match opening {
-        Opening::BailOut => LineProgress::Decided(LineKind::Bail),
-        Opening::Ok if is_blank(b) => LineProgress::Decided(LineKind::Test),
-        Opening::NotOk if is_blank(b) => LineProgress::Looking(DirectivePurpose::Excuse, false),
+        Opening::BailOut => LineProgress::KnownKind(LineKind::Bail),
+        Opening::Ok if is_blank(b) => LineProgress::KnownKind(LineKind::Test),
+        Opening::NotOk if is_blank(b) => LineProgress::DirectiveSearch(
+            DirectivePurpose::Excuse,
+            false,
+        ),
         Opening::Plan => state_after_plan_digits(None, b),
-        Opening::Ok | Opening::NotOk => LineProgress::Decided(LineKind::Other),
+        Opening::Ok | Opening::NotOk => LineProgress::KnownKind(LineKind::Other),
     }
 }
 
@@ -220,13 +234,13 @@ fn after_opening(opening: Opening, b: u8) -> LineProgress
 /// `lacks` are the bytes of the opening that are missing before `b`.
 fn opened(opening: Opening, lacks: &'static [u8], b: u8) -> LineProgress
     ensures facts { (kept more : List ℕ) → facts_with result kept more
-        ≡ facts_with (LineProgress.Opened opening lacks.entry) kept (b ∷ more) }
+        ≡ facts_with (LineProgress.PartialOpening opening lacks.entry) kept (b ∷ more) }
     ensures plain { is_reason result ≡ false }
 {
     match lacks.split_first() {
         None => after_opening(opening, b),
-        Some((c, lacks)) if *c == b => LineProgress::Opened(opening, lacks),
-        Some(_) => LineProgress::Decided(LineKind::Other),
+        Some((c, lacks)) if *c == b => LineProgress::PartialOpening(opening, lacks),
+        Some(_) => LineProgress::KnownKind(LineKind::Other),
     }
 }
 
@@ -234,16 +248,16 @@ fn opened(opening: Opening, lacks: &'static [u8], b: u8) -> LineProgress
 ///
 /// The caller keeps the bytes of a reason, so `Reason` does not change.
 pub fn step(begun: LineProgress, b: u8) -> LineProgress
-    ensures facts { is_kept begun b ≡ false → (kept more : List ℕ)
+    ensures facts { is_reason_byte begun b ≡ false → (kept more : List ℕ)
         → facts_with result kept more ≡ facts_with begun kept (b ∷ more) }
     ensures kept { is_reason result ≡ is_reason begun }
 {
     match begun {
         LineProgress::Nothing => first(b),
-        LineProgress::Opened(opening, lacks) => opened(opening, lacks, b),
+        LineProgress::PartialOpening(opening, lacks) => opened(opening, lacks, b),
         LineProgress::Digits(value) => state_after_plan_digits(value, b),
         LineProgress::Blanks(tests) => state_after_blanks(tests, b),
-        LineProgress::Looking(purpose, escaped) => looking(purpose, escaped, b),
+        LineProgress::DirectiveSearch(purpose, escaped) => state_in_search(purpose, escaped, b),
         LineProgress::Hash(purpose) => state_after_hash(purpose, b),
         LineProgress::DirectiveLetters(purpose, letters) => state_after_letters(
             purpose, letters, b,
@@ -252,6 +266,6 @@ pub fn step(begun: LineProgress, b: u8) -> LineProgress
         LineProgress::Word => LineProgress::Word,
         LineProgress::Gap => LineProgress::Gap,
         LineProgress::Reason => LineProgress::Reason,
-        LineProgress::Decided(kind) => LineProgress::Decided(kind),
+        LineProgress::KnownKind(kind) => LineProgress::KnownKind(kind),
     }
 }

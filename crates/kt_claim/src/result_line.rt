@@ -4,10 +4,10 @@ ghost use Rattle.std.specs.Prelude.{◌≡◌, ◌≤◌, length, IfOk, option_m
 ghost use Rattle.std.specs.List.{prefix_len};
 ghost use Rattle.kt_claim.specs.Bytes.{is_keyword_byte};
 ghost use Rattle.kt_claim.specs.ResultFile.{limit};
-ghost use Rattle.kt_claim.specs.Inner.ResultReading.{number_in, reason_in, numbered, claim_with, after_bracket, claim_of, word_of, may_have_number};
+ghost use Rattle.kt_claim.specs.Inner.ResultReading.{number_in, reason_in, claim_with_number, claim_with_reason, claim_after_bracket, claim_of, keyword_of, may_have_number};
 
 use crate::{Claim, ClaimFault};
-use kt_base::{NoMemory, Text, decimal_up_to, digits_length, lossy, named_bytes};
+use kt_base::{NoMemory, Text, digits_length, lossy, named_bytes, parse_decimal_up_to};
 use std::alloc::Global;
 
 /// A keyword of a result file.
@@ -24,7 +24,7 @@ pub enum Word {
 }
 
 /// The keywords of result files, with their spellings (atf-test-case(4)).
-const WORDS: [(&str, Word); 8] = [
+const KEYWORDS: [(&str, Word); 8] = [
     ("passed", Word::Passed),
     ("failed", Word::Failed),
     ("skipped", Word::Skipped),
@@ -37,11 +37,11 @@ const WORDS: [(&str, Word); 8] = [
 
 impl Word {
     /// Returns the keyword that is spelled `word`, if there is one.
-    #[tactic(auto, unfolding(crate::specs::Inner::ResultReading::word_of))]
+    #[tactic(auto, unfolding(crate::specs::Inner::ResultReading::keyword_of))]
     pub fn of(word: &[u8]) -> Option<Word>
-        ensures { result ≡ word_of word.now }
+        ensures { result ≡ keyword_of word.now }
     {
-        named_bytes(word, &WORDS)
+        named_bytes(word, &KEYWORDS)
     }
 
     /// Returns `true` if a number in round brackets may follow the keyword.
@@ -53,7 +53,7 @@ impl Word {
 }
 
 /// Returns the number of letters from a to z and underscores that `text` begins with.
-fn word_length(text: &[u8]) -> usize
+fn keyword_length(text: &[u8]) -> usize
     ensures value { result ≡ prefix_len is_keyword_byte text.now }
     ensures within { result ≤ length text.now }
 {
@@ -74,7 +74,7 @@ fn number(rest: &[u8]) -> Option<(u8, &[u8])>
     if digits.is_empty() {
         return None;
     }
-    let value = decimal_up_to(255, digits)?;
+    let value = parse_decimal_up_to(255, digits)?;
     let (b, rest) = rest.split_first()?;
     if *b == b')' {
         Some((value as u8, rest))
@@ -98,9 +98,9 @@ fn reason(rest: &[u8]) -> Option<&[u8]>
 
 /// Creates the claim of the keyword `word` with the reason `reason` and without a number.
 ///
-/// `Passed` has no reason, so `reason` is dropped.
-fn claim_with(word: Word, reason: Text) -> Claim
-    ensures { result ≡ claim_with word reason }
+/// The claim `Passed` has no reason, so `reason` is not used for it.
+fn claim_with_reason(word: Word, reason: Text) -> Claim
+    ensures { result ≡ claim_with_reason word reason }
 {
     match word {
         Word::Passed => Claim::Passed,
@@ -117,8 +117,8 @@ fn claim_with(word: Word, reason: Text) -> Claim
 /// Creates the claim of the keyword `word` with the number `number` and the reason `reason`.
 ///
 /// The claim is `Malformed(BadNumber)` if the keyword may not have a number.
-fn numbered(word: Word, number: u8, reason: Text) -> Claim
-    ensures { result ≡ numbered word number reason }
+fn claim_with_number(word: Word, number: u8, reason: Text) -> Claim
+    ensures { result ≡ claim_with_number word number reason }
 {
     match word {
         Word::ExpectedExit => Claim::ExpectedExit(Some(number), reason),
@@ -128,8 +128,8 @@ fn numbered(word: Word, number: u8, reason: Text) -> Claim
 }
 
 /// Returns the claim of a line that consists of the keyword `word`, an opening bracket and `rest`.
-fn after_bracket(alloc: Global, word: Word, rest: &[u8]) -> Result<Claim, NoMemory>
-    ensures { IfOk result (λ claim. claim ≡ after_bracket word rest.now) }
+fn claim_after_bracket(alloc: Global, word: Word, rest: &[u8]) -> Result<Claim, NoMemory>
+    ensures { IfOk result (λ claim. claim ≡ claim_after_bracket word rest.now) }
 {
     if !word.may_have_number() {
         return Ok(Claim::Malformed(ClaimFault::BadNumber));
@@ -140,10 +140,10 @@ fn after_bracket(alloc: Global, word: Word, rest: &[u8]) -> Result<Claim, NoMemo
     let Some(reason) = reason(rest) else {
         return Ok(Claim::Malformed(ClaimFault::NoReason));
     };
-    Ok(numbered(word, number, lossy(alloc, reason)?))
+    Ok(claim_with_number(word, number, lossy(alloc, reason)?))
 }
 
-/// Returns the claim of a result file of at most 65,536 bytes.
+/// Returns the claim of the result file `file`, which has at most 65,536 bytes.
 ///
 /// # Errors
 ///
@@ -163,16 +163,16 @@ pub fn claim_of(alloc: Global, file: &[u8]) -> Result<Claim, NoMemory>
     if line.contains(&b'\n') {
         return Ok(Claim::Malformed(ClaimFault::SeveralLines));
     }
-    let (word, rest) = line.split_at(word_length(line));
+    let (word, rest) = line.split_at(keyword_length(line));
     let Some(word) = Word::of(word) else {
         return Ok(Claim::Malformed(ClaimFault::UnknownWord));
     };
     match (word, rest.split_first()) {
-        (_, Some((b'(', after))) => after_bracket(alloc, word, after),
+        (_, Some((b'(', after))) => claim_after_bracket(alloc, word, after),
         (Word::Passed, None) => Ok(Claim::Passed),
         (Word::Passed, Some(_)) => Ok(Claim::Malformed(ClaimFault::UnexpectedReason)),
         _ => match reason(rest) {
-            Some(reason) => Ok(claim_with(word, lossy(alloc, reason)?)),
+            Some(reason) => Ok(claim_with_reason(word, lossy(alloc, reason)?)),
             None => Ok(Claim::Malformed(ClaimFault::NoReason)),
         },
     }

@@ -1,5 +1,5 @@
 ghost use Rattle.std.specs.Prelude.{◌≡◌, ◌<◌, ◌^◌, ◌++◌, [], ◌∷◌, ℕ, List, true, false, length, IfOk, ◌+◌};
-ghost use Rattle.kt_claim.specs.TapStream.{skip_reason, why, tap_of_lines};
+ghost use Rattle.kt_claim.specs.TapStream.{skip_reason, plan_reason, tap_of_lines};
 ghost use Rattle.kt_claim.specs.Inner.LineStates.{facts_of, facts_of_kind};
 
 use crate::begun::LineKind;
@@ -7,7 +7,7 @@ use crate::{Tap, TapFault};
 use kt_base::{NoMemory, Text, lossy};
 use std::alloc::Global;
 
-/// A tally of the lines of a TAP stream before its first bail out.
+/// A tally of a TAP stream: the counts and plans of the lines before its first bail out.
 #[derive(Drop)]
 pub struct Tally {
     /// `true` if a line bails out.
@@ -32,10 +32,12 @@ fn skip_reason(alloc: Global, reason: &[u8]) -> Result<Text, NoMemory>
     lossy(alloc, reason)
 }
 
-/// Returns the reason of a plan: for no tests, the text of `reason` or `No reason given`, and for
-/// any other plan an empty text.
-fn why(alloc: Global, tests: u64, reason: &[u8]) -> Result<Text, NoMemory>
-    ensures { IfOk result (λ text. text ≡ why tests reason.now) }
+/// Returns the reason of a plan of `tests` tests.
+///
+/// A plan of no tests has the text of `reason`, or `No reason given` if `reason` is empty. The
+/// reason of any other plan is an empty text.
+fn plan_reason(alloc: Global, tests: u64, reason: &[u8]) -> Result<Text, NoMemory>
+    ensures { IfOk result (λ text. text ≡ plan_reason tests reason.now) }
 {
     if tests == 0 {
         skip_reason(alloc, reason)
@@ -67,8 +69,8 @@ impl Tally {
         }
     }
 
-    /// Returns the tally with a line that bails out.
-    fn with_bail(self) -> Tally
+    /// Returns the tally with one more line, which bails out.
+    fn with_bail_out(self) -> Tally
         ensures { result ≡ record self { bailed = true } }
     {
         Tally {
@@ -97,11 +99,12 @@ impl Tally {
         }
     }
 
-    /// Returns the tally with one more plan.
+    /// Returns the tally with one more plan, of `tests` tests and with the reason `reason`.
     ///
-    /// Of a second plan, the tally has only the fact that it exists.
+    /// The tally doesn't contain a second plan. It only has a flag that a second plan exists.
     fn with_plan(self, alloc: Global, tests: u64, reason: &[u8]) -> Result<Tally, NoMemory>
-        ensures { IfOk result (λ after. after ≡ with_plan self tests (why tests reason.now)) }
+        ensures { IfOk result (λ after. after ≡ with_plan self tests (plan_reason tests
+            reason.now)) }
     {
         if self.plan.is_some() {
             return Ok(Tally {
@@ -109,7 +112,7 @@ impl Tally {
                 ..self
             });
         }
-        let reason = why(alloc, tests, reason)?;
+        let reason = plan_reason(alloc, tests, reason)?;
         let plan = Some((tests, reason));
         Ok(Tally { plan, ..self })
     }
@@ -131,14 +134,14 @@ impl Tally {
         }
         match kind {
             LineKind::Other => Ok(self),
-            LineKind::Bail => Ok(self.with_bail()),
+            LineKind::Bail => Ok(self.with_bail_out()),
             LineKind::Test => Ok(self.with_test()),
             LineKind::Failure => Ok(self.with_test().with_failure()),
             LineKind::Plan(tests) => self.with_plan(alloc, tests, reason),
         }
     }
 
-    /// Returns the result of a TAP stream with the lines of the tally.
+    /// Returns the result of a TAP stream whose lines were all added to the tally.
     pub fn tap(self) -> Tap
         ensures { (lines : List (List ℕ)) → IsTally self lines → result ≡ tap_of_lines lines }
     {

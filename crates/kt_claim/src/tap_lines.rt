@@ -6,7 +6,7 @@ ghost use Rattle.kt_claim.specs.TapStream.{limit};
 
 use crate::Tap;
 use crate::begun::{LineProgress, OpenLine};
-use crate::line_parts::{ended, go_on, trimmed};
+use crate::line_parts::{feed_line, kind_at_end, without_trailing_blanks};
 use crate::tally::Tally;
 use kt_base::{NoMemory, line_length};
 use std::alloc::Global;
@@ -17,18 +17,23 @@ fn feed_part(line: &mut OpenLine, part: &[u8]) -> Result<(), NoMemory>
         → HasLines tally (state_of line.old) fed
         → HasLines tally (state_of line.new) (fed ++ part.now)) }
 {
-    go_on(line, part)?;
+    feed_line(line, part)?;
     Ok(())
 }
 
-/// Adds the open line of a TAP stream, whose newline was read, to the tally, and begins the next
-/// line.
+/// Returns `tally` with the open line `line` of a TAP stream, and begins the next line.
+///
+/// The newline of the open line was read.
 fn end_line(alloc: Global, tally: Tally, line: &mut OpenLine) -> Result<Tally, NoMemory>
     ensures { IfOk result (λ after. (fed : List ℕ) → length fed < limit
         → HasLines tally (state_of line.old) fed
         → HasLines after (state_of line.new) (fed ++ 10 ∷ [])) }
 {
-    let after = tally.add(alloc, ended(line.begun), trimmed(&line.kept))?;
+    let after = tally.add(
+        alloc,
+        kind_at_end(line.begun),
+        without_trailing_blanks(&line.kept),
+    )?;
     line.begun = LineProgress::Nothing;
     line.kept.clear();
     line.held = false;
@@ -37,7 +42,7 @@ fn end_line(alloc: Global, tally: Tally, line: &mut OpenLine) -> Result<Tally, N
 
 /// Returns the result of a TAP stream that has ended, of which `line` is the last line.
 ///
-/// `tally` has the counts of the lines before it.
+/// `tally` is the tally of the lines before `line`.
 ///
 /// # Errors
 ///
@@ -46,13 +51,19 @@ pub fn tap_at_end(alloc: Global, tally: Tally, line: &OpenLine) -> Result<Tap, N
     ensures { IfOk result (λ tap. (fed : List ℕ) → length fed ≤ limit
         → HasLines tally (state_of line.now) fed → tap ≡ tap_of_lines (lines_of fed)) }
 {
-    let tally = tally.add(alloc, ended(line.begun), trimmed(&line.kept))?;
+    let tally = tally.add(
+        alloc,
+        kind_at_end(line.begun),
+        without_trailing_blanks(&line.kept),
+    )?;
     Ok(tally.tap())
 }
 
-/// Reads the next piece of a TAP stream, and returns the tally with the lines that end in it.
+/// Reads `piece`, the next bytes of a TAP stream, and returns `tally` with the lines that end in
+/// `piece`.
 ///
-/// `line` is the open line before and after the piece.
+/// Before the call, `line` is the open line before the piece, and after the call, the open line
+/// after the piece.
 ///
 /// # Errors
 ///

@@ -16,7 +16,7 @@ const LIMIT: usize = 16_777_216;
 /// A reader of a TAP stream that is read in pieces.
 ///
 /// The reader keeps counts, the first plan and the state of the open line. It keeps no bytes of the
-/// stream, but for the reason of a plan of no tests.
+/// stream except the reason of a plan of no tests.
 #[derive(Drop)]
 pub struct TapReader {
     alloc: Global,
@@ -29,11 +29,11 @@ pub struct TapReader {
 
 impl Model for TapReader {
     ghost use Rattle.std.specs.Prelude.{◌≤◌, is_some};
-    ghost use Rattle.kt_claim.specs.StreamReading.{StreamReading};
+    ghost use Rattle.kt_claim.specs.TapReaderState.{TapReaderState};
     ghost use Rattle.kt_claim.specs.Inner.TapReading.{state_of};
     ghost use Rattle.kt_claim.specs.TapStream.{limit};
 
-    ghost Value = { StreamReading };
+    ghost Value = { TapReaderState };
 
     ghost view = { λ r. record {
       tally = r.tally;
@@ -68,7 +68,7 @@ impl TapReader {
         }
     }
 
-    /// Reads the next bytes of the TAP stream.
+    /// Reads `piece`, the next bytes of the TAP stream.
     ///
     /// If the stream has more than 16,777,216 bytes, its result is `Invalid(TooLong)`.
     ///
@@ -123,7 +123,8 @@ impl TapReader {
     }
 }
 
-/// Parses a whole TAP stream, and returns its result (the TAP specification, as in this profile).
+/// Parses `text`, a whole TAP stream, and returns its result (the TAP specification, as in this
+/// profile).
 ///
 /// # Errors
 ///

@@ -1,7 +1,7 @@
 -- The values of a file, or its only fault.
 use Rattle.std.proofs.Common.{Result, Ok, Err, IfOk, ◌≡◌, ℕ, List, [], ◌∷◌, ◌++◌, refl, sym, ap, ◌∙◌, subst, inl, inr, append-nil, append_assoc}
-use Rattle.kt_config.proofs.Common.{ScriptFault, Stmt, Spells, Definition, Values, Holds, Adds, AddsMeaning, Outcome, with_first, prepend_meaning, definition_in, definitions_in, outcome_of, IsDue, IsRead, IfFault, SucceedsWith, FailsWith, IsOutcome, fault_of_script}
-use Rattle.kt_script.specs.Spelling.{IsDue as IsScriptDue, Answers as ScriptAnswers, Refuses as ScriptRefuses}
+use Rattle.kt_config.proofs.Common.{ScriptFault, Stmt, Spells, Definition, Values, Holds, Adds, AddsDefinition, DefinitionsOrFault, with_first, combined_definitions, definition_in, definitions_in, definitions_of_file, HasFault, IsConfigFile, IfFault, SucceedsWith, FailsWith, MatchesDefinitions, fault_of_script}
+use Rattle.kt_script.specs.Spelling.{HasFault as HasScriptFault, ReturnsStatements as ScriptAnswers, ReturnsFault as ScriptRefuses}
 use Rattle.kt_config.specs.declared.fault.ConfigFault.{ConfigFault}
 use Rattle.kt_config.specs.declared.fault.ConfigFault.TheVariants.{NoMemory, UnknownVariable, BadValue, Script, NoSyntax, NotAssignment}
 use Rattle.kt_config.specs.Names.{DefinitionResult}
@@ -11,7 +11,7 @@ use Rattle.kt_script.proofs.OneAnswer.{two_spelled, not_both}
 -- ---- statement by statement
 
 -- `behind before outcome`: `outcome` with the definitions `before` prepended
-abbrev pub behind : List Definition → Outcome → Outcome
+abbrev pub behind : List Definition → DefinitionsOrFault → DefinitionsOrFault
 behind before (Ok definitions) = Ok (before ++ definitions)
 behind before (Err fault) = Err fault
 
@@ -22,14 +22,14 @@ pub record HasRead (config : Values) (stmts rest : List Stmt) : Type 0 where
   pub holds : Holds config before
   pub all : definitions_in stmts ≡ behind before (definitions_in rest)
 
-none_behind : (o : Outcome) → o ≡ behind [] o
+none_behind : (o : DefinitionsOrFault) → o ≡ behind [] o
 none_behind (Ok definitions) = refl
 none_behind (Err fault) = refl
 
 pub nothing_read : (config : Values) (stmts : List Stmt) → Holds config [] → HasRead config stmts stmts
 nothing_read config stmts h = record { before = []; holds = h; all = none_behind (definitions_in stmts) }
 
-first_behind : (before : List Definition) (d : Definition) (o : Outcome) → behind before (with_first d o) ≡ behind (before ++ d ∷ []) o
+first_behind : (before : List Definition) (d : Definition) (o : DefinitionsOrFault) → behind before (with_first d o) ≡ behind (before ++ d ∷ []) o
 first_behind before d (Ok ds) = ap (λ (xs : List Definition). Ok xs) (sym (append_assoc before (d ∷ []) ds))
 first_behind before d (Err fault) = refl
 
@@ -39,35 +39,35 @@ one_read config next stmts rest after stmt d r parts m adds = record {
   before = r.before ++ d ∷ [];
   holds = adds r.before r.holds;
   all = r.all ∙ ap (λ (ss : List Stmt). behind r.before (definitions_in ss)) parts
-      ∙ ap (λ (meaning : DefinitionResult). behind r.before (prepend_meaning meaning (definitions_in after))) (sym m)
+      ∙ ap (λ (meaning : DefinitionResult). behind r.before (combined_definitions meaning (definitions_in after))) (sym m)
       ∙ first_behind r.before d (definitions_in after);
 }
 
 next_by : (config next : Values) (stmts rest after : List Stmt) (stmt : Stmt) (m : DefinitionResult) → HasRead config stmts rest → rest ≡ stmt ∷ after
-    → m ≡ definition_in stmt.action → AddsMeaning config next m → HasRead next stmts after
+    → m ≡ definition_in stmt.action → AddsDefinition config next m → HasRead next stmts after
 next_by config next stmts rest after stmt (Ok d) r parts m adds = one_read config next stmts rest after stmt d r parts m adds
 next_by config next stmts rest after stmt (Err fault) r parts m adds = absurd adds
 
 -- `HasRead` is preserved by adding the definition of the next statement
 pub next_read : (config next : Values) (stmts rest after : List Stmt) (stmt : Stmt) → HasRead config stmts rest → rest ≡ stmt ∷ after
-    → AddsMeaning config next (definition_in stmt.action) → HasRead next stmts after
+    → AddsDefinition config next (definition_in stmt.action) → HasRead next stmts after
 next_read config next stmts rest after stmt r parts adds = next_by config next stmts rest after stmt (definition_in stmt.action) r parts refl adds
 
 -- the fault of the next statement is the fault of all statements
 pub fault_read : (config : Values) (stmts rest after : List Stmt) (stmt : Stmt) (fault : ConfigFault) → HasRead config stmts rest → rest ≡ stmt ∷ after
-    → definition_in stmt.action ≡ Err fault → IsOutcome (Err fault) (definitions_in stmts)
+    → definition_in stmt.action ≡ Err fault → MatchesDefinitions (Err fault) (definitions_in stmts)
 fault_read config stmts rest after stmt fault r parts m =
     let e : definitions_in stmts ≡ Err fault
     = r.all ∙ ap (λ (ss : List Stmt). behind r.before (definitions_in ss)) parts
-    ∙ ap (λ (meaning : DefinitionResult). behind r.before (prepend_meaning meaning (definitions_in after))) m in
-    subst (λ (o : Outcome). IsOutcome (Err fault) o) (sym e) refl
+    ∙ ap (λ (meaning : DefinitionResult). behind r.before (combined_definitions meaning (definitions_in after))) m in
+    subst (λ (o : DefinitionsOrFault). MatchesDefinitions (Err fault) o) (sym e) refl
 
 -- if no statement remains, the configuration has the values that all statements set
-pub all_read : (config : Values) (stmts rest : List Stmt) → HasRead config stmts rest → rest ≡ [] → IsOutcome (Ok config) (definitions_in stmts)
+pub all_read : (config : Values) (stmts rest : List Stmt) → HasRead config stmts rest → rest ≡ [] → MatchesDefinitions (Ok config) (definitions_in stmts)
 all_read config stmts rest r end =
     let e : definitions_in stmts ≡ Ok r.before
     = r.all ∙ ap (λ (ss : List Stmt). behind r.before (definitions_in ss)) end ∙ ap (λ (xs : List Definition). Ok xs) (append-nil r.before) in
-    subst (λ (o : Outcome). IsOutcome (Ok config) o) (sym e) r.holds
+    subst (λ (o : DefinitionsOrFault). MatchesDefinitions (Ok config) o) (sym e) r.holds
 
 -- ---- faults by their kinds
 
@@ -89,65 +89,65 @@ refuses_same NotAssignment fault e = e
 
 -- ---- a file that is a script
 
-same_err : {a b : ConfigFault} → a ≡ b → ◌≡◌ {A = Outcome} (Err a) (Err b)
+same_err : {a b : ConfigFault} → a ≡ b → ◌≡◌ {A = DefinitionsOrFault} (Err a) (Err b)
 same_err e = ap (λ (x : ConfigFault). Err x) e
 
 -- `definitions_or outcome d`: the definitions in `outcome`, or the definitions `d` if `outcome` is
 -- a fault
-abbrev definitions_or : Outcome → List Definition → List Definition
+abbrev definitions_or : DefinitionsOrFault → List Definition → List Definition
 definitions_or (Ok ds) d = ds
 definitions_or (Err fault) d = d
 
 -- `fault_or outcome d`: the fault in `outcome`, or the fault `d` if `outcome` has definitions
-abbrev fault_or : Outcome → ConfigFault → ConfigFault
+abbrev fault_or : DefinitionsOrFault → ConfigFault → ConfigFault
 fault_or (Ok ds) d = d
 fault_or (Err fault) d = fault
 
-ok_cases : (text : List ℕ) (stmts : List Stmt) (r : Result Values ConfigFault) (o : Outcome) → Spells text stmts → outcome_of stmts ≡ o → IsOutcome r o → IfOk r (λ config. IsRead text config)
+ok_cases : (text : List ℕ) (stmts : List Stmt) (r : Result Values ConfigFault) (o : DefinitionsOrFault) → Spells text stmts → definitions_of_file stmts ≡ o → MatchesDefinitions r o → IfOk r (λ config. IsConfigFile text config)
 ok_cases text stmts (Ok config) (Ok ds) s e g = (stmts, ds, s, e, g)
 ok_cases text stmts (Ok config) (Err fault) s e g = absurd g
 ok_cases text stmts (Err found) o s e g = tt
 
-only_cases : (r : Result Values ConfigFault) (o : Outcome) (ds : List Definition) → IsOutcome r o → o ≡ Ok ds → SucceedsWith r ds
-only_cases (Ok config) (Ok found) ds g e = subst (λ (xs : List Definition). Holds config xs) (ap (λ (x : Outcome). definitions_or x found) e) g
+only_cases : (r : Result Values ConfigFault) (o : DefinitionsOrFault) (ds : List Definition) → MatchesDefinitions r o → o ≡ Ok ds → SucceedsWith r ds
+only_cases (Ok config) (Ok found) ds g e = subst (λ (xs : List Definition). Holds config xs) (ap (λ (x : DefinitionsOrFault). definitions_or x found) e) g
 only_cases (Ok config) (Err fault) ds g e = absurd g
 only_cases (Err found) (Ok other) ds g e = absurd g
 only_cases (Err found) (Err fault) ds g e = absurd (cc)
 
-fault_cases : (text : List ℕ) (stmts : List Stmt) (r : Result Values ConfigFault) (o : Outcome) → Spells text stmts → outcome_of stmts ≡ o → IsOutcome r o → IfFault r (λ fault. IsDue text fault)
+fault_cases : (text : List ℕ) (stmts : List Stmt) (r : Result Values ConfigFault) (o : DefinitionsOrFault) → Spells text stmts → definitions_of_file stmts ≡ o → MatchesDefinitions r o → IfFault r (λ fault. HasFault text fault)
 fault_cases text stmts (Ok config) o s e g = tt
 fault_cases text stmts (Err found) (Ok ds) s e g = absurd g
 fault_cases text stmts (Err found) (Err fault) s e g =
-    fault_in found (λ x. IsDue text x) (inr (stmts, s, e ∙ same_err (sym g)))
+    fault_in found (λ x. HasFault text x) (inr (stmts, s, e ∙ same_err (sym g)))
 
-due_cases : (r : Result Values ConfigFault) (o : Outcome) (fault : ConfigFault) → IsOutcome r o → o ≡ Err fault → FailsWith r fault
+due_cases : (r : Result Values ConfigFault) (o : DefinitionsOrFault) (fault : ConfigFault) → MatchesDefinitions r o → o ≡ Err fault → FailsWith r fault
 due_cases (Ok config) (Ok ds) fault g e = absurd (cc)
 due_cases (Ok config) (Err other) fault g e = absurd g
 due_cases (Err found) (Ok ds) fault g e = absurd g
-due_cases (Err found) (Err other) fault g e = refuses_same found fault (g ∙ ap (λ (x : Outcome). fault_or x other) e)
+due_cases (Err found) (Err other) fault g e = refuses_same found fault (g ∙ ap (λ (x : DefinitionsOrFault). fault_or x other) e)
 
-pub right_ok : (text : List ℕ) (stmts : List Stmt) → Spells text stmts → (r : Result Values ConfigFault) → IsOutcome r (outcome_of stmts) → IfOk r (λ config. IsRead text config)
-right_ok text stmts s r g = ok_cases text stmts r (outcome_of stmts) s refl g
+pub right_ok : (text : List ℕ) (stmts : List Stmt) → Spells text stmts → (r : Result Values ConfigFault) → MatchesDefinitions r (definitions_of_file stmts) → IfOk r (λ config. IsConfigFile text config)
+right_ok text stmts s r g = ok_cases text stmts r (definitions_of_file stmts) s refl g
 
-pub right_only : (text : List ℕ) (stmts : List Stmt) → Spells text stmts → (r : Result Values ConfigFault) → IsOutcome r (outcome_of stmts)
-    → (others : List Stmt) → (ds : List Definition) → Spells text others → outcome_of others ≡ Ok ds → SucceedsWith r ds
-right_only text stmts s r g = λ others ds t o. only_cases r (outcome_of stmts) ds g (ap outcome_of (two_spelled text stmts others s t) ∙ o)
+pub right_only : (text : List ℕ) (stmts : List Stmt) → Spells text stmts → (r : Result Values ConfigFault) → MatchesDefinitions r (definitions_of_file stmts)
+    → (others : List Stmt) → (ds : List Definition) → Spells text others → definitions_of_file others ≡ Ok ds → SucceedsWith r ds
+right_only text stmts s r g = λ others ds t o. only_cases r (definitions_of_file stmts) ds g (ap definitions_of_file (two_spelled text stmts others s t) ∙ o)
 
-pub right_fault : (text : List ℕ) (stmts : List Stmt) → Spells text stmts → (r : Result Values ConfigFault) → IsOutcome r (outcome_of stmts) → IfFault r (λ fault. IsDue text fault)
-right_fault text stmts s r g = fault_cases text stmts r (outcome_of stmts) s refl g
+pub right_fault : (text : List ℕ) (stmts : List Stmt) → Spells text stmts → (r : Result Values ConfigFault) → MatchesDefinitions r (definitions_of_file stmts) → IfFault r (λ fault. HasFault text fault)
+right_fault text stmts s r g = fault_cases text stmts r (definitions_of_file stmts) s refl g
 
-pub right_due : (text : List ℕ) (stmts : List Stmt) → Spells text stmts → (r : Result Values ConfigFault) → IsOutcome r (outcome_of stmts) → (fault : ConfigFault) → IsDue text fault → FailsWith r fault
+pub right_due : (text : List ℕ) (stmts : List Stmt) → Spells text stmts → (r : Result Values ConfigFault) → MatchesDefinitions r (definitions_of_file stmts) → (fault : ConfigFault) → HasFault text fault → FailsWith r fault
 right_due text stmts s r g fault (inl d) = absurd (not_both text stmts d.0 s d.1)
-right_due text stmts s r g fault (inr d) = due_cases r (outcome_of stmts) fault g (ap outcome_of (two_spelled text stmts d.0 s d.1) ∙ d.2)
+right_due text stmts s r g fault (inr d) = due_cases r (definitions_of_file stmts) fault g (ap definitions_of_file (two_spelled text stmts d.0 s d.1) ∙ d.2)
 
 -- ---- a file that is not a script
 
-by_cause : (text : List ℕ) (cause : ScriptFault) (fault : ConfigFault) → ((f : ScriptFault) → IsScriptDue text f → cause ≡ f) → ((stmts : List Stmt) → Spells text stmts → ⊥) → IsDue text fault → Script cause ≡ fault
+by_cause : (text : List ℕ) (cause : ScriptFault) (fault : ConfigFault) → ((f : ScriptFault) → HasScriptFault text f → cause ≡ f) → ((stmts : List Stmt) → Spells text stmts → ⊥) → HasFault text fault → Script cause ≡ fault
 by_cause text cause fault due none (inl d) = ap Script (due d.0 d.1) ∙ sym d.2
 by_cause text cause fault due none (inr d) = absurd (none d.0 d.1)
 
-due_in : (text : List ℕ) (cause : ScriptFault) (fault : ConfigFault) → ((f : ScriptFault) → IsScriptDue text f → ScriptRefuses (Err cause) f)
-    → ((stmts : List Stmt) → Spells text stmts → ScriptAnswers (Err cause) stmts) → IsDue text fault → FailsWith {T = Values} (Err (fault_of_script cause)) fault
+due_in : (text : List ℕ) (cause : ScriptFault) (fault : ConfigFault) → ((f : ScriptFault) → HasScriptFault text f → ScriptRefuses (Err cause) f)
+    → ((stmts : List Stmt) → Spells text stmts → ScriptAnswers (Err cause) stmts) → HasFault text fault → FailsWith {T = Values} (Err (fault_of_script cause)) fault
 due_in text (script.NoMemory refusal) fault due none d = tt
 due_in text script.NotUtf8 fault due none d = by_cause text script.NotUtf8 fault due none d
 due_in text (script.BadToken line) fault due none d = by_cause text (script.BadToken line) fault due none d
@@ -155,8 +155,8 @@ due_in text (script.NotLiteral line) fault due none d = by_cause text (script.No
 due_in text (script.Unclosed line) fault due none d = by_cause text (script.Unclosed line) fault due none d
 due_in text script.TooLong fault due none d = by_cause text script.TooLong fault due none d
 
-pub script_due : (text : List ℕ) (cause : ScriptFault) (found : ConfigFault) → found ≡ fault_of_script cause → ((f : ScriptFault) → IsScriptDue text f → ScriptRefuses (Err cause) f)
-    → ((stmts : List Stmt) → Spells text stmts → ScriptAnswers (Err cause) stmts) → (fault : ConfigFault) → IsDue text fault → FailsWith {T = Values} (Err found) fault
+pub script_due : (text : List ℕ) (cause : ScriptFault) (found : ConfigFault) → found ≡ fault_of_script cause → ((f : ScriptFault) → HasScriptFault text f → ScriptRefuses (Err cause) f)
+    → ((stmts : List Stmt) → Spells text stmts → ScriptAnswers (Err cause) stmts) → (fault : ConfigFault) → HasFault text fault → FailsWith {T = Values} (Err found) fault
 script_due text cause found e due none fault d = subst (λ (x : ConfigFault). FailsWith {T = Values} (Err x) fault) (sym e) (due_in text cause fault due none d)
 
 only_in : (cause : ScriptFault) (stmts : List Stmt) (ds : List Definition) → ScriptAnswers (Err cause) stmts → SucceedsWith (Err (fault_of_script cause)) ds
@@ -169,5 +169,5 @@ only_in script.TooLong stmts ds a = absurd a
 
 pub script_only : (text : List ℕ) (cause : ScriptFault) (found : ConfigFault) → found ≡ fault_of_script cause
     → ((stmts : List Stmt) → Spells text stmts → ScriptAnswers (Err cause) stmts)
-    → (stmts : List Stmt) (ds : List Definition) → Spells text stmts → outcome_of stmts ≡ Ok ds → SucceedsWith (Err found) ds
+    → (stmts : List Stmt) (ds : List Definition) → Spells text stmts → definitions_of_file stmts ≡ Ok ds → SucceedsWith (Err found) ds
 script_only text cause found e none = λ stmts ds s o. subst (λ (f : ConfigFault). SucceedsWith (Err f) ds) (sym e) (only_in cause stmts ds (none stmts s))

@@ -1,7 +1,7 @@
 -- Last values that are updated in place.
 use Rattle.std.proofs.Common.{◌≡◌, ℕ, Bool, true, false, List, [], ◌∷◌, ◌++◌, refl, sym, ap, ◌∙◌, subst, Option, Some, None, if◌then◌else◌, unwrap_or}
-use Rattle.kt_config.proofs.Common.{bytes_eq, Variable, is_named, value_of, without, last_values, same, same-flip, or-none, or-some, value_of-append, last_values-without}
-use Rattle.kt_base.proofs.LastValueLaws.{first_of, overlaid, without-further, first-further, twice}
+use Rattle.kt_config.proofs.Common.{bytes_eq, Variable, is_named, value_of, pairs_without, last_values, same, same-flip, or-none, or-some, value_of-append, last_values-pairs_without}
+use Rattle.kt_base.proofs.LastValueLaws.{first_of, overlaid, pairs_without-further, first-further, twice}
 
 -- `put pairs pair`: `pairs` with `pair` in place of the first pair of its name, or appended if
 -- there is none
@@ -16,31 +16,31 @@ first_value name [] = None
 first_value name (first ∷ rest) = if is_named name first then Some first.value else first_value name rest
 
 -- `put` of a name and the removal of another name can be done in either order
-put-without-next : (n : List ℕ) (p y : Variable) (ys : List Variable) → bytes_eq n p.name ≡ false → put (without n ys) p ≡ without n (put ys p)
-    → (b d : Bool) → is_named p.name y ≡ b → is_named n y ≡ d → put (without n (y ∷ ys)) p ≡ without n (put (y ∷ ys) p)
-put-without-next n p y ys other h true true e f =
+put-pairs_without-next : (n : List ℕ) (p y : Variable) (ys : List Variable) → bytes_eq n p.name ≡ false → put (pairs_without n ys) p ≡ pairs_without n (put ys p)
+    → (b d : Bool) → is_named p.name y ≡ b → is_named n y ≡ d → put (pairs_without n (y ∷ ys)) p ≡ pairs_without n (put (y ∷ ys) p)
+put-pairs_without-next n p y ys other h true true e f =
     absurd (let g : bytes_eq n p.name ≡ true = subst (λ (m : List ℕ). bytes_eq n m ≡ true) (sym (same p.name y.name e)) f in cc)
-put-without-next n p y ys other h false true e f = rw (f, e, f) h
-put-without-next n p y ys other h true false e f = rw (f, e, f) refl
-put-without-next n p y ys other h false false e f = rw (f, e, f) (ap (λ (ps : List Variable). y ∷ ps) h)
+put-pairs_without-next n p y ys other h false true e f = rw (f, e, f) h
+put-pairs_without-next n p y ys other h true false e f = rw (f, e, f) refl
+put-pairs_without-next n p y ys other h false false e f = rw (f, e, f) (ap (λ (ps : List Variable). y ∷ ps) h)
 
-put-without : (n : List ℕ) (p : Variable) (ys : List Variable) → bytes_eq n p.name ≡ false → put (without n ys) p ≡ without n (put ys p)
-put-without n p [] other = rw other refl
-put-without n p (y ∷ ys) other = put-without-next n p y ys other (put-without n p ys other) (is_named p.name y) (is_named n y) refl refl
+put-pairs_without : (n : List ℕ) (p : Variable) (ys : List Variable) → bytes_eq n p.name ≡ false → put (pairs_without n ys) p ≡ pairs_without n (put ys p)
+put-pairs_without n p [] other = rw other refl
+put-pairs_without n p (y ∷ ys) other = put-pairs_without-next n p y ys other (put-pairs_without n p ys other) (is_named p.name y) (is_named n y) refl refl
 
 put-last-next : (x p : Variable) (xs : List Variable) → put (last_values xs) p ≡ last_values (xs ++ p ∷ [])
     → (b : Bool) → is_named p.name x ≡ b → put (last_values (x ∷ xs)) p ≡ last_values (x ∷ xs ++ p ∷ [])
 put-last-next x p xs h true e =
     let f : bytes_eq x.name p.name ≡ true = same-flip x.name p.name ∙ e in
     let value : value_of x.name (xs ++ p ∷ []) ≡ Some p.value = value_of-append x.name xs (p ∷ []) ∙ rw f refl in
-    let tail : without x.name (last_values (xs ++ p ∷ [])) ≡ without x.name (last_values xs)
-    = sym (last_values-without x.name (xs ++ p ∷ [])) ∙ ap last_values (without-further x.name xs p f) ∙ last_values-without x.name xs in
+    let tail : pairs_without x.name (last_values (xs ++ p ∷ [])) ≡ pairs_without x.name (last_values xs)
+    = sym (last_values-pairs_without x.name (xs ++ p ∷ [])) ∙ ap last_values (pairs_without-further x.name xs p f) ∙ last_values-pairs_without x.name xs in
     rw (e, value, tail) refl
 put-last-next x p xs h false e =
     let f : bytes_eq x.name p.name ≡ false = same-flip x.name p.name ∙ e in
-    let tail : put (without x.name (last_values xs)) p ≡ without x.name (last_values (xs ++ p ∷ []))
-    = put-without x.name p (last_values xs) f ∙ ap (without x.name) h in
-    rw e (ap (λ (ps : List Variable). first_of x xs ∷ ps) tail ∙ ap (λ (v : Variable). v ∷ without x.name (last_values (xs ++ p ∷ []))) (sym (first-further x p xs f)))
+    let tail : put (pairs_without x.name (last_values xs)) p ≡ pairs_without x.name (last_values (xs ++ p ∷ []))
+    = put-pairs_without x.name p (last_values xs) f ∙ ap (pairs_without x.name) h in
+    rw e (ap (λ (ps : List Variable). first_of x xs ∷ ps) tail ∙ ap (λ (v : Variable). v ∷ pairs_without x.name (last_values (xs ++ p ∷ []))) (sym (first-further x p xs f)))
 
 -- `put` into the last values of a list gives the last values of the list with the pair appended
 put-last : (xs : List Variable) (p : Variable) → put (last_values xs) p ≡ last_values (xs ++ p ∷ [])
@@ -61,13 +61,13 @@ pub put-twice : (xs : List Variable) (p : Variable) → last_values (last_values
 put-twice xs p = overlaid xs (p ∷ [])
 
 -- in a list of last values, the first value of a name is its only value
-first-other-next : (m n : List ℕ) (y : Variable) (ys : List Variable) → bytes_eq m n ≡ false → first_value m (without n ys) ≡ first_value m ys
-    → (d : Bool) → is_named n y ≡ d → first_value m (without n (y ∷ ys)) ≡ first_value m (y ∷ ys)
+first-other-next : (m n : List ℕ) (y : Variable) (ys : List Variable) → bytes_eq m n ≡ false → first_value m (pairs_without n ys) ≡ first_value m ys
+    → (d : Bool) → is_named n y ≡ d → first_value m (pairs_without n (y ∷ ys)) ≡ first_value m (y ∷ ys)
 first-other-next m n y ys other h true f =
     let g : is_named m y ≡ false = subst (λ (k : List ℕ). bytes_eq m k ≡ false) (same n y.name f) other in rw (f, g) h
 first-other-next m n y ys other h false f = rw f (ap (λ (o : Option (List ℕ)). if is_named m y then Some y.value else o) h)
 
-first-other : (m n : List ℕ) (ys : List Variable) → bytes_eq m n ≡ false → first_value m (without n ys) ≡ first_value m ys
+first-other : (m n : List ℕ) (ys : List Variable) → bytes_eq m n ≡ false → first_value m (pairs_without n ys) ≡ first_value m ys
 first-other m n [] other = refl
 first-other m n (y ∷ ys) other = first-other-next m n y ys other (first-other m n ys other) (is_named n y) refl
 

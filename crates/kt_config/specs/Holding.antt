@@ -34,8 +34,8 @@ parallelism_in (Parallelism width) = Some width
 parallelism_in UnprivilegedUser = None
 parallelism_in (SuiteVariable suite variable) = None
 
--- `variable_for suite definition`: a list of the variable that `definition` sets in the test suite
--- `suite`. It is empty if `definition` sets none there.
+-- `variable_for suite definition`: a list with the variable that `definition` sets in the test
+-- suite `suite`. It is empty if `definition` sets no variable of this suite.
 abbrev pub variable_for : List ℕ → Definition → List Variable
 variable_for suite (Architecture value) = []
 variable_for suite (Platform value) = []
@@ -43,8 +43,9 @@ variable_for suite (Parallelism width) = []
 variable_for suite UnprivilegedUser = []
 variable_for suite (SuiteVariable owner variable) = if bytes_eq suite owner then variable ∷ [] else []
 
--- `last_value_by given definitions`: the value that the function `given` returns for the last of
--- `definitions` for which it returns one. Nothing if there is no such definition.
+-- `last_value_by given definitions`: the last of the values that the function `given` returns for
+-- the definitions `definitions`, in their order. Nothing if `given` returns a value for none of
+-- them.
 abbrev pub last_value_by : {A : Type 0} → (Definition → Option A) → List Definition → Option A
 last_value_by given [] = None
 last_value_by given (definition ∷ definitions) = option_or (last_value_by given definitions) (given definition)
@@ -61,7 +62,8 @@ non_empty_list [] = None
 non_empty_list (variable ∷ variables) = Some (variable ∷ variables)
 
 -- `Holds config definitions`: the values `config` are those that `definitions` set: each variable
--- has its last value. A suite's variables occur once, in the order of their first definitions.
+-- has its last value. Each variable of a suite occurs once. A suite's variables are in the order of
+-- their first definitions.
 pub record Holds (config : Values) (definitions : List Definition) : Type 0 where
   pub architecture : config.architecture ≡ last_value_by architecture_in definitions
   pub platform : config.platform ≡ last_value_by platform_in definitions

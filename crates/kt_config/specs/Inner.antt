@@ -10,7 +10,7 @@ use Rattle.kt_config.specs.declared.fault.ConfigFault.{ConfigFault}
 use Rattle.kt_config.specs.declared.fault.ConfigFault.TheVariants.{NoMemory, Script}
 use Rattle.kt_config.specs.Values.{SuiteValues, Values, variables_of}
 use Rattle.kt_config.specs.Holding.{Holds}
-use Rattle.kt_config.specs.Reading.{Outcome}
+use Rattle.kt_config.specs.Reading.{DefinitionsOrFault}
 
 -- `SetsSuiteVariable suite variable old new`: the list of suites `new` is the list `old` with the
 -- variable `variable` set in the suite `suite`. The variables of other suites are unchanged.
@@ -18,16 +18,17 @@ pub record SetsSuiteVariable (suite : List ℕ) (variable : Variable) (old new :
   pub own : variables_of suite new ≡ Some (last_values (unwrap_or (variables_of suite old) [] ++ variable ∷ []))
   pub others : (other : List ℕ) → bytes_eq other suite ≡ false → variables_of other new ≡ variables_of other old
 
--- `IsOutcome result outcome`: `result` corresponds to `outcome`, the outcome of a file: both are
--- the same fault, or `result` has the values of the definitions in `outcome`.
-abbrev pub IsOutcome : Result Values ConfigFault → Outcome → Type 0
-IsOutcome (Ok config) (Ok definitions) = Holds config definitions
-IsOutcome (Ok config) (Err fault) = ⊥
-IsOutcome (Err found) (Ok definitions) = ⊥
-IsOutcome (Err found) (Err fault) = found ≡ fault
+-- `MatchesDefinitions result outcome`: `result` corresponds to `outcome`, the definitions of a file
+-- or its first fault. Both are the same fault, or `result` has the values that these definitions
+-- set.
+abbrev pub MatchesDefinitions : Result Values ConfigFault → DefinitionsOrFault → Type 0
+MatchesDefinitions (Ok config) (Ok definitions) = Holds config definitions
+MatchesDefinitions (Ok config) (Err fault) = ⊥
+MatchesDefinitions (Err found) (Ok definitions) = ⊥
+MatchesDefinitions (Err found) (Err fault) = found ≡ fault
 
--- `fault_of_script fault`: the fault of a configuration file that is not a script, because of the
--- script's fault `fault`. A failed allocation remains `NoMemory`.
+-- `fault_of_script fault`: the fault of a configuration file whose fault as a script is `fault`. A
+-- failed allocation remains `NoMemory`.
 abbrev pub fault_of_script : ScriptFault → ConfigFault
 fault_of_script (script.NoMemory refusal) = NoMemory refusal
 fault_of_script script.NotUtf8 = Script script.NotUtf8
@@ -36,7 +37,7 @@ fault_of_script (script.NotLiteral line) = Script (script.NotLiteral line)
 fault_of_script (script.Unclosed line) = Script (script.Unclosed line)
 fault_of_script script.TooLong = Script script.TooLong
 
--- `suite_in entry`: the suite that the map entry `entry` represents: its name is the key, and its
--- variables are the value.
+-- `suite_in entry`: the suite that the map entry `entry` represents: the key is the name of the
+-- suite, and the value is the list of its variables.
 abbrev pub suite_in : {Z : Type 0} → String Z × List Variable → SuiteValues
 suite_in entry = record { suite = chars (string_bytes entry.0); variables = entry.1 }

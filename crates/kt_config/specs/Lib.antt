@@ -1,5 +1,5 @@
 pub mod Common
-pub mod FaultWords
+pub mod FaultMessages
 pub mod Forms
 pub mod Names
 pub mod Values

@@ -8,7 +8,7 @@ use Rattle.kt_script.specs.declared.syntax.Arg.TheVariants.{Value, Table}
 use Rattle.kt_script.specs.declared.syntax.Stmt.{Stmt}
 use Rattle.kt_script.specs.declared.syntax.Literal.TheVariants.{Text, Number, Truth}
 use Rattle.kt_script.specs.LiteralText.{text_of}
-use Rattle.kt_script.specs.Spelling.{Spells, IsDue as IsScriptDue}
+use Rattle.kt_script.specs.Spelling.{Spells, HasFault as HasScriptFault}
 use Rattle.kt_config.specs.declared.meaning.Definition.{Definition}
 use Rattle.kt_config.specs.declared.fault.ConfigFault.{ConfigFault}
 use Rattle.kt_config.specs.declared.fault.ConfigFault.TheVariants.{NoMemory, NotAssignment, NoSyntax, Script}
@@ -34,50 +34,51 @@ abbrev pub definition_in : Action → DefinitionResult
 definition_in (Call name arg) = Err NotAssignment
 definition_in (Assign parts value) = definition_of parts (text_of value)
 
--- `Outcome`: the definitions of a file in order, or its first fault.
-abbrev pub Outcome : Type 0
-Outcome = Result (List Definition) ConfigFault
+-- `DefinitionsOrFault`: the definitions of a file in order, or the first fault of the file.
+abbrev pub DefinitionsOrFault : Type 0
+DefinitionsOrFault = Result (List Definition) ConfigFault
 
--- `with_first definition outcome`: the outcome `outcome` with `definition` prepended to its
--- definitions. A fault is unchanged.
-abbrev pub with_first : Definition → Outcome → Outcome
+-- `with_first definition outcome`: the definitions in `outcome` with `definition` prepended. A
+-- fault in `outcome` is unchanged.
+abbrev pub with_first : Definition → DefinitionsOrFault → DefinitionsOrFault
 with_first definition (Ok definitions) = Ok (definition ∷ definitions)
 with_first definition (Err fault) = Err fault
 
--- `prepend_meaning meaning rest`: the outcome of several statements: `meaning` is the definition or
--- fault of the first, and `rest` is the outcome of the others. The first statement's fault precedes
--- a fault of the others.
-abbrev pub prepend_meaning : DefinitionResult → Outcome → Outcome
-prepend_meaning (Ok definition) rest = with_first definition rest
-prepend_meaning (Err fault) rest = Err fault
+-- `combined_definitions meaning rest`: the definitions of several statements, or their first fault.
+-- `meaning` is the definition or the fault of the first statement. `rest` are the definitions or
+-- the first fault of the other statements.
+abbrev pub combined_definitions : DefinitionResult → DefinitionsOrFault → DefinitionsOrFault
+combined_definitions (Ok definition) rest = with_first definition rest
+combined_definitions (Err fault) rest = Err fault
 
--- `definitions_in stmts`: the outcome of the statements `stmts`, which follow the first statement
--- of a file: their definitions, or their first fault.
-abbrev pub definitions_in : List Stmt → Outcome
+-- `definitions_in stmts`: the definitions of the statements `stmts`, which follow the first
+-- statement of a file, or their first fault.
+abbrev pub definitions_in : List Stmt → DefinitionsOrFault
 definitions_in [] = Ok []
-definitions_in (stmt ∷ stmts) = prepend_meaning (definition_in stmt.action) (definitions_in stmts)
+definitions_in (stmt ∷ stmts) = combined_definitions (definition_in stmt.action) (definitions_in stmts)
 
--- `outcome_of stmts`: the outcome of a file with the statements `stmts`: its definitions, or its
--- first fault. The first statement must be `syntax(2)`.
-abbrev pub outcome_of : List Stmt → Outcome
-outcome_of [] = Err NoSyntax
-outcome_of (stmt ∷ stmts) = if is_syntax_call stmt.action then definitions_in stmts else Err NoSyntax
+-- `definitions_of_file stmts`: the definitions of a file with the statements `stmts`, or its first
+-- fault. The first statement must be `syntax(2)`.
+abbrev pub definitions_of_file : List Stmt → DefinitionsOrFault
+definitions_of_file [] = Err NoSyntax
+definitions_of_file (stmt ∷ stmts) = if is_syntax_call stmt.action then definitions_in stmts else Err NoSyntax
 
--- `IsDue text fault`: the bytes `text` are not a configuration file, because of `fault`: the fault
--- that `text` has as a script, or the first fault of its statements.
-abbrev pub IsDue : List ℕ → ConfigFault → Type 0
-IsDue text fault =
-    ((cause : ScriptFault) × IsScriptDue text cause × (fault ≡ Script cause))
-    ⊎ ((stmts : List Stmt) × Spells text stmts × (outcome_of stmts ≡ Err fault))
+-- `HasFault text fault`: the bytes `text` are not a configuration file, and `fault` is their fault.
+-- `fault` is that of `text` as a script, or the first fault of its statements.
+abbrev pub HasFault : List ℕ → ConfigFault → Type 0
+HasFault text fault =
+    ((cause : ScriptFault) × HasScriptFault text cause × (fault ≡ Script cause))
+    ⊎ ((stmts : List Stmt) × Spells text stmts × (definitions_of_file stmts ≡ Err fault))
 
--- `IsRead text config`: the bytes `text` are a configuration file, which sets the values `config`.
-abbrev pub IsRead : List ℕ → Values → Type 0
-IsRead text config =
+-- `IsConfigFile text config`: the bytes `text` are a configuration file, which sets the values
+-- `config`.
+abbrev pub IsConfigFile : List ℕ → Values → Type 0
+IsConfigFile text config =
     (stmts : List Stmt) × (definitions : List Definition)
-    × Spells text stmts × (outcome_of stmts ≡ Ok definitions) × Holds config definitions
+    × Spells text stmts × (definitions_of_file stmts ≡ Ok definitions) × Holds config definitions
 
--- `IfFault result P`: if `result` is a fault and not a failed allocation, the fault has the
--- property `P`.
+-- `IfFault result P`: if `result` is a fault and not a failed allocation, the fault satisfies the
+-- predicate `P`.
 abbrev pub IfFault : {T : Type 0} → Result T ConfigFault → (ConfigFault → Type 0) → Type 0
 IfFault (Ok x) P = Unit {0}
 IfFault (Err (NoMemory refusal)) P = Unit {0}
@@ -97,8 +98,8 @@ FailsWith (Ok x) fault = ⊥
 FailsWith (Err (NoMemory refusal)) fault = Unit {0}
 FailsWith (Err found) fault = found ≡ fault
 
--- `AddsMeaning old new meaning`: `meaning` is a definition and not a fault, and the values `new`
+-- `AddsDefinition old new meaning`: `meaning` is a definition and not a fault, and the values `new`
 -- are the values `old` after that definition.
-abbrev pub AddsMeaning : Values → Values → DefinitionResult → Type 0
-AddsMeaning old new (Ok definition) = Adds definition old new
-AddsMeaning old new (Err fault) = ⊥
+abbrev pub AddsDefinition : Values → Values → DefinitionResult → Type 0
+AddsDefinition old new (Ok definition) = Adds definition old new
+AddsDefinition old new (Err fault) = ⊥

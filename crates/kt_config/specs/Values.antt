@@ -5,13 +5,13 @@ use Rattle.std.specs.declared.string.String.{String}
 use Rattle.kt_base.specs.declared.variable.Variable.{Variable}
 use Rattle.kt_base.specs.LastValues.{last_values}
 
--- `SuiteValues`: a test suite: its name and its variables.
+-- `SuiteValues`: a test suite in a configuration: its name and its variables.
 pub record SuiteValues : Type 0 where
   pub suite : List ℕ
   pub variables : List Variable
 
 -- `Values`: the values of a configuration: those of the runner's variables, and the suites that
--- have variables. An architecture or platform that is not defined is nothing.
+-- have variables. The architecture or the platform is absent if it is not defined.
 pub record Values : Type 0 where
   pub architecture : Option (List ℕ)
   pub platform : Option (List ℕ)
@@ -24,8 +24,8 @@ abbrev pub variables_of : List ℕ → List SuiteValues → Option (List Variabl
 variables_of suite [] = None
 variables_of suite (group ∷ groups) = if bytes_eq suite group.suite then Some group.variables else variables_of suite groups
 
--- `variable_in entry`: the variable that the map entry `entry` represents: its name is the key, and
--- its value is the entry's value.
+-- `variable_in entry`: the variable that the map entry `entry` represents: the key is the
+-- variable's name, and the value is the variable's value.
 abbrev pub variable_in : {Z : Type 0} → String Z × List ℕ → Variable
 variable_in entry = record { name = chars (string_bytes entry.0); value = entry.1 }
 

@@ -1,5 +1,5 @@
 ghost use Rattle.std.specs.Prelude.{◌≡◌, ◌≤◌, [], OnOk, OnErr, Ok, Err, unwrap_or, codes, chars};
-ghost use Rattle.kt_config.specs.Common.{option_copied, Definition, ConfigFault, largest_width, definition_named, Values, variables_of, Holds, Adds, IfFault, AddsMeaning};
+ghost use Rattle.kt_config.specs.Common.{option_copied, Definition, ConfigFault, largest_width, definition_named, Values, variables_of, Holds, Adds, IfFault, AddsDefinition};
 
 use crate::meaning::{Definition, definition_of};
 use crate::suites::Suites;
@@ -11,8 +11,8 @@ use std::marker::Model;
 
 /// A configuration: the variables of the runner and of test suites (kyua.conf(5)).
 ///
-/// Each variable has the value of its last definition. In contracts, a `Config` is its values, and
-/// `Holds` relates the values to the definitions.
+/// Each variable has the value of its last definition. In contracts, a `Config` is the record of
+/// these values. `Holds` relates the values to the definitions.
 pub struct Config {
     alloc: Global,
     /// The last value of `architecture`, which is not empty, or `None` if it is not defined.
@@ -21,7 +21,7 @@ pub struct Config {
     platform: Option<Text>,
     /// The maximum number of test cases that run at the same time.
     parallelism: Width,
-    /// The variables of test suites.
+    /// The variables of the test suites.
     suites: Suites,
 }
 
@@ -63,7 +63,10 @@ impl Config {
         }
     }
 
-    /// Sets the variable of `definition` to its value, in place of an earlier value.
+    /// Sets the variable of `definition` to the value in `definition`, in place of an earlier
+    /// value.
+    ///
+    /// A definition of `unprivileged_user` has no effect.
     ///
     /// # Errors
     ///
@@ -135,7 +138,9 @@ impl Config {
 
     /// Sets the variable `name` to `value`, as the option `--variable` does (kyua(1)).
     ///
-    /// Dots separate the parts of `name`.
+    /// The variable `unprivileged_user` has no effect.
+    ///
+    /// Dots separate the parts of `name`, as in `test_suites.SUITE.NAME`.
     ///
     /// # Errors
     ///
@@ -145,7 +150,8 @@ impl Config {
     /// - `BadValue`: the variable does not accept `value`.
     /// - `NoMemory`: an allocation fails.
     pub fn set(&mut self, name: &Text, value: &Text) -> Result<(), ConfigFault>
-        ensures ok { OnOk result (AddsMeaning self.old self.new (definition_named name.now value.now)) }
+        ensures ok { OnOk result (AddsDefinition self.old self.new (definition_named name.now
+            value.now)) }
         ensures refused { IfFault result (λ fault.
             definition_named name.now value.now ≡ Err fault) }
         ensures err { OnErr result (self.new ≡ self.old) }

@@ -7,7 +7,7 @@ use thiserror::Error;
 
 /// Errors returned by [`Config::read`](crate::Config) and [`Config::set`](crate::Config).
 #[derive(Clone, Copy, Debug, Error)]
-#[error("{}", self.words())]
+#[error("{}", self.message())]
 pub enum ConfigFault {
     /// An allocation failed.
     NoMemory(NoMemory),
@@ -15,28 +15,29 @@ pub enum ConfigFault {
     UnknownVariable,
     /// The variable does not accept the value.
     BadValue,
-    /// The file is not a script.
+    /// The file is not in the literal profile of Lua, or is too long. The field is the parser's
+    /// error.
     Script(ScriptFault),
-    /// The first statement of the file is missing or is not `syntax(2)`.
+    /// The file has no statement, or its first statement is not `syntax(2)`.
     NoSyntax,
     /// A statement after `syntax(2)` is not an assignment.
     NotAssignment,
 }
 
 impl ConfigFault {
-    ghost use Rattle.kt_config.specs.FaultWords.{config_message};
+    ghost use Rattle.kt_config.specs.FaultMessages.{config_message};
 
     /// Returns the message of the fault, without a line number (this profile).
     ///
     /// `Display` prints this message.
-    pub fn words(&self) -> &'static str
+    pub fn message(&self) -> &'static str
         ensures { result.now ≡ config_message self.now }
     {
         match self {
             ConfigFault::NoMemory(_) => OUT_OF_MEMORY,
             ConfigFault::UnknownVariable => "unknown variable",
             ConfigFault::BadValue => "bad value",
-            ConfigFault::Script(fault) => fault.words(),
+            ConfigFault::Script(fault) => fault.message(),
             ConfigFault::NoSyntax => "syntax(2) expected",
             ConfigFault::NotAssignment => "not an assignment",
         }

@@ -1,12 +1,12 @@
 ghost use Rattle.std.specs.Prelude.{◌≡◌, IfOk};
-ghost use Rattle.kt_config.specs.Names.{checked_definition, width_definition, runner_definition, is_suite_variable, suite_definition, definition_of};
+ghost use Rattle.kt_config.specs.Names.{non_empty_definition, width_definition, runner_definition, is_suite_variable, suite_definition, definition_of};
 
 use crate::ConfigFault;
 use crate::width::Width;
-use crate::words::{has_zero, is_variable_name};
+use crate::words::{has_zero_byte, is_variable_name};
 use kt_base::{NoMemory, Text, Variable};
 
-/// A definition of a configuration: a variable with its new value.
+/// A definition in a configuration: a variable with its new value.
 #[derive(Drop)]
 pub enum Definition {
     /// The architecture of the host, a text that is not empty.
@@ -19,15 +19,16 @@ pub enum Definition {
     ///
     /// The value has no effect, because this profile runs each test as the user of the runner.
     UnprivilegedUser,
-    /// A variable of the test suite with this name, and its value.
+    /// A variable of a test suite. The fields are the name of the suite, and the variable with its
+    /// value.
     SuiteVariable(Text, Variable),
 }
 
 /// Returns `definition`, or the fault `BadValue` if `empty` is `true`.
 ///
 /// The caller passes `true` if the value of the definition is empty.
-fn checked_definition(empty: bool, definition: Definition) -> Result<Definition, ConfigFault>
-    ensures { result ≡ checked_definition empty definition }
+fn non_empty_definition(empty: bool, definition: Definition) -> Result<Definition, ConfigFault>
+    ensures { result ≡ non_empty_definition empty definition }
 {
     if empty {
         return Err(ConfigFault::BadValue);
@@ -55,11 +56,11 @@ fn runner_definition(name: &Text, value: Text) -> Result<Definition, ConfigFault
 {
     let empty = value.is_empty();
     if name.is_word("architecture") {
-        checked_definition(empty, Definition::Architecture(value))
+        non_empty_definition(empty, Definition::Architecture(value))
     } else if name.is_word("platform") {
-        checked_definition(empty, Definition::Platform(value))
+        non_empty_definition(empty, Definition::Platform(value))
     } else if name.is_word("unprivileged_user") {
-        checked_definition(empty, Definition::UnprivilegedUser)
+        non_empty_definition(empty, Definition::UnprivilegedUser)
     } else if name.is_word("parallelism") {
         width_definition(Width::from_text(&value))
     } else {
@@ -67,9 +68,11 @@ fn runner_definition(name: &Text, value: Text) -> Result<Definition, ConfigFault
     }
 }
 
-/// Returns `true` if `root`, `suite` and `name` are the parts of `test_suites.SUITE.NAME`.
+/// Returns `true` if a name with the parts `root`, `suite` and `name` is that of a suite's
+/// variable.
 ///
-/// `SUITE` must not be empty, and `NAME` must be the name of a variable.
+/// Such a name is `test_suites.SUITE.NAME`. `SUITE` is not empty, and `NAME` consists of one or
+/// more ASCII letters, digits, `_` and `-`.
 #[tactic(auto, unfolding(crate::proofs::Common::chars))]
 fn is_suite_variable(root: &Text, suite: &Text, name: &Text) -> bool
     ensures { result ≡ is_suite_variable root.now suite.now name.now }
@@ -99,7 +102,7 @@ fn suite_definition(
     if !is_suite_variable(root, suite, name) {
         return Ok(Err(ConfigFault::UnknownVariable));
     }
-    if has_zero(&value) {
+    if has_zero_byte(&value) {
         return Ok(Err(ConfigFault::BadValue));
     }
     let suite = suite.copy()?;
@@ -107,7 +110,8 @@ fn suite_definition(
     Ok(Ok(Definition::SuiteVariable(suite, Variable { name, value })))
 }
 
-/// Returns the definition that sets the variable whose name has the parts `parts` to `value`.
+/// Returns the definition that sets a variable to `value`. `parts` are the parts of the variable's
+/// name.
 ///
 /// Returns `UnknownVariable` if no variable has this name, or `BadValue` if the variable does not
 /// accept `value`.

@@ -1,5 +1,5 @@
 ghost use Rattle.std.specs.Prelude.{◌≡◌, IfOk, Err, MatchOption, List, Ok};
-ghost use Rattle.kt_config.specs.Common.{is_syntax_version, is_syntax_call, definition_in, definitions_in, outcome_of, fault_of_script, AddsMeaning, IsOutcome, Spells, Stmt, Definition, ConfigFault, IsDue, IsRead, IfFault, SucceedsWith, FailsWith};
+ghost use Rattle.kt_config.specs.Common.{is_syntax_version, is_syntax_call, definition_in, definitions_in, definitions_of_file, fault_of_script, AddsDefinition, MatchesDefinitions, Spells, Stmt, Definition, ConfigFault, HasFault, IsConfigFile, IfFault, SucceedsWith, FailsWith};
 
 use crate::meaning::{Definition, definition_of};
 use crate::{Config, ConfigFault};
@@ -7,7 +7,9 @@ use kt_base::NoMemory;
 use kt_script::{Action, Arg, Literal, ScriptFault, Stmt, parse};
 use std::alloc::Global;
 
-/// Converts `fault`, the fault of a script, to the fault of a configuration file.
+/// Returns the fault of a configuration file whose fault as a script is `fault`.
+///
+/// A failed allocation remains `NoMemory`.
 pub fn script_fault(fault: ScriptFault) -> ConfigFault
     ensures { result ≡ fault_of_script fault }
 {
@@ -37,10 +39,10 @@ fn is_syntax_call(action: &Action) -> bool
     }
 }
 
-/// Returns the definition in a statement with the action `action`.
+/// Returns the definition in a statement with the action `action`, or the fault of the statement.
 ///
-/// The statement is not the first of a file. Returns a fault if the statement is a call, if no
-/// variable has its name, or if the variable does not accept its value.
+/// The statement is not the first of a file. It has a fault if it is a call, if it assigns to an
+/// unknown variable, or if the variable does not accept the value.
 fn definition_in(
     alloc: Global,
     action: &Action,
@@ -55,15 +57,15 @@ fn definition_in(
 
 /// Adds the definition in a statement with the action `action` to `config`.
 ///
-/// Returns the fault of the statement, or `None` without a fault. On a fault, `config` is
+/// Returns the fault of the statement, or `None` if it has no fault. On a fault, `config` is
 /// unchanged.
-fn read_statement(
+fn apply_statement(
     alloc: Global,
     config: &mut Config,
     action: &Action,
 ) -> Result<Option<ConfigFault>, NoMemory>
     ensures { IfOk result (λ fault.
-        MatchOption fault (AddsMeaning config.old config.new (definition_in action.now))
+        MatchOption fault (AddsDefinition config.old config.new (definition_in action.now))
         (λ cause. definition_in action.now ≡ Err cause)) }
 {
     match definition_in(alloc, action)? {
@@ -75,15 +77,15 @@ fn read_statement(
     }
 }
 
-/// Creates a configuration from the statements `stmts`, or returns their first fault.
+/// Creates a configuration from the statements `stmts`, or returns the first fault among them.
 ///
-/// `stmts` are the statements of a file after `syntax(2)`.
+/// `stmts` are the statements after `syntax(2)` in a file.
 fn read_statements(alloc: Global, stmts: &[Stmt]) -> Result<Result<Config, ConfigFault>, NoMemory>
-    ensures { IfOk result (λ outcome. IsOutcome outcome (definitions_in stmts.now)) }
+    ensures { IfOk result (λ outcome. MatchesDefinitions outcome (definitions_in stmts.now)) }
 {
     let mut config = Config::new(alloc);
     for stmt in stmts {
-        match read_statement(alloc, &mut config, &stmt.action)? {
+        match apply_statement(alloc, &mut config, &stmt.action)? {
             Some(fault) => return Ok(Err(fault)),
             None => {}
         }
@@ -91,15 +93,15 @@ fn read_statements(alloc: Global, stmts: &[Stmt]) -> Result<Result<Config, Confi
     Ok(Ok(config))
 }
 
-/// Creates a configuration from the script `stmts`, or returns its first fault.
+/// Creates a configuration from `stmts`, the statements of a file, or returns their first fault.
 ///
-/// The first statement must be `syntax(2)`.
+/// The fault is `NoSyntax` if there is no statement, or if the first statement is not `syntax(2)`.
 ///
 /// # Errors
 ///
 /// - `NoMemory`: an allocation fails.
 pub fn read_script(alloc: Global, stmts: &[Stmt]) -> Result<Result<Config, ConfigFault>, NoMemory>
-    ensures { IfOk result (λ outcome. IsOutcome outcome (outcome_of stmts.now)) }
+    ensures { IfOk result (λ outcome. MatchesDefinitions outcome (definitions_of_file stmts.now)) }
 {
     match stmts.split_first() {
         None => Ok(Err(ConfigFault::NoSyntax)),
@@ -120,21 +122,21 @@ impl Config {
     /// The fault of the script comes first, then the fault of the first faulty statement.
     ///
     /// - `Script`: `text` is not a script of literals.
-    /// - `NoSyntax`: the first statement is missing or is not `syntax(2)`.
+    /// - `NoSyntax`: there is no statement, or the first statement is not `syntax(2)`.
     /// - `NotAssignment`: a statement after `syntax(2)` is a call.
     /// - `UnknownVariable`: an assignment does not name a variable.
     /// - `BadValue`: a variable does not accept its value.
     /// - `NoMemory`: an allocation fails.
     pub fn read(alloc: Global, text: &[u8]) -> Result<Config, ConfigFault>
         // On success, the text is a configuration file with the returned values.
-        ensures accepted { IfOk result (λ config. IsRead text.now config) }
+        ensures accepted { IfOk result (λ config. IsConfigFile text.now config) }
         // Each configuration file is accepted, unless an allocation fails.
         ensures only { (stmts : List Stmt) → (definitions : List Definition) → Spells text.now stmts
-            → outcome_of stmts ≡ Ok definitions → SucceedsWith result definitions }
+            → definitions_of_file stmts ≡ Ok definitions → SucceedsWith result definitions }
         // On another error than a failed allocation, the text has the returned fault.
-        ensures refused { IfFault result (λ fault. IsDue text.now fault) }
+        ensures refused { IfFault result (λ fault. HasFault text.now fault) }
         // A text with a fault is rejected with that fault, unless an allocation fails.
-        ensures due { (fault : ConfigFault) → IsDue text.now fault → FailsWith result fault }
+        ensures due { (fault : ConfigFault) → HasFault text.now fault → FailsWith result fault }
     {
         match parse(alloc, text) {
             Err(fault) => Err(script_fault(fault)),

@@ -1,16 +1,16 @@
 ghost use Rattle.std.specs.Prelude.{◌≡◌, [], ◌∷◌, ◌++◌, List, is_some, IfOk, OnOk, OnErr};
 ghost use Rattle.kt_config.specs.Common.{option_copied, Variable, value_of, last_values, variable_in, variables_in, HasUniqueNames};
 
-use crate::words::key_of;
+use crate::words::into_key;
 use indexmap::IndexMap;
 use kt_base::{NoMemory, Text, Variable, Variables};
 use std::alloc::Global;
 use std::marker::Model;
 
-/// A map from the variables of a test suite to their last values.
+/// A map from the names of a test suite's variables to their last values.
 ///
-/// The order of the variables is that of their first definitions and never depends on hashes. In
-/// contracts, a `SuiteVariables` is the list of its pairs, with each name once.
+/// The variables are in the order of their first definitions, which never depends on hashes. In
+/// contracts, a `SuiteVariables` is the list of its variables, with each name once.
 #[derive(Drop)]
 pub struct SuiteVariables {
     /// The values by name.
@@ -45,7 +45,7 @@ impl SuiteVariables {
         ensures err { OnErr result (self.new ≡ self.old) }
     {
         let Variable { name, value } = variable;
-        self.values.insert(key_of(name), value)?;
+        self.values.insert(into_key(name), value)?;
         Ok(())
     }
 
@@ -59,13 +59,13 @@ impl SuiteVariables {
     }
 
     /// Returns `true` if the suite has the variable `name`. Takes constant time.
-    pub fn is_defined(&self, name: &Text) -> bool
+    pub fn has_variable(&self, name: &Text) -> bool
         ensures { result ≡ is_some (value_of name.now self.now) }
     {
         self.get(name).is_some()
     }
 
-    /// Copies the variables into a list, in the order of their first definitions.
+    /// Copies the variables into a new list, in the order of their first definitions.
     ///
     /// # Errors
     ///

@@ -2,18 +2,18 @@ ghost use Rattle.std.specs.Prelude.{◌≡◌, [], List, map, OnOk, OnErr};
 ghost use Rattle.kt_config.specs.Common.{option_copied, SetsSuiteVariable, suite_in, SuiteValues, variables_of};
 
 use crate::SuiteVariables;
-use crate::words::key_of;
+use crate::words::into_key;
 use indexmap::IndexMap;
 use kt_base::{NoMemory, Text, Variable};
 use std::alloc::Global;
 use std::marker::Model;
 
-/// A map from test suites to their variables, in the order of the suites' first definitions.
+/// A map from the names of test suites to their variables, in the order of the first definitions.
 ///
-/// In contracts, a `Suites` is the list of the suites with their variables.
+/// In contracts, a `Suites` is the list of the suites, each with its name and its variables.
 #[derive(Drop)]
 pub struct Suites {
-    /// The variables of each suite, by the suite's name.
+    /// The variables of each suite, by the name of the suite.
     groups: IndexMap<String, SuiteVariables>,
 }
 
@@ -42,7 +42,7 @@ impl Suites {
 
     /// Sets `variable` in the suite `suite`, in place of an earlier value of the same variable.
     ///
-    /// A suite that is not in the map is appended.
+    /// A suite that is not in the map is appended to it.
     ///
     /// # Errors
     ///
@@ -57,7 +57,7 @@ impl Suites {
         }
         let mut variables = SuiteVariables::new(*self.groups.allocator());
         variables.put(variable)?;
-        self.groups.insert(key_of(suite), variables)?;
+        self.groups.insert(into_key(suite), variables)?;
         Ok(())
     }
 }

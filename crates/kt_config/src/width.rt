@@ -1,17 +1,17 @@
 ghost use Rattle.std.specs.Prelude.{◌≡◌, ℕ, ◌≤◌};
 ghost use Rattle.std.specs.List.{list_any};
-ghost use Rattle.kt_config.specs.Forms.{is_no_digit, width_in_range, width_in, width_of};
+ghost use Rattle.kt_config.specs.Forms.{is_non_digit, width_in_range, width_in, width_of};
 ghost use Rattle.kt_base.specs.Limits.{largest_width};
 
-use kt_base::{Text, decimal_up_to, is_digit};
+use kt_base::{Text, is_digit, parse_decimal_up_to};
 use std::marker::Model;
 
-/// The greatest width that the configuration accepts, in test cases.
-const GREATEST_WIDTH: u64 = 256;
+/// The largest width that the configuration accepts, in test cases.
+const MAX_WIDTH_CASES: u64 = 256;
 
 /// A maximum number of test cases that run at the same time, 1 to 256.
 ///
-/// In contracts, a `Width` is its number.
+/// In contracts, a `Width` is the number of test cases.
 #[derive(Drop)]
 pub struct Width {
     /// The maximum number of test cases at the same time, 1 to 256.
@@ -28,7 +28,7 @@ impl Model for Width {
 
 /// Returns `true` if `bytes` contains a byte that is not a decimal digit.
 fn has_non_digit(bytes: &[u8]) -> bool
-    ensures { result ≡ list_any is_no_digit bytes.now }
+    ensures { result ≡ list_any is_non_digit bytes.now }
 {
     bytes.iter().any(|c| !is_digit(*c))
 }
@@ -37,7 +37,7 @@ fn has_non_digit(bytes: &[u8]) -> bool
 fn width_in_range(number: u64) -> Option<u32>
     ensures { result ≡ width_in_range number }
 {
-    if number >= 1 && number <= GREATEST_WIDTH {
+    if number >= 1 && number <= MAX_WIDTH_CASES {
         return Some(number as u32);
     }
     None
@@ -52,7 +52,7 @@ fn width_in(bytes: &[u8]) -> Option<u32>
     if has_non_digit(bytes) {
         return None;
     }
-    width_in_range(decimal_up_to(GREATEST_WIDTH, bytes)?)
+    width_in_range(parse_decimal_up_to(MAX_WIDTH_CASES, bytes)?)
 }
 
 impl Width {

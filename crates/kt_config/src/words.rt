@@ -1,11 +1,11 @@
 ghost use Rattle.std.specs.Prelude.{◌≡◌, chars};
-ghost use Rattle.kt_config.specs.Common.{list_any, string_bytes, is_zero, is_invalid_name_byte, has_zero, is_variable_name};
+ghost use Rattle.kt_config.specs.Common.{list_any, string_bytes, is_zero, is_invalid_name_byte, has_zero_byte, is_variable_name};
 
 use kt_base::Text;
 
 /// Returns `true` if `text` contains a zero byte.
-pub fn has_zero(text: &Text) -> bool
-    ensures { result ≡ has_zero text.now }
+pub fn has_zero_byte(text: &Text) -> bool
+    ensures { result ≡ has_zero_byte text.now }
 {
     text.as_str().as_bytes().iter().any(|c| *c == 0)
 }
@@ -35,8 +35,8 @@ pub fn is_variable_name(name: &Text) -> bool
     !name.is_empty() && !has_invalid_name_byte(name.as_str().as_bytes())
 }
 
-/// Converts `text` to a string, which can be the key of a map, without a copy.
-pub fn key_of(text: Text) -> String
+/// Converts `text` to a string, for use as the key of a map. Copies nothing.
+pub fn into_key(text: Text) -> String
     ensures { chars (string_bytes result) ≡ text }
 {
     // No effect: `as_str` shows the prover that the bytes encode the characters.

@@ -2,8 +2,10 @@ use kt_base::{NoMemory, Text, Variable, Variables};
 use std::alloc::Global;
 use std::fmt::{Debug, Display};
 
-/// A text that is built piece by piece, such as the output of an example. `write!` appends to the
-/// text. After a failed allocation, pieces are ignored and `end` returns the error.
+/// A text that is built piece by piece, such as the output of an example.
+///
+/// `write!` appends to the text. After a failed allocation, later pieces are ignored, and `end`
+/// returns the error.
 #[derive(Drop)]
 pub struct ExampleOutput {
     /// The allocator of the text.
@@ -23,7 +25,7 @@ impl ExampleOutput {
         }
     }
 
-    /// Appends `text`, unless an earlier allocation failed.
+    /// Appends `text`. Does nothing if an earlier allocation failed.
     pub fn push(&mut self, text: &str) {
         if self.refusal.is_none() {
             self.refusal = self.text.push_str(text).err().map(NoMemory::from);
@@ -35,20 +37,21 @@ impl ExampleOutput {
         self.made(text.to_string(self.alloc));
     }
 
-    /// Appends `separator`, unless the text is empty.
+    /// Appends `separator`, unless nothing was appended before.
     pub fn separate(&mut self, separator: &str) {
         if !self.text.is_empty() {
             self.push(separator);
         }
     }
 
-    /// Appends a newline, unless the text is empty, and then `text`.
+    /// Appends `text` as a new line: a newline, unless nothing was appended before, and then
+    /// `text`.
     pub fn line(&mut self, text: &str) {
         self.separate("\n");
         self.push(text);
     }
 
-    /// Appends a newly allocated text, or records that its allocation failed.
+    /// Appends the string in `text`, or records the failed allocation if `text` is an error.
     fn made<E: Drop>(&mut self, text: Result<String, E>)
     where
         NoMemory: From<E>,
@@ -59,13 +62,15 @@ impl ExampleOutput {
         }
     }
 
-    /// Appends `before` and then a name-value pair, with `sign` between name and value.
+    /// Appends the text `before`, and then the name of `pair`, the text `sign` and the value of
+    /// `pair`.
     pub fn pair(&mut self, before: &str, pair: &Variable, sign: &str) {
         let (name, value) = (pair.name.as_str(), pair.value.as_str());
         write!(self, "{before}{name}{sign}{value}");
     }
 
-    /// Appends name-value pairs, with `separator` between two pairs and `sign` in each pair.
+    /// Appends the pairs `pairs`, with `separator` between two pairs, and with `sign` between the
+    /// name and the value of each pair.
     pub fn pairs(&mut self, pairs: &Variables, separator: &str, sign: &str) {
         let mut before = "";
         for pair in pairs.as_slice() {
@@ -74,17 +79,17 @@ impl ExampleOutput {
         }
     }
 
-    /// Appends a `Text`, or records that its allocation failed.
+    /// Appends the `Text` in `text`, or records the failed allocation if `text` is an error.
     pub fn text(&mut self, text: Result<Text, NoMemory>) {
         self.made(text.map(Text::into_string));
     }
 
-    /// Appends bytes as text, with invalid UTF-8 replaced by U+FFFD.
+    /// Appends `bytes` as text, with invalid UTF-8 replaced by U+FFFD.
     pub fn bytes(&mut self, bytes: &[u8]) {
         self.made(String::from_utf8_lossy(self.alloc, bytes));
     }
 
-    /// Appends the name of the variant of `value`, without its fields.
+    /// Appends the name of the enum variant of `value`, without its fields.
     pub fn name<T: Debug>(&mut self, value: &T) {
         match format!(in self.alloc; "{value:?}") {
             Ok(text) => self.push(text.as_str().split('(').next().unwrap_or("")),
@@ -101,21 +106,21 @@ impl ExampleOutput {
     ///
     /// # Errors
     ///
-    /// - `NoMemory`: an allocation for the text failed.
-    pub fn so_far(&self) -> Result<&str, NoMemory> {
+    /// - `NoMemory`: an earlier allocation for the text failed.
+    pub fn text_so_far(&self) -> Result<&str, NoMemory> {
         match self.refusal {
             None => Ok(self.text.as_str()),
             Some(refusal) => Err(refusal),
         }
     }
 
-    /// Returns the whole text. Allocates nothing.
+    /// Returns the whole text that was appended, as a `String`. Allocates nothing.
     ///
     /// # Errors
     ///
-    /// - `NoMemory`: an allocation for the text failed.
+    /// - `NoMemory`: an earlier allocation for the text failed.
     pub fn end(self) -> Result<String, NoMemory> {
-        self.so_far()?;
+        self.text_so_far()?;
         Ok(self.text)
     }
 }

@@ -1,53 +1,57 @@
-//! Lists of ATF test cases, and the cases of a program for each outcome of its listing.
+//! Examples of lists of ATF test cases, and of the cases of a program for each result of its
+//! listing.
 
 use crate::answer::ExampleOutput;
-use crate::escapes::unescaped;
-use crate::example_fault::{ExampleFault, Result, asked, both, due, halves};
+use crate::escapes::unescape;
+use crate::example_fault::{ExampleFault, Result, convert_error, due, split_required, zip_results};
 use crate::properties::{push_props, set_valid_property};
 use crate::row::{Example, append, append_copies};
-use crate::verdicts::{ending_of, parse_refusal, push_reason};
+use crate::verdicts::{parse_outcome, parse_refusal, push_reason};
 use kt_atflist::{CaseDef, ListBytes, Listing, cases, parse_list};
 use kt_base::{Bytes, Interface, Items, Verdict};
 use kt_metadata::Props;
 use std::alloc::Global;
 
-/// The header of a list of ATF test cases, with the empty line after it.
+/// The header of a list of ATF test cases, followed by an empty line.
 pub const HEADER: &str = "Content-Type: application/X-atf-tp; version=\"1\"\n\n";
 
-/// Returns a list of ATF test cases: the header, and then `blocks` with its escapes decoded.
-fn list_with_header(alloc: Global, blocks: &str) -> Result<Vec<u8>> {
+/// Returns the bytes of a list of ATF test cases: the header, and then `blocks` with its escapes
+/// decoded.
+fn prepend_header(alloc: Global, blocks: &str) -> Result<Vec<u8>> {
     let mut text = HEADER.as_bytes().to_vec(alloc)?;
     append(alloc, &mut text, blocks)?;
     Ok(text)
 }
 
-/// Creates the listing of a program that printed `text` and whose outcome is `ending`, such as
-/// `exited 0`.
-fn ended(ending: &str, text: Result<Vec<u8>>) -> Result<Listing> {
-    let (text, ending) = both(text, ending_of(ending))?;
+/// Creates the listing of a program that printed the list `text`. `ending` is the program's
+/// outcome, such as `exited 0`.
+fn make_listing(ending: &str, text: Result<Vec<u8>>) -> Result<Listing> {
+    let (text, ending) = zip_results(text, parse_outcome(ending))?;
     Ok(Listing::Ended(ending, ListBytes::Read(Bytes::from_vec(text))))
 }
 
-/// Parses the listing of a program: `refused CAUSE`, or an outcome and then `blocks TEXT`,
-/// `list TEXT`, `unreadable` or `too-long`.
+/// Parses `text` as the result of listing a program's cases.
+///
+/// `text` is `refused CAUSE`, or an outcome and then `blocks TEXT`, `list TEXT`, `unreadable` or
+/// `too-long`.
 fn parse_listing(alloc: Global, text: &str) -> Result<Listing> {
     if let Some(cause) = text.strip_prefix("refused ") {
         return parse_refusal(cause).map(Listing::Refused);
     }
     if let Some(ending) = text.strip_suffix(" unreadable") {
-        return Ok(Listing::Ended(ending_of(ending)?, ListBytes::Unreadable));
+        return Ok(Listing::Ended(parse_outcome(ending)?, ListBytes::Unreadable));
     }
     if let Some(ending) = text.strip_suffix(" too-long") {
-        return Ok(Listing::Ended(ending_of(ending)?, ListBytes::TooLong));
+        return Ok(Listing::Ended(parse_outcome(ending)?, ListBytes::TooLong));
     }
     if let Some((ending, blocks)) = text.split_once(" blocks ") {
-        return ended(ending, list_with_header(alloc, blocks));
+        return make_listing(ending, prepend_header(alloc, blocks));
     }
-    let (ending, list) = halves(text, " list ", "an ending stands before a list")?;
-    ended(ending, unescaped(alloc, list))
+    let (ending, list) = split_required(text, " list ", "an ending stands before a list")?;
+    make_listing(ending, unescape(alloc, list))
 }
 
-/// Appends a case on a new line: its name, the properties that differ from the defaults, and the
+/// Appends a new line for `case`: its name, the properties that differ from the defaults, and the
 /// reason of its fault, if any.
 fn push_case(out: &mut ExampleOutput, case: CaseDef) -> Result<()> {
     let CaseDef { name, props, fault } = case;
@@ -60,7 +64,8 @@ fn push_case(out: &mut ExampleOutput, case: CaseDef) -> Result<()> {
     Ok(())
 }
 
-/// Appends cases, or only their number if the example contains the line `count`.
+/// Appends a line for each case in `found`, or only their number if the example contains the line
+/// `count`.
 fn push_cases(out: &mut ExampleOutput, row: &Example<'_>, found: Items<CaseDef>) -> Result<()> {
     if row.text("count").is_some() {
         write!(out, "{} cases", found.len());
@@ -72,17 +77,19 @@ fn push_cases(out: &mut ExampleOutput, row: &Example<'_>, found: Items<CaseDef>)
     Ok(())
 }
 
-/// Returns the list of an example: `list TEXT`, or the header followed by `blocks TEXT` and then
-/// `numbered COUNT TEXT`.
+/// Returns the bytes of the list of ATF test cases in the example `row`.
+///
+/// The list is the text of the line `list TEXT`. Without this line, the list is the header, the
+/// text of the line `blocks TEXT`, and the copies of the lines `numbered COUNT TEXT`.
 fn list_text(alloc: Global, row: &Example<'_>) -> Result<Vec<u8>> {
     if let Some(text) = row.text("list") {
-        return unescaped(alloc, text);
+        return unescape(alloc, text);
     }
     let blocks = due(row.text("blocks"), "no list")?;
-    append_copies(alloc, list_with_header(alloc, blocks), row)
+    append_copies(alloc, prepend_header(alloc, blocks), row)
 }
 
-/// Parses the interface of a test program: `atf`, `tap` or `plain`.
+/// Parses `word` as the interface of a test program: `atf`, `tap` or `plain`.
 fn parse_interface(word: &str) -> Result<Interface> {
     match word {
         "atf" => Ok(Interface::Atf),
@@ -92,8 +99,10 @@ fn parse_interface(word: &str) -> Result<Interface> {
     }
 }
 
-/// Returns the cases of a program with the interface `word`. The lines `set NAME=VALUE` have the
-/// program's properties, and `lists LISTING` has the listing. By default the list is unreadable.
+/// Returns the cases of the program in an example, whose interface is `word`.
+///
+/// The lines `set NAME=VALUE` of the example have the program's properties. The line `lists
+/// LISTING` has the result of listing the program's cases, by default an unreadable list.
 fn program_cases(alloc: Global, row: &Example<'_>, word: &str) -> Result<Items<CaseDef>> {
     let mut props = Props::new(alloc);
     let mut lists = "exited 0 unreadable";
@@ -104,11 +113,12 @@ fn program_cases(alloc: Global, row: &Example<'_>, word: &str) -> Result<Items<C
             _ => {}
         }
     }
-    let (listing, interface) = both(parse_listing(alloc, lists), parse_interface(word))?;
-    asked(cases(alloc, interface, &props, &Some(listing)))
+    let (listing, interface) = zip_results(parse_listing(alloc, lists), parse_interface(word))?;
+    convert_error(cases(alloc, interface, &props, &Some(listing)))
 }
 
-/// Appends the cases of a program or of a list, or the error's message for an invalid list.
+/// Appends the cases of the program or of the list in an example. For an invalid list, appends the
+/// error's message.
 ///
 /// # Errors
 ///

@@ -1,34 +1,38 @@
-//! Recorded entries: parsed from the lines of an example, and shown in its output.
+//! Recorded entries: parsed from the lines of an example, and printed in its output.
 
 ghost use Rattle.std.specs.Prelude.{◌≤◌, IfOk};
 
 use crate::answer::ExampleOutput;
-use crate::escapes::{unescape_lossy, unescaped};
-use crate::example_fault::{ExampleFault, Result, both, due, push_made};
-use crate::row::{Example, ExampleLine, number_in, pairs_of, text_in};
+use crate::escapes::{unescape, unescape_lossy};
+use crate::example_fault::{ExampleFault, Result, due, push_or_fail, zip_results};
+use crate::row::{Example, ExampleLine, number_in, parse_pairs, text_in};
 use crate::verdicts::push_verdict;
 use kt_base::{Bytes, Entry, Items, Kind, LATEST_MOMENT_MILLIS, Output, Run, Verdict};
 use std::alloc::Global;
 
-/// Returns the decoded bytes after the keyword `word` in `lines`, or no bytes without such a line.
-fn bytes_in(alloc: Global, lines: &[ExampleLine<'_>], word: &str) -> Result<Bytes> {
-    unescaped(alloc, text_in(lines, word).unwrap_or("")).map(Bytes::from_vec)
+/// Returns the text after the keyword `word` in `lines`, with its escapes decoded to bytes. Returns
+/// no bytes if there is no such line.
+fn decode_bytes(alloc: Global, lines: &[ExampleLine<'_>], word: &str) -> Result<Bytes> {
+    unescape(alloc, text_in(lines, word).unwrap_or("")).map(Bytes::from_vec)
 }
 
-/// Returns the standard output and standard error that follow the keywords `out` and `err` in
-/// `lines`.
-fn output_in(alloc: Global, lines: &[ExampleLine<'_>], out: &str, err: &str) -> Result<Output> {
-    let (out, err) = both(bytes_in(alloc, lines, out), bytes_in(alloc, lines, err))?;
+/// Returns the standard output and the standard error of a body or a cleanup. The keywords of their
+/// lines in `lines` are `out` and `err`.
+fn parse_outputs(alloc: Global, lines: &[ExampleLine<'_>], out: &str, err: &str) -> Result<Output> {
+    let (out, err) = zip_results(
+        decode_bytes(alloc, lines, out),
+        decode_bytes(alloc, lines, err),
+    )?;
     Ok(Output { out, err })
 }
 
-/// Parses a verdict's kind: `passed`, `skipped`, `expected_failure`, `failed` or `broken`.
-/// Allocates nothing.
+/// Parses `word` as a verdict's kind: `passed`, `skipped`, `expected_failure`, `failed` or
+/// `broken`. Allocates nothing.
 ///
 /// # Errors
 ///
 /// - `InvalidExample`: `word` isn't one of these kinds.
-pub fn kind_of(word: &str) -> Result<Kind> {
+pub fn parse_kind(word: &str) -> Result<Kind> {
     match word {
         "passed" => Ok(Kind::Passed),
         "skipped" => Ok(Kind::Skipped),
@@ -48,20 +52,23 @@ pub fn kind_of(word: &str) -> Result<Kind> {
 pub fn parse_verdict_kinds(alloc: Global, words: &str) -> Result<Vec<Kind>> {
     let mut kinds = Vec::new(alloc);
     for word in words.split_whitespace() {
-        push_made(&mut kinds, kind_of(word))?;
+        push_or_fail(&mut kinds, parse_kind(word))?;
     }
     Ok(kinds)
 }
 
-/// Parses a verdict such as `failed: x`. The reason is empty without `: `.
+/// Parses `text` as a verdict, a kind and a reason, such as `failed: x`. Without `: `, the reason
+/// is empty.
 fn parse_verdict(alloc: Global, text: &str) -> Result<Verdict> {
     let (word, reason) = text.split_once(": ").unwrap_or((text, ""));
-    Ok(Verdict::of(kind_of(word)?, unescape_lossy(alloc, reason)?))
+    Ok(Verdict::of(parse_kind(word)?, unescape_lossy(alloc, reason)?))
 }
 
-/// Creates the entry at `position` with the verdict `verdict` from the lines that describe the
-/// entry. These lines are `program TEXT`, `case TEXT`, `started MILLISECONDS`, `took MILLISECONDS`,
-/// `out TEXT`, `err TEXT`, `cleanup-out TEXT`, `cleanup-err TEXT`, and `meta NAME=VALUE` for each
+/// Creates the entry at the position `position` with the verdict `verdict`. `content` are the lines
+/// that describe the entry.
+///
+/// These lines are `program TEXT`, `case TEXT`, `started MILLISECONDS`, `took MILLISECONDS`, `out
+/// TEXT`, `err TEXT`, `cleanup-out TEXT`, `cleanup-err TEXT`, and `meta NAME=VALUE` for each
 /// property.
 fn entry_of(
     alloc: Global,
@@ -72,15 +79,15 @@ fn entry_of(
     let program = unescape_lossy(alloc, text_in(content, "program").unwrap_or("a"));
     let case_name = unescape_lossy(alloc, text_in(content, "case").unwrap_or("main"));
     let started = number_in(content, "started", 0);
-    let times = both(started, number_in(content, "took", 0));
-    let body = output_in(alloc, content, "out", "err");
-    let cleanup = output_in(alloc, content, "cleanup-out", "cleanup-err");
-    let said = both(
+    let times = zip_results(started, number_in(content, "took", 0));
+    let body = parse_outputs(alloc, content, "out", "err");
+    let cleanup = parse_outputs(alloc, content, "cleanup-out", "cleanup-err");
+    let said = zip_results(
         parse_verdict(alloc, verdict),
-        pairs_of(alloc, content, "meta"),
+        parse_pairs(alloc, content, "meta"),
     );
-    let named = both(both(program, case_name), times);
-    let (named, said) = both(named, both(both(body, cleanup), said))?;
+    let named = zip_results(zip_results(program, case_name), times);
+    let (named, said) = zip_results(named, zip_results(zip_results(body, cleanup), said))?;
     let ((program, case_name), (started, millis)) = named;
     let ((body, cleanup), (verdict, meta)) = said;
     Ok(Entry {
@@ -96,15 +103,16 @@ fn entry_of(
     })
 }
 
-/// Creates the entry at position `at` with the verdict `verdict` from the lines that describe the
-/// entry. A start time or a duration above `LATEST_MOMENT_MILLIS` is reduced to that value, so that
-/// a store accepts the entry.
+/// Creates an entry that a store accepts, at the position `at` and with the verdict `verdict`.
+/// `lines` are the lines that describe the entry.
+///
+/// A start time or a duration above `LATEST_MOMENT_MILLIS` is reduced to that value.
 ///
 /// # Errors
 ///
 /// - `InvalidExample`: the verdict or a line is invalid.
 /// - `NoMemory`: an allocation failed.
-pub fn storable_entry(
+pub fn parse_storable_entry(
     alloc: Global,
     lines: &[ExampleLine<'_>],
     verdict: &str,
@@ -118,7 +126,7 @@ pub fn storable_entry(
     Ok(entry)
 }
 
-/// Returns `true` if a line describes the entry above it, by a keyword such as `program` or `out`.
+/// Returns `true` if `line` describes the entry above it, by a keyword such as `program` or `out`.
 pub fn is_entry_line(line: &ExampleLine<'_>) -> bool {
     match line.word {
         "program" | "case" | "started" | "took" | "meta" | "times" => true,
@@ -127,63 +135,69 @@ pub fn is_entry_line(line: &ExampleLine<'_>) -> bool {
     }
 }
 
-/// Returns the lines directly below the entry at index `place` that describe the entry.
-pub fn content_at<'a, 'b>(lines: &'b [ExampleLine<'a>], place: usize) -> &'b [ExampleLine<'a>] {
+/// Returns the lines that describe an entry: those directly below its line, which has the index
+/// `place` in `lines`.
+pub fn entry_lines_at<'a, 'b>(lines: &'b [ExampleLine<'a>], place: usize) -> &'b [ExampleLine<'a>] {
     let (_, rest) = lines.split_at(place.saturating_add(1).min(lines.len()));
     let length = rest.iter().take_while(|line| is_entry_line(*line)).count();
     rest.split_at(length.min(rest.len())).0
 }
 
-/// Returns the number of entries. Fails if it is 2^32 or more.
-fn count_of(entries: &Items<Entry>) -> Result<u32> {
+/// Returns the number of entries in `entries`. Fails if it is 2^32 or more.
+fn count_entries(entries: &Items<Entry>) -> Result<u32> {
     due(u32::try_from(entries.len()).ok(), "too many entries")
 }
 
-/// Appends an entry N times if its lines contain `times N`, and once otherwise.
-fn add(
+/// Appends the entry that `lines` describe, with the verdict `verdict`. Appends it N times if the
+/// lines contain `times N`, and once otherwise.
+fn push_entry_copies(
     alloc: Global,
     entries: &mut Items<Entry>,
     lines: &[ExampleLine<'_>],
     verdict: &str,
 ) -> Result<()> {
     for _ in 0..number_in(lines, "times", 1)? {
-        let position = count_of(entries)?;
+        let position = count_entries(entries)?;
         entries.push(entry_of(alloc, lines, verdict, position)?)?;
     }
     Ok(())
 }
 
-/// Returns the entries of the lines `entry VERDICT`, in order.
-fn entries_in(alloc: Global, lines: &[ExampleLine<'_>]) -> Result<Items<Entry>> {
+/// Returns the entries that `lines` describe, in order. Each entry begins with a line `entry
+/// VERDICT`.
+fn parse_entries(alloc: Global, lines: &[ExampleLine<'_>]) -> Result<Items<Entry>> {
     let mut entries = Items::new(alloc);
     for (place, line) in lines.iter().enumerate() {
         if line.word == "entry" {
-            add(alloc, &mut entries, content_at(lines, place), line.text)?;
+            push_entry_copies(alloc, &mut entries, entry_lines_at(lines, place), line.text)?;
         }
     }
     Ok(entries)
 }
 
-/// Creates the run of an example from the lines `run NUMBER`, `at MILLISECONDS`, `unfinished` and
-/// `entry VERDICT`. The lines below an entry describe it.
+/// Creates the run that an example describes.
+///
+/// The lines of the example are `run NUMBER`, `at MILLISECONDS`, `unfinished` and `entry VERDICT`.
+/// The lines below a line `entry VERDICT` describe this entry.
 ///
 /// # Errors
 ///
 /// - `InvalidExample`: a line is invalid, or there are 2^32 entries or more.
 /// - `NoMemory`: an allocation failed.
-pub fn run_of(alloc: Global, row: &Example<'_>) -> Result<Run> {
-    let (number, started) = both(row.number("run", 1), row.number("at", 0))?;
-    let entries = entries_in(alloc, row.entries.as_slice())?;
+pub fn parse_run(alloc: Global, row: &Example<'_>) -> Result<Run> {
+    let (number, started) = zip_results(row.number("run", 1), row.number("at", 0))?;
+    let entries = parse_entries(alloc, row.entries.as_slice())?;
     Ok(Run {
         number,
         started,
-        total: count_of(&entries)?,
+        total: count_entries(&entries)?,
         finished: row.text("unfinished").is_none(),
         entries,
     })
 }
 
-/// Appends the four outputs of a case: standard output and standard error of its body and cleanup.
+/// Appends the four outputs of an entry: standard output and standard error of its body and of its
+/// cleanup.
 fn push_outputs(out: &mut ExampleOutput, entry: &Entry) {
     out.push("out=");
     out.bytes(entry.body.out.as_slice());
@@ -195,8 +209,11 @@ fn push_outputs(out: &mut ExampleOutput, entry: &Entry) {
     out.bytes(entry.cleanup.err.as_slice());
 }
 
-/// Appends a space and six marks: for the start time, the duration and the length of each output.
-/// The first two are `1` if the value isn't 0, the others `0`, `1`, or `+` for more than one byte.
+/// Appends a space and six characters: for the start time, the duration and the length of each of
+/// the four outputs of an entry.
+///
+/// For the start time and the duration, the character is `0` if the value is 0, and otherwise `1`.
+/// For an output, it is `0`, `1`, or `+` for more than one byte.
 fn push_marks(out: &mut ExampleOutput, entry: &Entry) {
     let (body, cleanup) = (&entry.body, &entry.cleanup);
     out.push(" ");
@@ -212,8 +229,8 @@ fn push_marks(out: &mut ExampleOutput, entry: &Entry) {
     }
 }
 
-/// Appends the part of an entry that `word` selects: `cases`, `outputs`, `marks`, or else its
-/// verdict.
+/// Appends `entry` in the form that `word` selects: `cases`, `outputs` or `marks`. For any other
+/// word, appends the position and the verdict.
 fn push_entry(out: &mut ExampleOutput, word: &str, entry: &Entry) {
     if word == "outputs" {
         return push_outputs(out, entry);
@@ -231,7 +248,7 @@ fn push_entry(out: &mut ExampleOutput, word: &str, entry: &Entry) {
     }
 }
 
-/// Appends the properties of entries, one per line after the position of its entry.
+/// Appends the properties of all entries, one property per line, after the position of its entry.
 fn push_pairs(out: &mut ExampleOutput, entries: &[Entry]) {
     let mut separator = "";
     for entry in entries {
@@ -243,8 +260,9 @@ fn push_pairs(out: &mut ExampleOutput, entries: &[Entry]) {
     }
 }
 
-/// Appends the part of each entry that `word` selects, one entry per line. The parts are `cases`,
-/// `outputs`, `marks`, `pairs`, and for any other word the verdict.
+/// Appends each entry in the form that `word` selects, one entry per line. The forms are `cases`,
+/// `outputs` and `marks`. `pairs` selects the properties of all entries. For any other word,
+/// appends the position and the verdict of each entry.
 pub fn push_entries(out: &mut ExampleOutput, word: &str, entries: &[Entry]) {
     if word == "pairs" {
         return push_pairs(out, entries);

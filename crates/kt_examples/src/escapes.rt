@@ -1,33 +1,34 @@
-use crate::example_fault::{ExampleFault, Result, asked, due};
+use crate::example_fault::{ExampleFault, Result, convert_error, due};
 use kt_base::{Text, lossy};
 use std::alloc::Global;
 
-/// The maximum length, in bytes, of the text that a repetition makes.
-const LIMIT: usize = 33_554_432;
+/// The greatest length of the copies that one repetition `\*N{TEXT}` makes, in bytes.
+const MAX_REPETITION_BYTES: usize = 33_554_432;
 
-/// A decoder of escapes: the bytes that remain, and the text that was decoded so far.
+/// A decoder of the escapes in a text, with the bytes still to decode and the bytes decoded so far.
 #[derive(Drop)]
 struct Unescaper<'a> {
     alloc: Global,
     rest: &'a [u8],
     text: Vec<u8>,
-    /// The count of an open repetition, and the index in `text` of its first byte.
+    /// The number of copies of the open repetition, and the index in `text` of its first byte, or
+    /// `None` if no repetition is open.
     open: Option<(usize, usize)>,
 }
 
-/// Parses a hexadecimal digit.
-fn hex(b: Option<u8>) -> Result<u32> {
+/// Parses the byte `b` as a hexadecimal digit. Fails if `b` is `None` or another byte.
+fn parse_hex_digit(b: Option<u8>) -> Result<u32> {
     let digit = char::from(b.unwrap_or(b' ')).to_digit(16);
     due(digit, "\\x without two hexadecimal digits")
 }
 
-/// Appends `times` copies of `piece`. Fails if they have more than 32 MiB together.
-fn push_times(text: &mut Vec<u8>, piece: &[u8], times: usize) -> Result<()> {
-    if piece.len().saturating_mul(times) > LIMIT {
+/// Appends `times` copies of `piece` to `text`. Fails if the copies have more than 32 MiB together.
+fn push_copies(text: &mut Vec<u8>, piece: &[u8], times: usize) -> Result<()> {
+    if piece.len().saturating_mul(times) > MAX_REPETITION_BYTES {
         return Err(ExampleFault::InvalidExample("a text past 32 MiB"));
     }
     if let [b] = piece {
-        return asked(text.resize(text.len().saturating_add(times), *b));
+        return convert_error(text.resize(text.len().saturating_add(times), *b));
     }
     for _ in 0..times {
         text.extend_from_slice(piece)?;
@@ -35,11 +36,11 @@ fn push_times(text: &mut Vec<u8>, piece: &[u8], times: usize) -> Result<()> {
     Ok(())
 }
 
-/// Replaces the bytes of `text` from index `from` on by `times` copies of these bytes.
+/// Replaces the bytes of `text` from the index `from` on by `times` copies of these bytes.
 fn repeat(alloc: Global, text: &mut Vec<u8>, from: usize, times: usize) -> Result<()> {
     let piece = text.get(from..).unwrap_or(&[]).to_vec(alloc)?;
     text.truncate(from);
-    push_times(text, &piece, times)
+    push_copies(text, &piece, times)
 }
 
 impl Unescaper<'_> {
@@ -52,13 +53,13 @@ impl Unescaper<'_> {
 
     /// Decodes the two hexadecimal digits after `\x`, and appends their byte.
     fn pair(&mut self) -> Result<()> {
-        let high = hex(self.next())?;
-        let low = hex(self.next())?;
+        let high = parse_hex_digit(self.next())?;
+        let low = parse_hex_digit(self.next())?;
         let b = u8::try_from(high.wrapping_mul(16).wrapping_add(low));
-        asked(self.text.push(b.unwrap_or(0)))
+        convert_error(self.text.push(b.unwrap_or(0)))
     }
 
-    /// Decodes the number and the open brace after `\*`, and opens this repetition.
+    /// Decodes the number and the open brace after `\*`, which begin a repetition.
     fn times(&mut self) -> Result<()> {
         let mut count: usize = 0;
         for _ in 0..self.rest.len() {
@@ -76,7 +77,7 @@ impl Unescaper<'_> {
         Err(ExampleFault::InvalidExample("\\* without a number and a text in braces"))
     }
 
-    /// Decodes an escape after its backslash.
+    /// Decodes the rest of an escape, after its backslash.
     fn escape(&mut self) -> Result<()> {
         let b = match self.next() {
             Some(b'x') => return self.pair(),
@@ -88,11 +89,11 @@ impl Unescaper<'_> {
             Some(b @ (b'\\' | b'}')) => b,
             _ => return Err(ExampleFault::InvalidExample("no such escape")),
         };
-        asked(self.text.push(b))
+        convert_error(self.text.push(b))
     }
 
-    /// Decodes the byte `b`, with the rest of its escape if it is a backslash. A closing brace ends
-    /// the open repetition.
+    /// Decodes the byte `b`. If `b` is a backslash, decodes the rest of the escape. A closing brace
+    /// ends the open repetition.
     fn take(&mut self, b: u8) -> Result<()> {
         match self.open {
             _ if b == b'\\' => self.escape(),
@@ -100,19 +101,23 @@ impl Unescaper<'_> {
                 self.open = None;
                 repeat(self.alloc, &mut self.text, from, times)
             }
-            _ => asked(self.text.push(b)),
+            _ => convert_error(self.text.push(b)),
         }
     }
 }
 
 /// Returns the bytes of `raw` with its escapes decoded.
 ///
+/// `\n`, `\t`, `\r`, `\s` and `\\` represent a newline, a tab, a carriage return, a space and a
+/// backslash. `\xHH` is the byte with this hexadecimal number. `\*N{TEXT}` is `TEXT` N times, in
+/// which `\}` is a closing brace.
+///
 /// # Errors
 ///
-/// - `InvalidExample`: an escape is invalid, a brace isn't closed, or a repetition makes more than 32
-///   MiB.
+/// - `InvalidExample`: an escape is invalid, a brace isn't closed, or a repetition makes more than
+///   32 MiB.
 /// - `NoMemory`: an allocation failed.
-pub fn unescaped(alloc: Global, raw: &str) -> Result<Vec<u8>> {
+pub fn unescape(alloc: Global, raw: &str) -> Result<Vec<u8>> {
     let mut reader = Unescaper {
         alloc,
         rest: raw.as_bytes(),
@@ -130,27 +135,28 @@ pub fn unescaped(alloc: Global, raw: &str) -> Result<Vec<u8>> {
     Ok(reader.text)
 }
 
-/// Returns `raw` with its escapes decoded, as a text.
+/// Returns `raw` with its escapes decoded (as by `unescape`), as a text.
 ///
 /// # Errors
 ///
-/// - `InvalidExample`: an escape is invalid, a brace isn't closed, a repetition makes more than 32 MiB,
-///   or the decoded bytes aren't UTF-8.
+/// - `InvalidExample`: an escape is invalid, a brace isn't closed, a repetition makes more than 32
+///   MiB, or the decoded bytes aren't UTF-8.
 /// - `NoMemory`: an allocation failed.
-pub fn text_of(alloc: Global, raw: &str) -> Result<Text> {
-    match String::from_utf8(unescaped(alloc, raw)?) {
+pub fn unescape_text(alloc: Global, raw: &str) -> Result<Text> {
+    match String::from_utf8(unescape(alloc, raw)?) {
         Ok(string) => Ok(Text::from_string(string)),
         Err(_) => Err(ExampleFault::InvalidExample("a text is UTF-8")),
     }
 }
 
-/// Returns `raw` with its escapes decoded, as a text with invalid UTF-8 replaced by U+FFFD.
+/// Returns `raw` with its escapes decoded (as by `unescape`), as a text with invalid UTF-8
+/// replaced by U+FFFD.
 ///
 /// # Errors
 ///
-/// - `InvalidExample`: an escape is invalid, a brace isn't closed, or a repetition makes more than 32
-///   MiB.
+/// - `InvalidExample`: an escape is invalid, a brace isn't closed, or a repetition makes more than
+///   32 MiB.
 /// - `NoMemory`: an allocation failed.
 pub fn unescape_lossy(alloc: Global, raw: &str) -> Result<Text> {
-    Ok(lossy(alloc, &unescaped(alloc, raw)?)?)
+    Ok(lossy(alloc, &unescape(alloc, raw)?)?)
 }

@@ -1,19 +1,20 @@
 use kt_base::NoMemory;
 
-/// The result of a function that parses or runs an example.
+/// A result of parsing or running an example.
 pub type Result<T, E = ExampleFault> = std::result::Result<T, E>;
 
-/// Errors returned by [`push_answer`](crate::push_answer) and the readers of examples.
+/// Errors returned by [`push_example_output`](crate::push_answer) and the functions that parse
+/// examples.
 #[derive(Clone, Copy)]
 pub enum ExampleFault {
     /// An allocation failed.
     NoMemory(NoMemory),
-    /// The example doesn't have the format of its subject. The text describes the error.
+    /// The example doesn't have the format of its subject. The field is the error's text.
     InvalidExample(&'static str),
 }
 
 impl ExampleFault {
-    /// Returns the message that is printed after the number of the example's line.
+    /// Returns the message of the error, which is printed after the number of the example's line.
     pub fn text(self) -> &'static str {
         match self {
             ExampleFault::NoMemory(_) => "out of memory",
@@ -33,20 +34,20 @@ where
     }
 }
 
-/// Returns the value of `made`, with a failed allocation converted to an `ExampleFault`. Allocates
-/// nothing.
+/// Returns the value in `made`, or converts its error, a failed allocation, to an `ExampleFault`.
+/// Allocates nothing.
 ///
 /// # Errors
 ///
 /// - `NoMemory`: `made` is an error.
-pub fn asked<T: Drop, E: Drop>(made: Result<T, E>) -> Result<T>
+pub fn convert_error<T: Drop, E: Drop>(made: Result<T, E>) -> Result<T>
 where
     NoMemory: From<E>,
 {
     Ok(made?)
 }
 
-/// Returns the value in `found`, which the format requires. Allocates nothing.
+/// Returns the value in `found`. The value is a part that an example must have. Allocates nothing.
 ///
 /// # Errors
 ///
@@ -55,24 +56,28 @@ pub fn due<T>(found: Option<T>, fault: &'static str) -> Result<T> {
     found.ok_or(ExampleFault::InvalidExample(fault))
 }
 
-/// Returns the parts of `text` before and after the first `sign`. Allocates nothing.
+/// Returns the parts of `text` before and after its first `sign`. Allocates nothing.
 ///
 /// # Errors
 ///
 /// - `InvalidExample`: `text` doesn't contain `sign`. The error's text is `fault`.
-pub fn halves<'a>(text: &'a str, sign: &str, fault: &'static str) -> Result<(&'a str, &'a str)> {
+pub fn split_required<'a>(
+    text: &'a str,
+    sign: &str,
+    fault: &'static str,
+) -> Result<(&'a str, &'a str)> {
     text.split_once(sign)
         .ok_or(ExampleFault::InvalidExample(fault))
 }
 
-/// Appends `value` to `values`, unless it is an error.
+/// Appends the value in `value` to `values`, or returns the error in `value`.
 ///
 /// # Errors
 ///
-/// - `InvalidExample` or `NoMemory`: `value` is this error.
+/// - `InvalidExample` or `NoMemory`: the error in `value`.
 /// - `NoMemory`: the allocation for `values` failed.
-pub fn push_made<T: Drop>(values: &mut Vec<T>, value: Result<T>) -> Result<()> {
-    asked(values.push(value?))
+pub fn push_or_fail<T: Drop>(values: &mut Vec<T>, value: Result<T>) -> Result<()> {
+    convert_error(values.push(value?))
 }
 
 /// Returns the values of two results as a pair. Allocates nothing.
@@ -80,6 +85,6 @@ pub fn push_made<T: Drop>(values: &mut Vec<T>, value: Result<T>) -> Result<()> {
 /// # Errors
 ///
 /// - `InvalidExample` or `NoMemory`: the error of `first`, or else that of `second`.
-pub fn both<A: Drop, B: Drop>(first: Result<A>, second: Result<B>) -> Result<(A, B)> {
+pub fn zip_results<A: Drop, B: Drop>(first: Result<A>, second: Result<B>) -> Result<(A, B)> {
     Ok((first?, second?))
 }

@@ -20,24 +20,31 @@ mod verdicts;
 
 pub use answer::ExampleOutput;
 pub use case_lists::HEADER;
-pub use entries::{content_at, is_entry_line, kind_of, push_entries, storable_entry};
-pub use escapes::{text_of, unescape_lossy, unescaped};
-pub use example_fault::{ExampleFault, Result, asked, both, due, halves, push_made};
-pub use numbers::{count, number, number_to, numbered, numbers_of};
+pub use entries::{entry_lines_at, is_entry_line, parse_kind, parse_storable_entry, push_entries};
+pub use escapes::{unescape, unescape_lossy, unescape_text};
+pub use example_fault::{
+    ExampleFault, Result, convert_error, due, push_or_fail, split_required, zip_results,
+};
+pub use numbers::{count, expand_numbered, number, parse_number_up_to, parse_numbers};
 pub use properties::push_props;
-pub use row::{Example, ExampleLine, append, number_in, pairs_of};
-pub use row_file::read_rows;
+pub use row::{Example, ExampleLine, append, number_in, parse_pairs};
+pub use row_file::parse_rows;
 pub use scripted_writer::{ScriptedWriter, WriteFault};
-pub use verdicts::{ending_of, push_reason, push_verdict};
+pub use verdicts::{parse_outcome, push_reason, push_verdict};
 
-/// Executes the example `row` of `subject`, and appends its output to `out`.
+/// Executes the example `row` of the subject `subject`, and appends its output to `out`.
 ///
 /// # Errors
 ///
-/// - `InvalidExample`: this crate has no such subject, or `row` doesn't have the format of its subject.
+/// - `InvalidExample`: this crate has no such subject, or `row` doesn't have the format of its
+///   subject.
 /// - `NoMemory`: an allocation failed. A failed append to `out` is returned by
 ///   [`ExampleOutput::end`] instead.
-pub fn push_answer(out: &mut ExampleOutput, subject: &str, row: &Example<'_>) -> Result<()> {
+pub fn push_example_output(
+    out: &mut ExampleOutput,
+    subject: &str,
+    row: &Example<'_>,
+) -> Result<()> {
     match subject {
         "claims" => streams::answer(out, row, "file"),
         "configurations" => configurations::answer(out, row),

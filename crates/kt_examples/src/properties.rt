@@ -1,8 +1,8 @@
 use crate::answer::ExampleOutput;
-use crate::escapes::text_of;
-use crate::example_fault::{ExampleFault, Result, asked, both, due};
-use crate::numbers::{numbered, store_number};
-use crate::retried;
+use crate::escapes::unescape_text;
+use crate::example_fault::{ExampleFault, Result, convert_error, due, zip_results};
+use crate::numbers::{expand_numbered, store_number};
+use crate::retry_once;
 use crate::row::{Example, ExampleLine, parse_pair};
 use crate::verdicts::push_reason;
 use kt_base::{Text, Variables, Verdict};
@@ -12,8 +12,8 @@ use kt_metadata::{
 };
 use std::alloc::Global;
 
-/// The state of an example: the properties of a program and of its case, a configuration and a
-/// host.
+/// A state of an example about properties: the properties of a program and of its case, a
+/// configuration and a host.
 #[derive(Drop)]
 struct PropertyState {
     program: Props,
@@ -22,17 +22,18 @@ struct PropertyState {
     host: Host,
 }
 
-/// Sets the property `NAME=VALUE`, and appends the error's message if it is rejected.
+/// Parses `raw` as `NAME=VALUE` and sets this property. Appends the error's message if the property
+/// is rejected.
 fn set_property(out: &mut ExampleOutput, props: &mut Props, raw: &str) -> Result<()> {
     let pair = parse_pair(out.alloc, raw)?;
-    if let Err(fault) = retried!(PropFault, props.set(&pair.name, &pair.value)) {
+    if let Err(fault) = retry_once!(PropFault, props.set(&pair.name, &pair.value)) {
         out.separate("\n");
         write!(out, "{fault}");
     }
     Ok(())
 }
 
-/// Sets the property `NAME=VALUE`.
+/// Parses `raw` as `NAME=VALUE` and sets this property.
 ///
 /// # Errors
 ///
@@ -40,26 +41,27 @@ fn set_property(out: &mut ExampleOutput, props: &mut Props, raw: &str) -> Result
 /// - `NoMemory`: an allocation failed.
 pub fn set_valid_property(alloc: Global, props: &mut Props, raw: &str) -> Result<()> {
     let pair = parse_pair(alloc, raw)?;
-    let set = retried!(PropFault, props.set(&pair.name, &pair.value)).ok();
+    let set = retry_once!(PropFault, props.set(&pair.name, &pair.value)).ok();
     due(set, "there is no such property or value")
 }
 
-/// Parses `COUNT NAME=VALUE`, and sets COUNT properties. Each `#` is replaced by the number of the
-/// property, from 0. Fails if a property is rejected.
+/// Parses `raw` as `COUNT NAME=VALUE` and sets COUNT properties. Each `#` is replaced by the number
+/// of the property, counted from 0. Fails if a property is rejected.
 fn set_numbered(alloc: Global, props: &mut Props, raw: &str) -> Result<()> {
-    for text in numbered(alloc, raw)?.as_slice() {
+    for text in expand_numbered(alloc, raw)?.as_slice() {
         set_valid_property(alloc, props, text.as_str())?;
     }
     Ok(())
 }
 
-/// Returns the value of the pair with the name `name`, or `None` without such a pair.
-fn value_in<'a>(pairs: &'a Variables, name: &str) -> Option<&'a str> {
+/// Returns the value of the pair in `pairs` with the name `name`, or `None` if there is no such
+/// pair.
+fn find_value<'a>(pairs: &'a Variables, name: &str) -> Option<&'a str> {
     let mut pairs = pairs.as_slice().iter();
     Some(pairs.find(|pair| pair.name.is_word(name))?.value.as_str())
 }
 
-/// Appends the properties that differ from their defaults, each as ` timeout=20`.
+/// Appends the properties in `props` that differ from their defaults, each as ` timeout=20`.
 ///
 /// # Errors
 ///
@@ -67,22 +69,25 @@ fn value_in<'a>(pairs: &'a Variables, name: &str) -> Option<&'a str> {
 pub fn push_props(out: &mut ExampleOutput, props: &Props) -> Result<()> {
     let defaults = Props::new(out.alloc).listing()?;
     for pair in props.listing()?.as_slice() {
-        if value_in(&defaults, pair.name.as_str()) != Some(pair.value.as_str()) {
+        if find_value(&defaults, pair.name.as_str()) != Some(pair.value.as_str()) {
             out.pair(" ", pair, "=");
         }
     }
     Ok(())
 }
 
-/// Sets the variable `NAME=VALUE` of a configuration. Fails if the variable is rejected.
+/// Parses `raw` as `NAME=VALUE` and sets this variable of the configuration. Fails if the variable
+/// is rejected.
 fn set_variable(alloc: Global, config: &mut Config, raw: &str) -> Result<()> {
     let pair = parse_pair(alloc, raw)?;
-    let set = retried!(ConfigFault, config.set(&pair.name, &pair.value)).ok();
+    let set = retry_once!(ConfigFault, config.set(&pair.name, &pair.value)).ok();
     due(set, "there is no such variable")
 }
 
-/// Executes the query `show`, `count` or `listing` on the listed properties, and appends its
-/// output.
+/// Executes the query `word` on `pairs`, the properties of an example, and appends its output.
+///
+/// `show` prints the value of the property `name`, `count` the number of properties, and `listing`
+/// all of them.
 fn push_listing_query(
     out: &mut ExampleOutput,
     word: &str,
@@ -90,7 +95,7 @@ fn push_listing_query(
     pairs: &Variables,
 ) -> Result<()> {
     match word {
-        "show" => out.push(value_in(pairs, name).unwrap_or("-")),
+        "show" => out.push(find_value(pairs, name).unwrap_or("-")),
         "count" => write!(out, "{}", pairs.len()),
         "listing" => out.pairs(pairs, "\n", " = "),
         _ => return Err(ExampleFault::InvalidExample("there is no such word")),
@@ -99,7 +104,8 @@ fn push_listing_query(
 }
 
 impl PropertyState {
-    /// Appends the first unmet requirement of a case in the suite `s`, or `met`.
+    /// Appends the reason of the first unmet requirement in `props`, or `met`. The case is in the
+    /// suite `s`.
     fn push_unmet(&self, out: &mut ExampleOutput, props: &Props) -> Result<()> {
         let suite = Text::from_str(out.alloc, "s")?;
         let meta = props.effective()?;
@@ -110,12 +116,13 @@ impl PropertyState {
         Ok(())
     }
 
-    /// Records that the host has the required file or program `raw`.
-    fn note(&mut self, alloc: Global, need: Need, raw: &str) -> Result<()> {
-        asked(self.host.note(need, &text_of(alloc, raw)?))
+    /// Records that the required file or program `raw` exists on the host.
+    fn record_found(&mut self, alloc: Global, need: Need, raw: &str) -> Result<()> {
+        convert_error(self.host.record_found(need, &unescape_text(alloc, raw)?))
     }
 
-    /// Executes a line, which changes the state or is a query, and appends its output.
+    /// Executes a line of an example, and appends its output. The line changes the state or is a
+    /// query.
     fn take(&mut self, out: &mut ExampleOutput, line: &ExampleLine<'_>) -> Result<()> {
         let (alloc, text) = (out.alloc, line.text);
         match line.word {
@@ -123,8 +130,8 @@ impl PropertyState {
             "case" => return set_property(out, &mut self.case, text),
             "numbered" => return set_numbered(alloc, &mut self.program, text),
             "config" => return set_variable(alloc, &mut self.config, text),
-            "file" => return self.note(alloc, Need::File, text),
-            "program" => return self.note(alloc, Need::Program, text),
+            "file" => return self.record_found(alloc, Need::File, text),
+            "program" => return self.record_found(alloc, Need::Program, text),
             "memory" => return store_number(&mut self.host.memory, text),
             "disk" => return store_number(&mut self.host.disk, text),
             "root" => self.host.root = true,
@@ -133,17 +140,20 @@ impl PropertyState {
         Ok(())
     }
 
-    /// Executes a query, and appends its output. The query reads the properties of the case, or of
-    /// the program if the case doesn't set a property.
+    /// Executes the query in `line`, and appends its output.
+    ///
+    /// The query reads the properties of the case. A property that the case doesn't set has the
+    /// value of the program.
     fn push_case_query(&self, out: &mut ExampleOutput, line: &ExampleLine<'_>) -> Result<()> {
         out.separate("\n");
-        let props = asked(Props::overlay(&self.program, &self.case));
-        let (name, props) = both(text_of(out.alloc, line.text), props)?;
-        self.push_told(out, line.word, &name, &props)
+        let props = convert_error(Props::overlay(&self.program, &self.case));
+        let (name, props) = zip_results(unescape_text(out.alloc, line.text), props)?;
+        self.push_line_output(out, line.word, &name, &props)
     }
 
-    /// Executes the query `word` about `name`, or about all properties, and appends its output.
-    fn push_told(
+    /// Executes the query `word` on the properties `props`, and appends its output. `name` is the
+    /// name or the key in the query, if the query has one.
+    fn push_line_output(
         &self,
         out: &mut ExampleOutput,
         word: &str,
@@ -165,7 +175,7 @@ impl PropertyState {
     }
 }
 
-/// Executes the lines of an example about properties and requirements in order, and appends the
+/// Executes the lines of an example about properties and requirements, in order, and appends their
 /// outputs.
 ///
 /// # Errors

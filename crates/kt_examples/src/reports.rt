@@ -1,5 +1,5 @@
 use crate::answer::ExampleOutput;
-use crate::entries::{parse_verdict_kinds, run_of};
+use crate::entries::{parse_run, parse_verdict_kinds};
 use crate::example_fault::{ExampleFault, Result};
 use crate::row::Example;
 use crate::scripted_writer::ScriptedWriter;
@@ -7,15 +7,18 @@ use kt_base::Run;
 use kt_report::ReportFault;
 use std::alloc::Global;
 
-/// Appends the start time that a text report prints, or the whole report if it prints none.
-fn push_moment(out: &mut ExampleOutput, report: &str) {
+/// Appends the start time of the run in `report`, a text report. Appends the whole report if it
+/// prints no start time.
+fn push_start_time(out: &mut ExampleOutput, report: &str) {
     let rest = report.split_once("started ");
     let moment = rest.and_then(|(_, rest)| rest.split_once('\n'));
     out.push(moment.unwrap_or((report, "")).0);
 }
 
-/// Prints the text report of a run to `page`. `kinds WORDS` selects the sections, by default all of
-/// them. `verbose` adds the properties that the cases declare.
+/// Prints the text report of `run` to `page`.
+///
+/// The line `kinds WORDS` of the example selects the sections, by default all of them. The line
+/// `verbose` adds the properties that the cases declare.
 fn print_text(
     alloc: Global,
     row: &Example<'_>,
@@ -28,7 +31,7 @@ fn print_text(
     Ok(())
 }
 
-/// Prints the JUnit report of a run to `page`, and appends the message of an error to `out`.
+/// Prints the JUnit report of `run` to `page`, and appends the message of an error to `out`.
 fn print_junit(out: &mut ExampleOutput, run: &Run, page: &mut ScriptedWriter) {
     match kt_report::junit(out.alloc, run, page) {
         Ok(()) => {}
@@ -37,8 +40,8 @@ fn print_junit(out: &mut ExampleOutput, run: &Run, page: &mut ScriptedWriter) {
     }
 }
 
-/// Prints the report that the example selects to `page`, and appends the message of an error to
-/// `out`.
+/// Prints a report of `run` to `page`. The line `report` of the example selects the report. If a
+/// JUnit report fails, appends the message of the error to `out`.
 fn print(
     out: &mut ExampleOutput,
     row: &Example<'_>,
@@ -62,25 +65,28 @@ fn print(
     Ok(())
 }
 
-/// Appends the report that the example selects, or only the start time in it for `report moment`.
+/// Appends the report of `run` that the line `report` of the example selects. For `report moment`,
+/// appends only the start time in the text report.
 fn push_report(out: &mut ExampleOutput, row: &Example<'_>, run: &Run) -> Result<()> {
     let mut page = ScriptedWriter::new(out.alloc);
     print(out, row, run, &mut page)?;
     let text = page.text(out.alloc)?;
     match row.text("report") {
-        Some("moment") => push_moment(out, text.as_str()),
+        Some("moment") => push_start_time(out, text.as_str()),
         _ => out.push(text.as_str()),
     }
     Ok(())
 }
 
-/// Appends a report of the run that an example describes: `report line`, `report text`,
-/// `report junit` or `report moment`. `report fault` is a JUnit report whose first write fails.
+/// Appends a report of the run that an example describes.
+///
+/// The report is selected by `report line`, `report text`, `report junit` or `report moment`.
+/// `report fault` is a JUnit report whose first write fails.
 ///
 /// # Errors
 ///
 /// - `InvalidExample`: a line is missing or invalid.
 /// - `NoMemory`: an allocation failed.
 pub fn answer(out: &mut ExampleOutput, row: &Example<'_>) -> Result<()> {
-    push_report(out, row, &run_of(out.alloc, row)?)
+    push_report(out, row, &parse_run(out.alloc, row)?)
 }

@@ -1,7 +1,7 @@
-/// Returns the result of a call, which is repeated once if an allocation failed. The failed call
-/// must have changed nothing.
+/// Returns the result of the call `$call`. If an allocation in the call failed, the call is
+/// repeated once. A failed call must have changed nothing.
 #[macro_export]
-macro_rules! retried {
+macro_rules! retry_once {
     ($fault:ident, $call:expr) => {
         match $call {
             Err($fault::NoMemory(_)) => $call,

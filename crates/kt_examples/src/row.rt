@@ -1,19 +1,19 @@
-use crate::escapes::{unescape_lossy, unescaped};
-use crate::example_fault::{Result, asked, both, due};
-use crate::numbers::{number, numbered};
+use crate::escapes::{unescape, unescape_lossy};
+use crate::example_fault::{Result, convert_error, due, zip_results};
+use crate::numbers::{expand_numbered, number};
 use kt_base::{Variable, Variables};
 use std::alloc::Global;
 
-/// A line of input: its first word is the keyword, and the rest is the text.
+/// A line of an example's input: a keyword and the text after it.
 #[derive(Clone, Copy)]
 pub struct ExampleLine<'a> {
-    /// The keyword.
+    /// The keyword, which is the first word of the line.
     pub word: &'a str,
     /// The text after the keyword. Its escapes are not decoded.
     pub text: &'a str,
 }
 
-/// An example: the lines of its input, and its expected output.
+/// An example: the lines of its input, and the lines of its expected output.
 #[derive(Drop)]
 pub struct Example<'a> {
     /// The number of the first line in the file, counted from 1.
@@ -24,15 +24,15 @@ pub struct Example<'a> {
     pub wanted: Vec<&'a str>,
 }
 
-/// Returns the text of the first of `lines` with the keyword `word`, or `None` without such a line.
-/// The escapes of the text are not decoded.
+/// Returns the text after the keyword `word` in `lines`, or `None` if there is no such line. Only
+/// the first line with the keyword counts. The escapes of the text are not decoded.
 pub fn text_in<'a>(lines: &[ExampleLine<'a>], word: &str) -> Option<&'a str> {
     let line = lines.iter().find(|line| line.word == word)?;
     Some(line.text)
 }
 
-/// Returns the number after the keyword `word` in `lines`, or `other` without such a line. Only the
-/// first line with the keyword counts. Allocates nothing.
+/// Returns the number after the keyword `word` in `lines`, or `other` if there is no such line.
+/// Only the first line with the keyword counts. Allocates nothing.
 ///
 /// # Errors
 ///
@@ -41,18 +41,18 @@ pub fn number_in(lines: &[ExampleLine<'_>], word: &str, other: u64) -> Result<u6
     text_in(lines, word).map_or(Ok(other), number)
 }
 
-/// Decodes the escapes of `raw`, and appends the result to `bytes`.
+/// Decodes the escapes of `raw`, and appends the decoded bytes to `bytes`.
 ///
 /// # Errors
 ///
 /// - `InvalidExample`: an escape or a repetition is invalid.
 /// - `NoMemory`: an allocation failed.
 pub fn append(alloc: Global, bytes: &mut Vec<u8>, raw: &str) -> Result<()> {
-    asked(bytes.extend_from_slice(&unescaped(alloc, raw)?))
+    convert_error(bytes.extend_from_slice(&unescape(alloc, raw)?))
 }
 
-/// Parses `NAME=VALUE`, split at the first `=`, and decodes the escapes of both parts. The value is
-/// empty without `=`.
+/// Parses `raw` as `NAME=VALUE`, split at the first `=`, and decodes the escapes of both parts. The
+/// value is empty without `=`.
 ///
 /// # Errors
 ///
@@ -60,17 +60,18 @@ pub fn append(alloc: Global, bytes: &mut Vec<u8>, raw: &str) -> Result<()> {
 /// - `NoMemory`: an allocation failed.
 pub fn parse_pair(alloc: Global, raw: &str) -> Result<Variable> {
     let (name, value) = raw.split_once('=').unwrap_or((raw, ""));
-    let (name, value) = both(unescape_lossy(alloc, name), unescape_lossy(alloc, value))?;
+    let (name, value) = zip_results(unescape_lossy(alloc, name), unescape_lossy(alloc, value))?;
     Ok(Variable { name, value })
 }
 
-/// Returns the pairs `NAME=VALUE` after the keyword `word` in `lines`, in order.
+/// Parses the texts after the keyword `word` in `lines` as `NAME=VALUE`, and returns these pairs in
+/// order.
 ///
 /// # Errors
 ///
 /// - `InvalidExample`: an escape or a repetition is invalid.
 /// - `NoMemory`: an allocation failed.
-pub fn pairs_of(alloc: Global, lines: &[ExampleLine<'_>], word: &str) -> Result<Variables> {
+pub fn parse_pairs(alloc: Global, lines: &[ExampleLine<'_>], word: &str) -> Result<Variables> {
     let mut pairs = Variables::new(alloc);
     for line in lines {
         if line.word == word {
@@ -90,14 +91,14 @@ impl<'a> Example<'a> {
         due(self.entries.first().copied(), "the row is empty")
     }
 
-    /// Returns the text of the first line with the keyword `word`, or `None` without such a line.
-    /// The escapes of the text are not decoded.
+    /// Returns the text of the first line with the keyword `word`, or `None` if there is no such
+    /// line. The escapes of the text are not decoded.
     pub fn text(&self, word: &str) -> Option<&'a str> {
         text_in(self.entries.as_slice(), word)
     }
 
-    /// Returns the number of the first line with the keyword `word`, or `other` without such a
-    /// line. Allocates nothing.
+    /// Returns the number after the keyword `word`, or `other` if there is no such line. Only the
+    /// first line with the keyword counts. Allocates nothing.
     ///
     /// # Errors
     ///
@@ -106,18 +107,19 @@ impl<'a> Example<'a> {
         number_in(self.entries.as_slice(), word, other)
     }
 
-    /// Returns the decoded bytes of the first line with the keyword `word`, or `None` without such
-    /// a line.
+    /// Returns the text of the first line with the keyword `word`, with its escapes decoded to
+    /// bytes. Returns `None` if there is no such line.
     ///
     /// # Errors
     ///
     /// - `InvalidExample`: an escape or a repetition is invalid.
     /// - `NoMemory`: an allocation failed.
     pub fn bytes(&self, alloc: Global, word: &str) -> Result<Option<Vec<u8>>> {
-        self.text(word).map(|raw| unescaped(alloc, raw)).transpose()
+        self.text(word).map(|raw| unescape(alloc, raw)).transpose()
     }
 
-    /// Returns the decoded bytes of the first line with the keyword `word`, which is required.
+    /// Returns the text of the first line with the keyword `word`, with its escapes decoded to
+    /// bytes. An example must have such a line.
     ///
     /// # Errors
     ///
@@ -130,31 +132,35 @@ impl<'a> Example<'a> {
         word: &str,
         fault: &'static str,
     ) -> Result<Vec<u8>> {
-        unescaped(alloc, due(self.text(word), fault)?)
+        unescape(alloc, due(self.text(word), fault)?)
     }
 
-    /// Returns the decoded bytes of the expected output, with a newline between two lines.
+    /// Returns the expected output with its escapes decoded to bytes, and with a newline between
+    /// two lines.
     ///
     /// # Errors
     ///
     /// - `InvalidExample`: an escape or a repetition is invalid.
     /// - `NoMemory`: an allocation failed.
     pub fn wanted(&self, alloc: Global) -> Result<Vec<u8>> {
-        unescaped(alloc, self.wanted.as_slice().join(alloc, "\n")?.as_str())
+        unescape(alloc, self.wanted.as_slice().join(alloc, "\n")?.as_str())
     }
 }
 
-/// Parses `COUNT TEXT`, and appends COUNT copies of the text, with their escapes decoded. Each `#`
-/// in a copy is replaced by the copy's number, from 0.
+/// Parses `raw` as `COUNT TEXT`, and appends COUNT copies of the text to `bytes`, with their
+/// escapes decoded. Each `#` in a copy is replaced by the copy's number, counted from 0.
 fn append_numbered(alloc: Global, bytes: &mut Vec<u8>, raw: &str) -> Result<()> {
-    for text in numbered(alloc, raw)?.as_slice() {
+    for text in expand_numbered(alloc, raw)?.as_slice() {
         append(alloc, bytes, text.as_str())?;
     }
     Ok(())
 }
 
-/// Returns `bytes`, to which each line `numbered COUNT TEXT` of the example appends COUNT copies of
-/// its text. Each `#` in a copy is replaced by the copy's number, from 0.
+/// Returns `bytes` with the copies that the lines `numbered COUNT TEXT` of the example add at the
+/// end.
+///
+/// Each line adds COUNT copies of its text. Each `#` in a copy is replaced by the copy's number,
+/// counted from 0.
 ///
 /// # Errors
 ///

@@ -1,16 +1,16 @@
-use crate::example_fault::{ExampleFault, Result, asked};
+use crate::example_fault::{ExampleFault, Result, convert_error};
 use crate::row::{Example, ExampleLine};
 use std::alloc::Global;
 
-/// Splits a line of input at its first space into the keyword and the text.
+/// Splits `line`, a line of input, at its first space into the keyword and the text.
 fn entry_of(line: &str) -> ExampleLine<'_> {
     let (word, text) = line.split_once(' ').unwrap_or((line, ""));
     let text = text.trim();
     ExampleLine { word, text }
 }
 
-/// Splits a line at its arrow, ` -> `, into input and expected output. Without an arrow, all is
-/// input.
+/// Splits `line` at its arrow, ` -> `, into input and expected output. A line without an arrow is
+/// input alone.
 fn parts(line: &str) -> (&str, Option<&str>) {
     if let Some(front) = line.strip_suffix(" ->") {
         return (front.trim(), Some(""));
@@ -22,18 +22,18 @@ fn parts(line: &str) -> (&str, Option<&str>) {
 }
 
 /// Returns `true` if the last example has no expected output yet.
-fn is_open(rows: &[Example<'_>]) -> bool {
+fn is_last_incomplete(rows: &[Example<'_>]) -> bool {
     rows.last().is_some_and(|row| row.wanted.is_empty())
 }
 
-/// Appends a line to the expected output of the last example.
+/// Appends the line `wanted` to the expected output of the last example.
 fn push_output_line<'a>(rows: &mut Vec<Example<'a>>, wanted: &'a str) -> Result<()> {
     let fault = ExampleFault::InvalidExample("an answer without a question");
-    asked(rows.last_mut().ok_or(fault)?.wanted.push(wanted))
+    convert_error(rows.last_mut().ok_or(fault)?.wanted.push(wanted))
 }
 
-/// Appends a line to the input of the last example, and the text after its arrow to the expected
-/// output.
+/// Appends a line to the input of the last example. The text after an arrow in the line is appended
+/// to the expected output.
 fn push_input_line<'a>(rows: &mut Vec<Example<'a>>, line: &'a str) -> Result<()> {
     let (front, wanted) = parts(line);
     if let Some(row) = rows.last_mut() {
@@ -45,8 +45,10 @@ fn push_input_line<'a>(rows: &mut Vec<Example<'a>>, line: &'a str) -> Result<()>
     }
 }
 
-/// Parses one line of a `.rows` file, and adds it to the examples. Empty lines and comments are
-/// skipped, and input after expected output begins an example.
+/// Parses one line of a `.rows` file, and adds it to the examples `rows`.
+///
+/// Empty lines and comments are skipped. A line of input after expected output begins a new
+/// example.
 fn take<'a>(alloc: Global, rows: &mut Vec<Example<'a>>, line: u64, text: &'a str) -> Result<()> {
     if text.is_empty() || text.starts_with('#') {
         return Ok(());
@@ -54,7 +56,7 @@ fn take<'a>(alloc: Global, rows: &mut Vec<Example<'a>>, line: u64, text: &'a str
     if let Some(wanted) = text.strip_prefix("->") {
         return push_output_line(rows, wanted.trim());
     }
-    if !is_open(rows) {
+    if !is_last_incomplete(rows) {
         rows.push(Example {
             line,
             entries: Vec::new(alloc),
@@ -70,9 +72,10 @@ fn take<'a>(alloc: Global, rows: &mut Vec<Example<'a>>, line: u64, text: &'a str
 ///
 /// Each error comes with the number of its line, counted from 1.
 ///
-/// - `InvalidExample`: expected output precedes all input, or the last example has no expected output.
+/// - `InvalidExample`: expected output precedes all input, or the last example has no expected
+///   output.
 /// - `NoMemory`: an allocation failed.
-pub fn read_rows<'a>(
+pub fn parse_rows<'a>(
     alloc: Global,
     text: &'a str,
 ) -> Result<Vec<Example<'a>>, (u64, ExampleFault)> {
@@ -84,7 +87,7 @@ pub fn read_rows<'a>(
             return Err((number, fault));
         }
     }
-    if is_open(&rows) {
+    if is_last_incomplete(&rows) {
         return Err((
             number,
             ExampleFault::InvalidExample("the last row has no answer"),

@@ -14,12 +14,13 @@ pub enum WriteFault {
     Nothing,
 }
 
-/// A `Write` that stores the bytes, limits the bytes of a write, and can fail from some write on.
+/// A `Write` that stores the bytes that are written to it. Each write accepts a limited number of
+/// bytes, and the writes can fail from one of them on.
 #[derive(Drop)]
 pub struct ScriptedWriter {
     /// The bytes that were written.
     kept: Vec<u8>,
-    /// The last failed allocation of a write, if any.
+    /// The last allocation that failed in a write, if any.
     refusal: Option<NoMemory>,
     /// The maximum number of bytes that a write accepts.
     pub at_most: usize,
@@ -51,7 +52,7 @@ impl ScriptedWriter {
     ///
     /// # Errors
     ///
-    /// - `NoMemory`: the allocation of a write failed.
+    /// - `NoMemory`: an allocation in a write failed.
     pub fn kept(&self) -> Result<&[u8], NoMemory> {
         match self.refusal {
             None => Ok(self.kept.as_slice()),
@@ -59,11 +60,11 @@ impl ScriptedWriter {
         }
     }
 
-    /// Returns the bytes that were written as text, with invalid UTF-8 replaced by U+FFFD.
+    /// Returns the bytes that were written, as text with invalid UTF-8 replaced by U+FFFD.
     ///
     /// # Errors
     ///
-    /// - `NoMemory`: the allocation of a write or of the text failed.
+    /// - `NoMemory`: an allocation in a write or for the text failed.
     pub fn text(&self, alloc: Global) -> Result<String, NoMemory> {
         Ok(String::from_utf8_lossy(alloc, self.kept()?)?)
     }

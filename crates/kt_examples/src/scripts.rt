@@ -3,7 +3,7 @@ use crate::example_fault::Result;
 use crate::row::Example;
 use kt_script::{Action, Arg, Literal, Stmt, parse};
 
-/// Appends a literal between `before` and `after`, with quotes if it is a text.
+/// Appends the literal `value` between the texts `before` and `after`, in quotes if it is a text.
 fn push_literal(out: &mut ExampleOutput, before: &str, value: &Literal, after: &str) {
     let quote = match value {
         Literal::Text(_) => "'",
@@ -14,7 +14,7 @@ fn push_literal(out: &mut ExampleOutput, before: &str, value: &Literal, after: &
     write!(out, "{quote}{after}");
 }
 
-/// Appends the argument of a call: `('a')`, or `{a=1,}` for a table.
+/// Appends the argument of a call, as `('a')`, or as `{a=1,}` for a table.
 fn push_argument(out: &mut ExampleOutput, arg: &Arg) {
     match arg {
         Arg::Value(value) => push_literal(out, "(", value, ")"),
@@ -51,7 +51,8 @@ fn push_stmts(out: &mut ExampleOutput, stmts: &[Stmt]) {
     }
 }
 
-/// Parses the script of the line `script TEXT`, and appends its statements or the error.
+/// Parses the script in the line `script TEXT` of an example, and appends its statements or the
+/// error.
 ///
 /// # Errors
 ///

@@ -1,42 +1,43 @@
-//! Reads result files and TAP streams at once and in pieces, and checks that the results are equal.
+//! Examples of result files and TAP streams, which are read at once and in pieces with equal
+//! results.
 
 use crate::answer::ExampleOutput;
-use crate::escapes::unescaped;
-use crate::example_fault::{Result, asked};
+use crate::escapes::unescape;
+use crate::example_fault::{Result, convert_error};
 use crate::row::Example;
 use kt_base::NoMemory;
 use kt_claim::{Claim, ClaimReader, Tap, TapReader, read_claim, read_tap};
 use std::alloc::Global;
 
-/// The maximum length, in bytes, of an input that is split at each position.
+/// The greatest length of an input that is split at each position, in bytes.
 const MAX_SPLIT_BYTES: usize = 1_000;
 
-/// A reader of a result file or of a TAP stream in pieces.
+/// A reader of evidence in pieces: of a result file or of a TAP stream.
 #[derive(Drop)]
-enum Reader {
+enum EvidenceReader {
     Claim(ClaimReader),
     Tap(TapReader),
 }
 
-impl Reader {
+impl EvidenceReader {
     /// Creates a reader of a TAP stream if `word` is `tap`, and of a result file otherwise.
-    fn new(alloc: Global, word: &str) -> Reader {
+    fn new(alloc: Global, word: &str) -> EvidenceReader {
         match word {
-            "tap" => Reader::Tap(TapReader::new(alloc)),
-            _ => Reader::Claim(ClaimReader::new(alloc)),
+            "tap" => EvidenceReader::Tap(TapReader::new(alloc)),
+            _ => EvidenceReader::Claim(ClaimReader::new(alloc)),
         }
     }
 
-    /// Reads the next piece of a result file or a TAP stream.
+    /// Reads `piece`, the next piece of a result file or a TAP stream.
     fn take(&mut self, piece: &[u8]) -> Result<(), NoMemory> {
         match self {
-            Reader::Claim(reader) => reader.feed(piece),
-            Reader::Tap(reader) => reader.feed(piece),
+            EvidenceReader::Claim(reader) => reader.feed(piece),
+            EvidenceReader::Tap(reader) => reader.feed(piece),
         }
     }
 
     /// Reads `bytes` in pieces: the first has `first` bytes, the others have at most `length`.
-    fn take_pieces(&mut self, bytes: &[u8], first: usize, length: usize) -> Result<(), NoMemory> {
+    fn feed_pieces(&mut self, bytes: &[u8], first: usize, length: usize) -> Result<(), NoMemory> {
         let (front, back) = bytes.split_at(first.min(bytes.len()));
         self.take(front)?;
         for piece in back.chunks(length.max(1)) {
@@ -45,11 +46,11 @@ impl Reader {
         Ok(())
     }
 
-    /// Appends the claim or the TAP result that was read.
-    fn push_read(self, out: &mut ExampleOutput) {
+    /// Appends the claim of the result file, or the result of the TAP stream, that was read.
+    fn push_parse_result(self, out: &mut ExampleOutput) {
         match self {
-            Reader::Claim(reader) => push_claim(out, reader.finish()),
-            Reader::Tap(reader) => push_tap(out, reader.finish()),
+            EvidenceReader::Claim(reader) => push_claim(out, reader.finish()),
+            EvidenceReader::Tap(reader) => push_tap(out, reader.finish()),
         }
     }
 }
@@ -57,13 +58,13 @@ impl Reader {
 /// Appends the claim of a result file, or records that an allocation failed.
 fn push_claim(out: &mut ExampleOutput, claim: Result<Claim, NoMemory>) {
     match claim {
-        Ok(claim) => push_parts(out, &claim),
+        Ok(claim) => push_claim_parts(out, &claim),
         Err(refusal) => out.fail(refusal),
     }
 }
 
-/// Appends the name of a claim, its number if it has one, and its reason.
-fn push_parts(out: &mut ExampleOutput, claim: &Claim) {
+/// Appends the name of a claim, and its number and its reason if it has them.
+fn push_claim_parts(out: &mut ExampleOutput, claim: &Claim) {
     out.name(claim);
     match claim {
         Claim::Missing | Claim::Unreadable | Claim::Passed => {}
@@ -92,37 +93,40 @@ fn push_tap(out: &mut ExampleOutput, tap: Result<Tap, NoMemory>) {
     }
 }
 
-/// Returns the output for `bytes` that are read at once: as a TAP stream if `word` is `tap`, and as
-/// a result file otherwise.
-fn whole_text(alloc: Global, word: &str, bytes: &[u8]) -> Result<String> {
+/// Reads `bytes` at once, and returns their claim or their TAP result as text.
+///
+/// `word` is `tap` for a TAP stream. Otherwise, `bytes` are a result file.
+fn read_at_once(alloc: Global, word: &str, bytes: &[u8]) -> Result<String> {
     let mut out = ExampleOutput::new(alloc);
     match word {
         "tap" => push_tap(&mut out, read_tap(alloc, bytes)),
         _ => push_claim(&mut out, read_claim(alloc, bytes)),
     }
-    asked(out.end())
+    convert_error(out.end())
 }
 
-/// Reads `bytes` in pieces and returns the text for the claim or for the TAP stream in them.
+/// Reads `bytes` in pieces, and returns their claim or their TAP result as text.
 ///
-/// The first piece has at most `first` bytes, each other piece at most `rest`. `word` is `tap` for a
-/// TAP stream.
-fn text_in_pieces(
+/// The first piece has at most `first` bytes, and each other piece at most `rest`. `word` is `tap`
+/// for a TAP stream. Otherwise, `bytes` are a result file.
+fn read_in_pieces(
     alloc: Global,
     word: &str,
     bytes: &[u8],
     first: usize,
     rest: usize,
 ) -> Result<String> {
-    let mut reader = Reader::new(alloc, word);
-    reader.take_pieces(bytes, first, rest)?;
+    let mut reader = EvidenceReader::new(alloc, word);
+    reader.feed_pieces(bytes, first, rest)?;
     let mut out = ExampleOutput::new(alloc);
-    reader.push_read(&mut out);
-    asked(out.end())
+    reader.push_parse_result(&mut out);
+    convert_error(out.end())
 }
 
-/// Returns `true` if reading `bytes` in two pieces, split at `cut`, gives the output `whole`.
-/// Appends the output if it differs.
+/// Returns `true` if reading `bytes` in two pieces, split at the index `cut`, gives the text
+/// `whole`. If the pieces give another text, appends that text.
+///
+/// `word` is `tap` for a TAP stream.
 fn push_if_split_differs(
     out: &mut ExampleOutput,
     word: &str,
@@ -130,7 +134,7 @@ fn push_if_split_differs(
     cut: usize,
     whole: &str,
 ) -> Result<bool> {
-    let other = text_in_pieces(out.alloc, word, bytes, cut, bytes.len())?;
+    let other = read_in_pieces(out.alloc, word, bytes, cut, bytes.len())?;
     let agrees = other.as_str() == whole;
     if !agrees {
         write!(out, "cut at {cut}: {other}");
@@ -138,9 +142,11 @@ fn push_if_split_differs(
     Ok(agrees)
 }
 
-/// Appends the output for `bytes` that are read byte by byte, if each split into two pieces gives
-/// the output `whole`. Otherwise appends the first output that differs. Input of more than 1,000
-/// bytes is split only at its beginning.
+/// Checks that reading `bytes` in two pieces, and byte by byte, gives the text `whole`. Appends
+/// `whole`, or else the first text that differs from it.
+///
+/// Input of at most 1,000 bytes is split at each index, and longer input only before its first
+/// byte. `word` is `tap` for a TAP stream.
 fn push_checked_text(out: &mut ExampleOutput, word: &str, bytes: &[u8], whole: &str) -> Result<()> {
     let cuts = if bytes.len() > MAX_SPLIT_BYTES {
         1
@@ -152,7 +158,7 @@ fn push_checked_text(out: &mut ExampleOutput, word: &str, bytes: &[u8], whole: &
             return Ok(());
         }
     }
-    let other = text_in_pieces(out.alloc, word, bytes, 0, 1)?;
+    let other = read_in_pieces(out.alloc, word, bytes, 0, 1)?;
     if other.as_str() != whole {
         out.push("byte by byte: ");
     }
@@ -160,21 +166,24 @@ fn push_checked_text(out: &mut ExampleOutput, word: &str, bytes: &[u8], whole: &
     Ok(())
 }
 
-/// Appends the output for the pieces of an example, which follow the keyword `piece`.
+/// Reads the pieces in the lines `piece TEXT` of an example, and appends their claim or their TAP
+/// result.
 fn push_pieces(out: &mut ExampleOutput, row: &Example<'_>, word: &str) -> Result<()> {
-    let mut reader = Reader::new(out.alloc, word);
+    let mut reader = EvidenceReader::new(out.alloc, word);
     for line in row.entries.as_slice() {
         if line.word == "piece" {
-            asked(reader.take(&unescaped(out.alloc, line.text)?))?;
+            convert_error(reader.take(&unescape(out.alloc, line.text)?))?;
         }
     }
-    reader.push_read(out);
+    reader.push_parse_result(out);
     Ok(())
 }
 
-/// Appends the claim of a result file (`file TEXT`) or the result of a TAP stream (`tap TEXT`). The
-/// input is also read in pieces, and the first output that differs is appended instead. An example
-/// without these lines has the input in the lines `piece TEXT`.
+/// Appends the claim of a result file or the result of a TAP stream, which an example contains.
+///
+/// `word` is the keyword of its line: `file` or `tap`. The input is also read in pieces, and the
+/// first text that differs is appended instead. Without this line, the input is in the lines `piece
+/// TEXT`.
 ///
 /// # Errors
 ///
@@ -184,6 +193,6 @@ pub fn answer(out: &mut ExampleOutput, row: &Example<'_>, word: &str) -> Result<
     let Some(bytes) = row.bytes(out.alloc, word)? else {
         return push_pieces(out, row, word);
     };
-    let whole = whole_text(out.alloc, word, &bytes)?;
+    let whole = read_at_once(out.alloc, word, &bytes)?;
     push_checked_text(out, word, &bytes, whole.as_str())
 }

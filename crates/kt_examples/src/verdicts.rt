@@ -1,6 +1,6 @@
 use crate::answer::ExampleOutput;
-use crate::escapes::unescaped;
-use crate::example_fault::{ExampleFault, Result, asked, both, due};
+use crate::escapes::unescape;
+use crate::example_fault::{ExampleFault, Result, convert_error, due, zip_results};
 use crate::row::Example;
 use crate::scripted_writer::ScriptedWriter;
 use kt_base::{Kind, Outcome, Refused, Text, Verdict};
@@ -25,15 +25,15 @@ pub fn push_verdict(out: &mut ExampleOutput, verdict: &Verdict) {
     out.text(written.map(|()| reason));
 }
 
-/// Returns the reason of a verdict, as `print_reason` prints it to a writer.
-fn print_reason_text(alloc: Global, verdict: &Verdict) -> Result<String> {
+/// Returns the reason of `verdict` as `print_reason` prints it. Its writer is a buffer.
+fn capture_printed_reason(alloc: Global, verdict: &Verdict) -> Result<String> {
     let mut page = ScriptedWriter::new(alloc);
     let _ = verdict.print_reason(&mut page);
-    asked(page.text(alloc))
+    convert_error(page.text(alloc))
 }
 
-/// Returns the reason of a verdict, as `write_reason` appends it to the text `so: `.
-fn write_reason_text(alloc: Global, verdict: &Verdict) -> Result<Text> {
+/// Returns the text `so: `, to which `write_reason` has appended the reason of `verdict`.
+fn capture_written_reason(alloc: Global, verdict: &Verdict) -> Result<Text> {
     let mut written = Text::from_str(alloc, "so: ")?;
     verdict.write_reason(&mut written)?;
     Ok(written)
@@ -46,8 +46,8 @@ fn write_reason_text(alloc: Global, verdict: &Verdict) -> Result<Text> {
 ///
 /// - `NoMemory`: an allocation failed.
 pub fn push_reason(out: &mut ExampleOutput, verdict: &Verdict) -> Result<()> {
-    let printed = print_reason_text(out.alloc, verdict);
-    let (printed, written) = both(printed, write_reason_text(out.alloc, verdict))?;
+    let printed = capture_printed_reason(out.alloc, verdict);
+    let (printed, written) = zip_results(printed, capture_written_reason(out.alloc, verdict))?;
     out.push(printed.as_str());
     if written.as_str().strip_prefix("so: ") != Some(printed.as_str()) {
         write!(out, " but {}", written.as_str());
@@ -55,8 +55,8 @@ pub fn push_reason(out: &mut ExampleOutput, verdict: &Verdict) -> Result<()> {
     Ok(())
 }
 
-/// Parses the cause of a failed start: `directory`, `output`, `spawn` or `memory`. Allocates
-/// nothing.
+/// Parses `text` as the cause of a failed start: `directory`, `output`, `spawn` or `memory`.
+/// Allocates nothing.
 ///
 /// # Errors
 ///
@@ -71,18 +71,18 @@ pub fn parse_refusal(text: &str) -> Result<Refused> {
     }
 }
 
-/// Parses an exit status or the number of a signal, from 0 to 255.
+/// Parses `text` as an exit status or the number of a signal, from 0 to 255.
 fn number(text: &str) -> Result<u8> {
     due(text.parse::<u8>().ok(), "no number from 0 to 255")
 }
 
-/// Parses the outcome of a child: `exited 3`, `signaled 9`, `signaled 6 core`, `timed out` or
-/// `not waited for`. Allocates nothing.
+/// Parses `text` as the outcome of a child: `exited 3`, `signaled 9`, `signaled 6 core`, `timed
+/// out` or `not waited for`. Allocates nothing.
 ///
 /// # Errors
 ///
 /// - `InvalidExample`: `text` isn't an outcome, or its number isn't from 0 to 255.
-pub fn ending_of(text: &str) -> Result<Outcome> {
+pub fn parse_outcome(text: &str) -> Result<Outcome> {
     let (word, rest) = text.split_once(' ').unwrap_or((text, ""));
     let front = rest.strip_suffix(" core");
     match word {
@@ -94,13 +94,14 @@ pub fn ending_of(text: &str) -> Result<Outcome> {
     }
 }
 
-/// Parses the first line of an example into the evidence of a case. The line is `file TEXT`,
-/// `tap TEXT`, `plain`, `no-file`, `file-unread` or `tap-unread`.
+/// Parses the first line of an example as the evidence of a case.
+///
+/// The line is `file TEXT`, `tap TEXT`, `plain`, `no-file`, `file-unread` or `tap-unread`.
 fn parse_evidence(alloc: Global, row: &Example<'_>) -> Result<Evidence> {
     let line = row.first()?;
     match line.word {
-        "file" => asked(read_claim(alloc, &unescaped(alloc, line.text)?)).map(Evidence::Atf),
-        "tap" => asked(read_tap(alloc, &unescaped(alloc, line.text)?)).map(Evidence::Tap),
+        "file" => convert_error(read_claim(alloc, &unescape(alloc, line.text)?)).map(Evidence::Atf),
+        "tap" => convert_error(read_tap(alloc, &unescape(alloc, line.text)?)).map(Evidence::Tap),
         "plain" => Ok(Evidence::Plain),
         "no-file" => Ok(Evidence::Atf(Claim::Missing)),
         "file-unread" => Ok(Evidence::Atf(Claim::Unreadable)),
@@ -109,20 +110,22 @@ fn parse_evidence(alloc: Global, row: &Example<'_>) -> Result<Evidence> {
     }
 }
 
-/// Returns the verdict of a case whose body ended, with its cleanup if the example has one.
-fn verdict_of_body(alloc: Global, row: &Example<'_>) -> Result<Verdict> {
-    let body = ending_of(due(row.text("body"), "no body")?)?;
+/// Returns the verdict of the case in an example, by its evidence and its body's outcome, and by
+/// its cleanup if the case has one.
+fn judge_body(alloc: Global, row: &Example<'_>) -> Result<Verdict> {
+    let body = parse_outcome(due(row.text("body"), "no body")?)?;
     let verdict = body_verdict(parse_evidence(alloc, row)?, body);
     match row.text("cleanup") {
         None => Ok(verdict),
         Some("refused") => Ok(with_cleanup(verdict, CleanupEnd::Refused)),
-        Some(ending) => Ok(with_cleanup(verdict, CleanupEnd::Ended(ending_of(ending)?))),
+        Some(ending) => Ok(with_cleanup(verdict, CleanupEnd::Ended(parse_outcome(ending)?))),
     }
 }
 
-/// Appends the verdict of the case that an example describes. The example has the evidence,
-/// `body OUTCOME`, and for a case with a cleanup `cleanup OUTCOME` or `cleanup refused`. An example
-/// of a body that can't be started has only `refused CAUSE`.
+/// Appends the verdict of the case that an example describes.
+///
+/// The example has the evidence, `body OUTCOME`, and for a case with a cleanup `cleanup OUTCOME` or
+/// `cleanup refused`. If the body can't be started, it has only `refused CAUSE`.
 ///
 /// # Errors
 ///
@@ -131,7 +134,7 @@ fn verdict_of_body(alloc: Global, row: &Example<'_>) -> Result<Verdict> {
 pub fn answer(out: &mut ExampleOutput, row: &Example<'_>) -> Result<()> {
     let verdict = match row.text("refused") {
         Some(refused) => refused_verdict(parse_refusal(refused)?),
-        None => verdict_of_body(out.alloc, row)?,
+        None => judge_body(out.alloc, row)?,
     };
     push_kind(out, &verdict);
     push_reason(out, &verdict)

@@ -17,14 +17,14 @@ pub use Rattle.kt_base.specs.Utf8.{utf8}
 pub use Rattle.kt_base.specs.declared.variable.Variable.{Variable}
 pub use Rattle.kt_config.proofs.Puttings.{first-settled, first_value, put, put-settled, settled-put}
 pub use Rattle.kt_metadata.specs.Effective.{given, meta_of, size_in, texts_of, timeout_in, truth_in, user_in, words_in}
-pub use Rattle.kt_metadata.specs.Inner.Layers.{HaveParsedValues, AreConsistent, IsRead, program_layer, pair_in, pairs_in}
+pub use Rattle.kt_metadata.specs.Inner.Layers.{HaveParsedValues, AreConsistent, IsConsistent, program_layer, pair_in, pairs_in}
 pub use Rattle.kt_metadata.specs.Inner.Rows.{row_in}
 pub use Rattle.kt_metadata.specs.ListKeys.{IsKeyOf, has_key, name_of_key}
-pub use Rattle.kt_metadata.specs.Listing.{custom_pairs, property_pairs, spaced, truth_text, user_text}
+pub use Rattle.kt_metadata.specs.Listing.{custom_pairs, property_pairs, space_prefixed, truth_text, user_text}
 pub use Rattle.kt_metadata.specs.Overlays.{name_with_value}
-pub use Rattle.kt_metadata.specs.Properties.{PropertyRow, after_prefix, filled, form_of_property, has_name, is_custom, non_empty_suffix, table, value_fault, value_in, value_of_text}
-pub use Rattle.kt_metadata.specs.Requirements.{IsRecordedAsFound, around, is_allowed, is_found, is_same_need, listed_reason_text, need_text, needed}
-pub use Rattle.kt_metadata.specs.Words.{AreWords, IsBreak, ended, is_word, words, words_from}
+pub use Rattle.kt_metadata.specs.Properties.{PropertyRow, after_prefix, non_empty_text, form_of_property, has_name, is_custom, non_empty_suffix, table, value_fault, value_in, value_of_text}
+pub use Rattle.kt_metadata.specs.Requirements.{RecordsAsFound, enclosed_text, is_allowed, is_found, is_same_need, unsupported_reason_text, need_text, needed}
+pub use Rattle.kt_metadata.specs.Words.{AreWords, IsElementEnd, with_element, is_word, words, words_from}
 pub use Rattle.kt_metadata.specs.declared.host.Host.{Host}
 pub use Rattle.kt_metadata.specs.declared.host.Need.{Need}
 pub use Rattle.kt_metadata.specs.declared.host.Need.TheVariants.{File, Program}

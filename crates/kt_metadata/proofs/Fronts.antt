@@ -1,6 +1,6 @@
 -- The rest of a text after a prefix.
 use Rattle.std.proofs.Common.{◌≡◌, ℕ, Bool, true, false, List, [], ◌∷◌, ◌++◌, refl, sym, ap, ◌∙◌, Option, Some, None, option_and_then, encode_utf8_all, ◌==◌}
-use Rattle.kt_metadata.proofs.Common.{chars, IsUtf8, encodes-chars, chars-append, encodes-append, after_prefix, non_empty_suffix, filled}
+use Rattle.kt_metadata.proofs.Common.{chars, IsUtf8, encodes-chars, chars-append, encodes-append, after_prefix, non_empty_suffix, non_empty_text}
 use Rattle.std.proofs.lemmas.Bool.{eq-eqb, eqb-true}
 
 -- `after_prefix` returns the rest of a text that begins with the prefix.
@@ -23,15 +23,16 @@ append-after_prefix (c ∷ front) [] rest found = absurd (cc)
 append-after_prefix (c ∷ front) (d ∷ text) rest found =
     back-next c d front text rest (λ e. append-after_prefix front text rest e) (c == d) refl found
 
--- If bytes begin with the bytes of the prefix, `non_empty_suffix` returns the rest unless it is empty.
-pub non_empty_suffix-found : (front text part : List ℕ) → IsUtf8 front → text ≡ front ++ part → non_empty_suffix (chars front) (chars text) ≡ filled (chars part)
+-- If bytes begin with the bytes of the prefix, `non_empty_suffix` returns the rest unless it is
+-- empty.
+pub non_empty_suffix-found : (front text part : List ℕ) → IsUtf8 front → text ≡ front ++ part → non_empty_suffix (chars front) (chars text) ≡ non_empty_text (chars part)
 non_empty_suffix-found front text part u e =
     ap (λ (t : List ℕ). non_empty_suffix (chars front) t) (ap chars e ∙ chars-append front part u)
-    ∙ ap (λ (o : Option (List ℕ)). option_and_then filled o) (after_prefix-append (chars front) (chars part))
+    ∙ ap (λ (o : Option (List ℕ)). option_and_then non_empty_text o) (after_prefix-append (chars front) (chars part))
 
 none-next : (front text : List ℕ) → IsUtf8 front → IsUtf8 text → ((rest : List ℕ) → text ≡ front ++ rest → ⊥)
     → (found : Option (List ℕ)) → after_prefix (chars front) (chars text) ≡ found → non_empty_suffix (chars front) (chars text) ≡ None
-none-next front text u v lacks None e = ap (λ (o : Option (List ℕ)). option_and_then filled o) e
+none-next front text u v lacks None e = ap (λ (o : Option (List ℕ)). option_and_then non_empty_text o) e
 none-next front text u v lacks (Some rest) e =
     let parts : chars text ≡ chars front ++ rest = append-after_prefix (chars front) (chars text) rest e in
     absurd (lacks (encode_utf8_all rest)

@@ -1,6 +1,6 @@
 -- Keys and the names of the properties that they represent.
 use Rattle.std.proofs.Common.{◌≡◌, ℕ, zero, suc, Bool, true, false, List, [], ◌∷◌, ◌++◌, refl, sym, ap, ◌∙◌, subst, Option, Some, None, bytes_eq, ◌&&◌, codes, IfSome, IsSome, is_some, option_and_then, slice_get}
-use Rattle.kt_metadata.proofs.Common.{find, list_all, option_map, option_or, same, PropertyRow, table, form_of_property, non_empty_suffix, after_prefix, filled, has_key, name_of_key, IsKeyOf}
+use Rattle.kt_metadata.proofs.Common.{find, list_all, option_map, option_or, same, PropertyRow, table, form_of_property, non_empty_suffix, after_prefix, non_empty_text, has_key, name_of_key, IsKeyOf}
 use Rattle.kt_metadata.specs.ListKeys as key
 use Rattle.kt_metadata.proofs.Fronts.{append-after_prefix}
 use Rattle.std.proofs.lemmas.Option.{same_Some}
@@ -48,16 +48,16 @@ pub name-found : (text name : List ℕ) → IsKeyOf text name → name_of_key te
 name-found _ _ (key.listed place r at) = it-is r.name (name_of_key r.key) (row-passes (λ r. is_it r.name (name_of_key r.key)) table place r keys-lead at)
 name-found _ _ (key.custom c cs) = refl
 
--- If `filled rest` returns a text, `rest` has a first character.
-filled-parts : (rest part : List ℕ) → filled rest ≡ Some part → (c : ℕ) × (cs : List ℕ) × (rest ≡ c ∷ cs) × (part ≡ c ∷ cs)
-filled-parts [] part e = absurd (cc)
-filled-parts (c ∷ cs) part e = let f : c ∷ cs ≡ part = cc in (c, cs, refl, sym f)
+-- If `non_empty_text rest` returns a text, `rest` has a first character.
+non_empty_text-parts : (rest part : List ℕ) → non_empty_text rest ≡ Some part → (c : ℕ) × (cs : List ℕ) × (rest ≡ c ∷ cs) × (part ≡ c ∷ cs)
+non_empty_text-parts [] part e = absurd (cc)
+non_empty_text-parts (c ∷ cs) part e = let f : c ∷ cs ≡ part = cc in (c, cs, refl, sym f)
 
-own-parts : (front text part : List ℕ) (after : Option (List ℕ)) → after_prefix front text ≡ after → option_and_then filled after ≡ Some part
+own-parts : (front text part : List ℕ) (after : Option (List ℕ)) → after_prefix front text ≡ after → option_and_then non_empty_text after ≡ Some part
     → (c : ℕ) × (cs : List ℕ) × (text ≡ front ++ (c ∷ cs)) × (part ≡ c ∷ cs)
 own-parts front text part None e f = absurd (cc)
 own-parts front text part (Some rest) e f =
-    let parts = filled-parts rest part f in
+    let parts = non_empty_text-parts rest part f in
     (parts.0, parts.1, append-after_prefix front text rest e ∙ ap (λ (r : List ℕ). front ++ r) parts.2, parts.3)
 
 -- A key `X-NAME` represents the custom name that the search returns.

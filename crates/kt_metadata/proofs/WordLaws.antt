@@ -1,6 +1,6 @@
 -- The walk over a text finds all elements of the text, and nothing else.
 use Rattle.std.proofs.Common.{◌≡◌, ℕ, Bool, true, false, not, List, [], ◌∷◌, ◌++◌, refl, sym, ap, ◌∙◌, subst, append_assoc, append-nil}
-use Rattle.kt_metadata.proofs.Common.{list_any, is_space, is_word, IsBreak, AreWords, ended, words_from, words}
+use Rattle.kt_metadata.proofs.Common.{list_any, is_space, is_word, IsElementEnd, AreWords, with_element, words_from, words}
 use Rattle.std.proofs.lemmas.List.Folds.{list_any-append}
 use Rattle.kt_metadata.specs.Words as rule
 use Rattle.std.proofs.lemmas.Bool.{not-true}
@@ -18,13 +18,13 @@ solid-more : (word : List ℕ) (c : ℕ) → list_any is_space word ≡ false �
 solid-more word c w e = list_any-append is_space word (c ∷ []) ∙ rw (w, e) refl
 
 -- A text without white space is one element, or no element if it is empty.
-found-end : (word : List ℕ) → list_any is_space word ≡ false → AreWords (word ++ []) (ended word [])
+found-end : (word : List ℕ) → list_any is_space word ≡ false → AreWords (word ++ []) (with_element word [])
 found-end [] e = rule.over
 found-end (c ∷ cs) e = rule.one (c ∷ cs) [] [] (word-solid c cs e) tt rule.over
 
 -- If white space follows a text without white space, the elements are the text and those after it.
 found-space : (word : List ℕ) (c : ℕ) (cs : List ℕ) (more : List (List ℕ)) → list_any is_space word ≡ false → is_space c ≡ true → AreWords cs more
-    → AreWords (word ++ c ∷ cs) (ended word more)
+    → AreWords (word ++ c ∷ cs) (with_element word more)
 found-space [] c cs more e space rest = rule.blank c cs more space rest
 found-space (d ∷ ds) c cs more e space rest = rule.one (d ∷ ds) (c ∷ cs) more (word-solid d ds e) space (rule.blank c cs more space rest)
 
@@ -59,7 +59,7 @@ through word [] text e = ap (λ (w : List ℕ). words_from w text) (sym (append-
 through word (c ∷ cs) text e = through-next word c cs text e (λ f. through (word ++ c ∷ []) cs text f) (is_space c) refl
 
 -- If a text begins with an element, `words_from` returns this element and those of the rest.
-over-next : (first text : List ℕ) → is_word first ≡ true → IsBreak text → words_from first text ≡ first ∷ words text
+over-next : (first text : List ℕ) → is_word first ≡ true → IsElementEnd text → words_from first text ≡ first ∷ words text
 over-next [] text e b = absurd (cc)
 over-next (c ∷ cs) [] e b = refl
 over-next (c ∷ cs) (d ∷ ds) e b = rw b refl

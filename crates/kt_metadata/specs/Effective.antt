@@ -2,10 +2,10 @@
 use Rattle.std.specs.Prelude.{ℕ, Bool, false, codes, List, [], Option, Some, unwrap_or, option_and_then}
 use Rattle.kt_base.specs.declared.variable.Variable.{Variable}
 use Rattle.kt_base.specs.LastValues.{value_of}
-use Rattle.kt_metadata.specs.declared.value.User.{User}
-use Rattle.kt_metadata.specs.declared.value.User.TheVariants.{Any}
+use Rattle.kt_metadata.specs.declared.value.RequiredUser.{RequiredUser}
+use Rattle.kt_metadata.specs.declared.value.RequiredUser.TheVariants.{Any}
 use Rattle.kt_metadata.specs.declared.value.Value.{Value}
-use Rattle.kt_metadata.specs.declared.value.Value.TheVariants.{Words, Truth, Size, User as OfUser, Timeout}
+use Rattle.kt_metadata.specs.declared.value.Value.TheVariants.{Words, Truth, Size, RequiredUser as OfUser, Timeout}
 use Rattle.kt_metadata.specs.declared.meta.Meta.{Meta}
 use Rattle.kt_metadata.specs.Properties.{value_of_text}
 
@@ -14,8 +14,8 @@ use Rattle.kt_metadata.specs.Properties.{value_of_text}
 abbrev pub texts_of : List Variable → List ℕ → Option (List ℕ)
 texts_of definitions name = value_of name definitions
 
--- `given texts name`: the value of the property `name`, or nothing if it isn't set. The function
--- `texts` returns the text of a property that is set, which represents the value.
+-- `given texts name`: the value of the property `name`, or nothing if the property isn't set. The
+-- function `texts` returns the text to which a property is set, or nothing if it isn't set.
 abbrev pub given : (List ℕ → Option (List ℕ)) → List ℕ → Option Value
 given texts name = option_and_then (value_of_text name) (texts name)
 
@@ -35,7 +35,7 @@ size_in (Some (Size bytes)) = bytes
 size_in other = 0
 
 -- `user_in value`: the required user in the optional value `value`, or any user if it is absent.
-abbrev pub user_in : Option Value → User
+abbrev pub user_in : Option Value → RequiredUser
 user_in (Some (OfUser user)) = user
 user_in other = Any
 
@@ -50,7 +50,8 @@ timeout_in (Some (Timeout seconds)) = seconds
 timeout_in other = default_timeout_seconds
 
 -- `meta_of texts`: the effective properties of a case: each has the value of its text, or its
--- default. The function `texts` returns the text of a property that is set.
+-- default. The function `texts` returns the text to which a property is set, or nothing if it isn't
+-- set.
 abbrev pub meta_of : (List ℕ → Option (List ℕ)) → Meta
 meta_of texts = record {
   allowed_architectures = words_in (given texts (codes "allowed_architectures"));

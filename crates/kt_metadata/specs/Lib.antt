@@ -1,7 +1,7 @@
 pub mod Common
 pub mod Configured
 pub mod Effective
-pub mod FaultWords
+pub mod FaultMessages
 pub mod Inner
 pub mod ListKeys
 pub mod Listing

@@ -4,8 +4,8 @@ use Rattle.std.specs.List.{find}
 use Rattle.std.specs.Option.{option_map, option_or}
 use Rattle.kt_metadata.specs.Properties.{PropertyRow, table, non_empty_suffix}
 
--- `IsKeyOf key name`: a list of ATF cases uses the key `key` for the property `name`, as the table
--- says, or as `X-NAME` for `custom.NAME`.
+-- `IsKeyOf key name`: a list of ATF cases uses the key `key` for the property `name`. The key is
+-- that of the property's row in `table`, or `X-NAME` for `custom.NAME`.
 pub data IsKeyOf : List ℕ → List ℕ → Type 0 where
   listed : (place : ℕ) (r : PropertyRow) → slice_get table place ≡ Some r → IsKeyOf r.key r.name
   custom : (c : ℕ) (cs : List ℕ) → IsKeyOf (codes "X-" ++ (c ∷ cs)) (codes "custom." ++ (c ∷ cs))

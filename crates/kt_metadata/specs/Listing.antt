@@ -7,22 +7,23 @@ use Rattle.kt_base.specs.LastValues.{last_values}
 use Rattle.kt_base.specs.Texts.{is_empty}
 use Rattle.kt_metadata.specs.declared.form.Form.{Form}
 use Rattle.kt_metadata.specs.declared.form.Form.TheVariants as form
-use Rattle.kt_metadata.specs.declared.value.User.{User}
-use Rattle.kt_metadata.specs.declared.value.User.TheVariants.{Any, Root, Unprivileged}
+use Rattle.kt_metadata.specs.declared.value.RequiredUser.{RequiredUser}
+use Rattle.kt_metadata.specs.declared.value.RequiredUser.TheVariants.{Any, Root, Unprivileged}
 use Rattle.kt_metadata.specs.declared.value.Value.{Value}
 use Rattle.kt_metadata.specs.declared.value.Value.TheVariants as value
 use Rattle.kt_metadata.specs.Properties.{PropertyRow, table, is_custom}
 use Rattle.kt_metadata.specs.Effective.{texts_of, given, default_timeout_seconds}
 
--- `spaced words`: the text of the elements `words`, with a space before each element.
-abbrev pub spaced : List (List ℕ) → List ℕ
-spaced [] = []
-spaced (word ∷ words) = 32 ∷ (word ++ spaced words)
+-- `space_prefixed words`: the concatenation of the elements `words`, with a space before each
+-- element.
+abbrev pub space_prefixed : List (List ℕ) → List ℕ
+space_prefixed [] = []
+space_prefixed (word ∷ words) = 32 ∷ (word ++ space_prefixed words)
 
--- `joined words`: the text of the elements `words`, with one space between two elements.
-abbrev pub joined : List (List ℕ) → List ℕ
-joined [] = []
-joined (word ∷ words) = word ++ spaced words
+-- `space_joined words`: the concatenation of the elements `words`, with one space between two elements.
+abbrev pub space_joined : List (List ℕ) → List ℕ
+space_joined [] = []
+space_joined (word ∷ words) = word ++ space_prefixed words
 
 -- `truth_text value`: the text by which a listing shows the truth value `value`.
 abbrev pub truth_text : Bool → List ℕ
@@ -31,20 +32,20 @@ truth_text false = codes "false"
 
 -- `user_text user`: the text by which a listing shows the required user `user`. It is empty for any
 -- user.
-abbrev pub user_text : User → List ℕ
+abbrev pub user_text : RequiredUser → List ℕ
 user_text Any = []
 user_text Root = codes "root"
 user_text Unprivileged = codes "unprivileged"
 
--- `shown value text`: the text by which a listing shows the value `value`, which was parsed from
+-- `listing_text value text`: the text by which a listing shows the value `value`, which was parsed from
 -- the text `text`.
-abbrev pub shown : Value → List ℕ → List ℕ
-shown (value.Words words) text = joined words
-shown value.Text text = text
-shown (value.Truth b) text = truth_text b
-shown (value.Size bytes) text = decimal bytes
-shown (value.User user) text = user_text user
-shown (value.Timeout seconds) text = decimal seconds
+abbrev pub listing_text : Value → List ℕ → List ℕ
+listing_text (value.Words words) text = space_joined words
+listing_text value.Text text = text
+listing_text (value.Truth b) text = truth_text b
+listing_text (value.Size bytes) text = decimal bytes
+listing_text (value.RequiredUser user) text = user_text user
+listing_text (value.Timeout seconds) text = decimal seconds
 
 -- `default_value form`: the value of a property that isn't set, if its values have the form `form`.
 abbrev pub default_value : Form → Value
@@ -54,23 +55,24 @@ default_value form.Programs = value.Words []
 default_value form.Text = value.Text
 default_value form.Truth = value.Truth false
 default_value form.Size = value.Size 0
-default_value form.User = value.User Any
+default_value form.RequiredUser = value.RequiredUser Any
 default_value form.Timeout = value.Timeout default_timeout_seconds
 
--- `property_text texts r`: the text by which a listing shows the property of the table row `r`: its
--- value, or its default if it isn't set. The function `texts` returns the text of a property that
--- is set.
+-- `property_text texts r`: the text by which a listing shows the property of the table row `r`: the
+-- text of its value, or of its default if the property isn't set. The function `texts` returns the
+-- text to which a property is set, or nothing if it isn't set.
 abbrev pub property_text : (List ℕ → Option (List ℕ)) → PropertyRow → List ℕ
-property_text texts r = shown (unwrap_or (given texts r.name) (default_value r.form)) (unwrap_or (texts r.name) [])
+property_text texts r = listing_text (unwrap_or (given texts r.name) (default_value r.form)) (unwrap_or (texts r.name) [])
 
 -- `property_pair texts r`: the name of the property of the table row `r`, with its text in a
--- listing. The function `texts` returns the text of a property that is set.
+-- listing. The function `texts` returns the text to which a property is set, or nothing if it isn't
+-- set.
 abbrev pub property_pair : (List ℕ → Option (List ℕ)) → PropertyRow → Variable
 property_pair texts r = record { name = r.name; value = property_text texts r }
 
--- `is_valued pair`: the text in the pair `pair` of a name and a text isn't empty.
-abbrev pub is_valued : Variable → Bool
-is_valued pair = not (is_empty pair.value)
+-- `has_value pair`: the value of the name-value pair `pair` isn't empty.
+abbrev pub has_value : Variable → Bool
+has_value pair = not (is_empty pair.value)
 
 -- `is_custom_pair pair`: the name in the pair `pair` of a name and a text is that of a custom
 -- property.
@@ -79,17 +81,17 @@ is_custom_pair pair = is_custom pair.name
 
 -- `property_pairs texts rows`: the names of the properties of the table rows `rows` with their
 -- texts in a listing, in order. Properties with empty texts are omitted. The function `texts`
--- returns the text of a property that is set.
+-- returns the text to which a property is set, or nothing if it isn't set.
 abbrev pub property_pairs : (List ℕ → Option (List ℕ)) → List PropertyRow → List Variable
-property_pairs texts rows = filter is_valued (map (property_pair texts) rows)
+property_pairs texts rows = filter has_value (map (property_pair texts) rows)
 
 -- `custom_pairs pairs`: the pairs of custom properties in `pairs`, in order, without those whose
 -- text is empty.
 abbrev pub custom_pairs : List Variable → List Variable
-custom_pairs pairs = filter is_valued (filter is_custom_pair pairs)
+custom_pairs pairs = filter has_value (filter is_custom_pair pairs)
 
--- `listing definitions`: the listing of the properties that the definitions `definitions` set. It
--- has the table's properties with their texts, in the table's order, and then the custom properties
--- in the order of their first definitions.
+-- `listing definitions`: the listing of the properties that the definitions `definitions` set:
+-- names with texts. First come the properties of the table, in the order of the table. The custom
+-- properties follow, in the order of their first definitions.
 abbrev pub listing : List Variable → List Variable
 listing definitions = property_pairs (texts_of definitions) table ++ custom_pairs (last_values definitions)

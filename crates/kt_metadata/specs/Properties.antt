@@ -35,13 +35,13 @@ table =
     ∷ row (codes "required_files") (codes "require.files") form.Files
     ∷ row (codes "required_memory") (codes "require.memory") form.Size
     ∷ row (codes "required_programs") (codes "require.progs") form.Programs
-    ∷ row (codes "required_user") (codes "require.user") form.User
+    ∷ row (codes "required_user") (codes "require.user") form.RequiredUser
     ∷ row (codes "timeout") (codes "timeout") form.Timeout ∷ []
 
--- `filled text`: the text `text`, or nothing if it is empty.
-abbrev pub filled : List ℕ → Option (List ℕ)
-filled [] = None
-filled (c ∷ cs) = Some (c ∷ cs)
+-- `non_empty_text text`: the text `text`, or nothing if it is empty.
+abbrev pub non_empty_text : List ℕ → Option (List ℕ)
+non_empty_text [] = None
+non_empty_text (c ∷ cs) = Some (c ∷ cs)
 
 -- `after_prefix front text`: the text `text` without its prefix `front`, or nothing if `text`
 -- doesn't begin with `front`.
@@ -53,7 +53,7 @@ after_prefix (c ∷ front) (d ∷ text) = if c == d then after_prefix front text
 -- `non_empty_suffix front text`: the text `text` without its prefix `front`. Nothing if `text`
 -- doesn't begin with `front` or has nothing after it.
 abbrev pub non_empty_suffix : List ℕ → List ℕ → Option (List ℕ)
-non_empty_suffix front text = option_and_then filled (after_prefix front text)
+non_empty_suffix front text = option_and_then non_empty_text (after_prefix front text)
 
 -- `is_custom name`: the text `name` is the name of a custom property: `custom.` and at least one
 -- character.
@@ -69,13 +69,13 @@ has_name name r = bytes_eq name r.name
 abbrev pub form_of_property : List ℕ → Option Form
 form_of_property name = if is_custom name then Some form.Text else option_map (λ r. r.form) (find (has_name name) table)
 
--- `is_kyuafile_property name`: a Kyuafile may set the property `name`: each but `has_cleanup`,
--- which belongs to a list of ATF cases.
+-- `is_kyuafile_property name`: a Kyuafile may set the property `name`. The property exists, and is
+-- not `has_cleanup`, which only a list of ATF cases may set.
 abbrev pub is_kyuafile_property : List ℕ → Bool
 is_kyuafile_property name = not (bytes_eq name (codes "has_cleanup")) && is_some (form_of_property name)
 
--- `valid_words is_wrong found`: the value with the elements `found`, or nothing if one of them
--- passes the test `is_wrong`.
+-- `valid_words is_wrong found`: the list value with the elements `found`, or nothing if one of them
+-- satisfies the test `is_wrong`.
 abbrev pub valid_words : (List ℕ → Bool) → List (List ℕ) → Option Value
 valid_words is_wrong found = if list_any is_wrong found then None else Some (value.Words found)
 
@@ -88,7 +88,7 @@ value_in form.Programs text = valid_words is_not_program_name (words text)
 value_in form.Text text = Some value.Text
 value_in form.Truth text = option_map (λ b. value.Truth b) (truth_of text)
 value_in form.Size text = option_map (λ n. value.Size n) (size_of text)
-value_in form.User text = option_map (λ u. value.User u) (user_of text)
+value_in form.RequiredUser text = option_map (λ u. value.RequiredUser u) (user_of text)
 value_in form.Timeout text = option_map (λ n. value.Timeout n) (timeout_of text)
 
 -- `value_of_text name text`: the value of the property `name` that `text` represents, or nothing if
@@ -96,19 +96,20 @@ value_in form.Timeout text = option_map (λ n. value.Timeout n) (timeout_of text
 abbrev pub value_of_text : List ℕ → List ℕ → Option Value
 value_of_text name text = option_and_then (λ f. value_in f text) (form_of_property name)
 
--- `value_fault form text`: the error of setting a property to `text`, if its values have the form
--- `form`, or nothing if `text` is a value. If `form` is absent, the property is unknown.
+-- `value_fault form text`: the error of setting a property to `text`, or nothing if this succeeds.
+-- The values of the property have the form `form`. If `form` is absent, the property is unknown.
 abbrev pub value_fault : Option Form → List ℕ → Option PropFault
 value_fault None text = Some UnknownProperty
 value_fault (Some f) text = if is_some (value_in f text) then None else Some BadValue
 
 -- `definition_fault name text`: the error of setting the property `name` to `text`, or nothing if
--- this succeeds. An unknown name precedes a bad value.
+-- this succeeds. If no property has the name `name`, the error is `UnknownProperty` for each
+-- `text`.
 abbrev pub definition_fault : List ℕ → List ℕ → Option PropFault
 definition_fault name text = value_fault (form_of_property name) text
 
--- `IfFault result P`: if `result` is an error other than `NoMemory`, the error has the property
--- `P`.
+-- `IfFault result P`: if `result` is an error other than `NoMemory`, the error satisfies the
+-- predicate `P`.
 abbrev pub IfFault : {T : Type 0} → Result T PropFault → (PropFault → Type 0) → Type 0
 IfFault (Ok x) P = Unit {0}
 IfFault (Err (NoMemory refusal)) P = Unit {0}

@@ -6,24 +6,24 @@ use Rattle.kt_base.specs.Digits.{is_digit, decimal_from, fits}
 use Rattle.kt_base.specs.Limits.{longest_timeout_seconds}
 use Rattle.kt_base.specs.Words.{named}
 use Rattle.kt_base.specs.Utf8.{utf8}
-use Rattle.kt_metadata.specs.declared.value.User.{User}
-use Rattle.kt_metadata.specs.declared.value.User.TheVariants.{Any, Root, Unprivileged}
+use Rattle.kt_metadata.specs.declared.value.RequiredUser.{RequiredUser}
+use Rattle.kt_metadata.specs.declared.value.RequiredUser.TheVariants.{Any, Root, Unprivileged}
 
--- `truths`: the table from texts to truth values.
-abbrev pub truths : List (List ℕ × Bool)
-truths = (codes "true", true) ∷ (codes "yes", true) ∷ (codes "false", false) ∷ (codes "no", false) ∷ []
+-- `truth_values`: the table from texts to truth values.
+abbrev pub truth_values : List (List ℕ × Bool)
+truth_values = (codes "true", true) ∷ (codes "yes", true) ∷ (codes "false", false) ∷ (codes "no", false) ∷ []
 
 -- `truth_of text`: the truth value that `text` represents, or nothing if `text` is invalid.
 abbrev pub truth_of : List ℕ → Option Bool
-truth_of text = named truths text
+truth_of text = named truth_values text
 
--- `users`: the table from texts to required users.
-abbrev pub users : List (List ℕ × User)
-users = ([], Any) ∷ (codes "root", Root) ∷ (codes "unprivileged", Unprivileged) ∷ []
+-- `required_users`: the table from texts to required users.
+abbrev pub required_users : List (List ℕ × RequiredUser)
+required_users = ([], Any) ∷ (codes "root", Root) ∷ (codes "unprivileged", Unprivileged) ∷ []
 
 -- `user_of text`: the required user that `text` represents, or nothing if `text` is invalid.
-abbrev pub user_of : List ℕ → Option User
-user_of text = named users text
+abbrev pub user_of : List ℕ → Option RequiredUser
+user_of text = named required_users text
 
 -- `number_of digits`: the number with the decimal digits `digits`, or nothing if `digits` is empty
 -- or the number isn't below 2^64.
@@ -46,41 +46,42 @@ unit_of c =
     if c == 75 || c == 107 then Some 1024 else if c == 77 || c == 109 then Some (1024 ^ 2)
     else if c == 71 || c == 103 then Some (1024 ^ 3) else if c == 84 || c == 116 then Some (1024 ^ 4) else None
 
--- `factor_of rest`: the factor that the bytes `rest` after the digits of a size represent: 1 if
--- `rest` is empty, or that of the unit `rest`. Nothing if `rest` isn't a unit.
+-- `factor_of rest`: the factor by which the number of a size is multiplied. `rest` are the bytes
+-- after the number's digits. The factor is 1 if `rest` is empty, or the number of bytes in the unit
+-- `rest`. Nothing if `rest` isn't a unit.
 abbrev pub factor_of : List ℕ → Option ℕ
 factor_of [] = Some 1
 factor_of (c ∷ []) = unit_of c
 factor_of (c ∷ d ∷ cs) = None
 
--- `scaled number factor`: the product of the numbers `number` and `factor`, or nothing if one of
--- them is absent or the product isn't below 2^64.
-abbrev pub scaled : Option ℕ → Option ℕ → Option ℕ
-scaled None factor = None
-scaled (Some v) None = None
-scaled (Some v) (Some factor) = fits (v * factor)
+-- `checked_product number factor`: the product of the numbers `number` and `factor`, or nothing if
+-- one of them is absent or the product isn't below 2^64.
+abbrev pub checked_product : Option ℕ → Option ℕ → Option ℕ
+checked_product None factor = None
+checked_product (Some v) None = None
+checked_product (Some v) (Some factor) = fits (v * factor)
 
 -- `size_in bytes`: the size in bytes that `bytes` represent: ASCII digits and at most one unit.
--- Nothing if they aren't a size.
+-- Nothing if `bytes` aren't a size.
 abbrev pub size_in : List ℕ → Option ℕ
-size_in bytes = scaled (number_of (digits_of bytes)) (factor_of (after_digits bytes))
+size_in bytes = checked_product (number_of (digits_of bytes)) (factor_of (after_digits bytes))
 
 -- `size_of text`: the size in bytes that `text` represents, or nothing if `text` is invalid.
 abbrev pub size_of : List ℕ → Option ℕ
 size_of text = size_in (utf8 text)
 
--- `limited number rest`: the timeout in seconds that the number `number` represents, where 0 is the
--- longest timeout. Nothing if `number` is absent or too large, or if bytes `rest` follow its
--- digits.
-abbrev pub limited : Option ℕ → List ℕ → Option ℕ
-limited (Some v) [] = if v == 0 then Some longest_timeout_seconds else if nat_le v longest_timeout_seconds then Some v else None
-limited (Some v) (c ∷ cs) = None
-limited None rest = None
+-- `timeout_of_number number rest`: the timeout in seconds that the number `number` represents,
+-- where 0 is the longest timeout. Nothing if `number` is absent or too large, or if bytes `rest`
+-- follow its digits.
+abbrev pub timeout_of_number : Option ℕ → List ℕ → Option ℕ
+timeout_of_number (Some v) [] = if v == 0 then Some longest_timeout_seconds else if nat_le v longest_timeout_seconds then Some v else None
+timeout_of_number (Some v) (c ∷ cs) = None
+timeout_of_number None rest = None
 
 -- `timeout_in bytes`: the timeout in seconds that the ASCII digits `bytes` represent, or nothing if
 -- `bytes` aren't a timeout.
 abbrev pub timeout_in : List ℕ → Option ℕ
-timeout_in bytes = limited (number_of (digits_of bytes)) (after_digits bytes)
+timeout_in bytes = timeout_of_number (number_of (digits_of bytes)) (after_digits bytes)
 
 -- `timeout_of text`: the timeout in seconds that `text` represents, or nothing if `text` is
 -- invalid.

@@ -9,32 +9,32 @@ abbrev pub is_word : List ℕ → Bool
 is_word [] = false
 is_word (c ∷ cs) = not (list_any is_space (c ∷ cs))
 
--- `IsBreak text`: an element can end before the text `text`, which is empty or begins with white
--- space.
-abbrev pub IsBreak : List ℕ → Type 0
-IsBreak [] = Unit {0}
-IsBreak (c ∷ cs) = is_space c ≡ true
+-- `IsElementEnd text`: an element can end before the text `text`, which is empty or begins with
+-- white space.
+abbrev pub IsElementEnd : List ℕ → Type 0
+IsElementEnd [] = Unit {0}
+IsElementEnd (c ∷ cs) = is_space c ≡ true
 
--- `AreWords text found`: the list `found` has the elements of the text `text` in order: its longest
--- parts without white space.
+-- `AreWords text found`: `found` is the list of the elements of the text `text`, in order. Each
+-- element is a part without white space, as long as possible.
 pub data AreWords : List ℕ → List (List ℕ) → Type 0 where
   over : AreWords [] []
   blank : (c : ℕ) (text : List ℕ) (found : List (List ℕ)) → is_space c ≡ true → AreWords text found
       → AreWords (c ∷ text) found
-  one : (first text : List ℕ) (found : List (List ℕ)) → is_word first ≡ true → IsBreak text → AreWords text found
+  one : (first text : List ℕ) (found : List (List ℕ)) → is_word first ≡ true → IsElementEnd text → AreWords text found
       → AreWords (first ++ text) (first ∷ found)
 
--- `ended word found`: the list of the element `word` followed by the elements `found`, or only
--- `found` if `word` is empty.
-abbrev pub ended : List ℕ → List (List ℕ) → List (List ℕ)
-ended [] found = found
-ended (c ∷ cs) found = (c ∷ cs) ∷ found
+-- `with_element word found`: the element `word` followed by the elements `found`, or only `found`
+-- if `word` is empty.
+abbrev pub with_element : List ℕ → List (List ℕ) → List (List ℕ)
+with_element [] found = found
+with_element (c ∷ cs) found = (c ∷ cs) ∷ found
 
--- `words_from word text`: the elements of the text that consists of `word`, which has no white
--- space, followed by `text`.
+-- `words_from word text`: the elements of a text that consists of `word` and then of `text`. `word`
+-- has no white space.
 abbrev pub words_from : List ℕ → List ℕ → List (List ℕ)
-words_from word [] = ended word []
-words_from word (c ∷ cs) = if is_space c then ended word (words_from [] cs) else words_from (word ++ c ∷ []) cs
+words_from word [] = with_element word []
+words_from word (c ∷ cs) = if is_space c then with_element word (words_from [] cs) else words_from (word ++ c ∷ []) cs
 
 -- `words text`: the elements of the text `text` in order. White space separates them.
 abbrev pub words : List ℕ → List (List ℕ)

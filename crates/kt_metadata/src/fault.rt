@@ -6,7 +6,7 @@ use thiserror::Error;
 
 /// Errors returned by [`Props::set`](crate::Props::set).
 #[derive(Clone, Copy, Debug, Error)]
-#[error("{}", self.words())]
+#[error("{}", self.message())]
 pub enum PropFault {
     /// An allocation failed.
     NoMemory(NoMemory),
@@ -17,10 +17,10 @@ pub enum PropFault {
 }
 
 impl PropFault {
-    ghost use Rattle.kt_metadata.specs.FaultWords.{prop_message};
+    ghost use Rattle.kt_metadata.specs.FaultMessages.{prop_message};
 
     /// Returns the message of the error (this profile), which `Display` prints.
-    pub fn words(&self) -> &'static str
+    pub fn message(&self) -> &'static str
         ensures { result.now ≡ prop_message self.now }
     {
         match self {

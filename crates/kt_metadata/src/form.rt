@@ -2,7 +2,7 @@ ghost use Rattle.std.specs.Prelude.{◌≡◌, Some, None, IfOk, if◌then◌els
 ghost use Rattle.kt_metadata.specs.Listing.{default_value};
 ghost use Rattle.kt_metadata.specs.Properties.{value_in};
 
-use crate::User;
+use crate::RequiredUser;
 use crate::value::Value;
 use crate::values::{has_invalid_file, has_invalid_program, size, timeout, truth, user, words};
 use kt_base::{Items, NoMemory, Text};
@@ -11,31 +11,32 @@ use std::alloc::Global;
 /// A form of property values, which determines how a text is parsed and what the default is.
 #[derive(Clone, Copy)]
 pub enum Form {
-    /// Elements that are separated by white space.
+    /// A list of elements, which white space separates.
     Words,
-    /// Elements that are absolute paths.
+    /// A list of files: each element is an absolute path.
     Files,
-    /// Elements that name programs: absolute paths, or names without a slash to look up in `PATH`.
+    /// A list of programs: each element is an absolute path, or a name without a slash to look up
+    /// in `PATH`.
     Programs,
     /// Any text.
     Text,
     /// A truth value: `true`, `yes`, `false` or `no`.
     Truth,
-    /// A size in bytes: digits, and at most one of the units K, M, G and T.
+    /// A size in bytes: digits, and at most one of the units K, M, G and T after them.
     Size,
     /// A required user: an empty text, `root` or `unprivileged`.
-    User,
-    /// A timeout: 0 to 1,000,000 seconds.
+    RequiredUser,
+    /// A timeout: a number of seconds from 0 to 1,000,000.
     Timeout,
 }
 
 /// The timeout of a case without a `timeout` property, in seconds.
 pub const DEFAULT_TIMEOUT_SECONDS: u32 = 300;
 
-/// Returns the value with the elements `words`, or `None` if `wrong` is `true`.
+/// Returns the list value with the elements `words`, or `None` if `wrong` is `true`.
 ///
 /// The caller passes `true` if one of the elements is invalid.
-fn unless(wrong: bool, words: Items<Text>) -> Option<Value>
+fn words_unless_invalid(wrong: bool, words: Items<Text>) -> Option<Value>
     ensures { result ≡ (if wrong then None else Some (Value.Words words)) }
 {
     if wrong {
@@ -58,21 +59,21 @@ impl Form {
             Form::Words => Ok(Some(Value::Words(words(alloc, text)?))),
             Form::Files => {
                 let words = words(alloc, text)?;
-                Ok(unless(has_invalid_file(words.as_slice()), words))
+                Ok(words_unless_invalid(has_invalid_file(words.as_slice()), words))
             }
             Form::Programs => {
                 let words = words(alloc, text)?;
-                Ok(unless(has_invalid_program(words.as_slice()), words))
+                Ok(words_unless_invalid(has_invalid_program(words.as_slice()), words))
             }
             Form::Text => Ok(Some(Value::Text)),
             Form::Truth => Ok(truth(text).map(Value::Truth)),
             Form::Size => Ok(size(text.as_bytes()).map(Value::Size)),
-            Form::User => Ok(user(text).map(Value::User)),
+            Form::RequiredUser => Ok(user(text).map(Value::RequiredUser)),
             Form::Timeout => Ok(timeout(text.as_bytes()).map(Value::Timeout)),
         }
     }
 
-    /// Returns the value that a property of this form has if it isn't set.
+    /// Returns the default of a property of this form: the value if the property isn't set.
     ///
     /// Allocates nothing.
     pub fn default_value(self, alloc: Global) -> Value
@@ -83,7 +84,7 @@ impl Form {
             Form::Text => Value::Text,
             Form::Truth => Value::Truth(false),
             Form::Size => Value::Size(0),
-            Form::User => Value::User(User::Any),
+            Form::RequiredUser => Value::RequiredUser(RequiredUser::Any),
             Form::Timeout => Value::Timeout(DEFAULT_TIMEOUT_SECONDS),
         }
     }

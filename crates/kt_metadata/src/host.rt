@@ -14,11 +14,11 @@ pub enum Need {
     Program,
 }
 
-/// The kinds of needs, in the order in which the host is searched for them.
+/// The kinds of required objects, in the order in which the host is searched for them.
 const NEEDS: [Need; 2] = [Need::File, Need::Program];
 
 impl Need {
-    /// Returns all kinds of needs, in the order in which the host is searched for them.
+    /// Returns all kinds of required objects, in the order in which the host is searched for them.
     pub fn all() -> &'static [Need]
         ensures { result.now ≡ all_needs }
     {
@@ -36,7 +36,7 @@ impl Need {
     }
 }
 
-/// A description of the host at the start of a run, for the requirements of test cases.
+/// A description of the host, by which the requirements of test cases are checked.
 #[derive(Drop)]
 pub struct Host {
     /// `true` if the runner is root.
@@ -56,9 +56,9 @@ pub struct Host {
 
 impl Host {
     ghost use Rattle.std.specs.Prelude.{◌≡◌, List, ℕ, OnOk, false};
-    ghost use Rattle.kt_metadata.specs.Common.{is_found, IsRecordedAsFound, Need};
+    ghost use Rattle.kt_metadata.specs.Common.{is_found, RecordsAsFound, Need};
 
-    /// Creates the description of a host on which no required file or program was found yet.
+    /// Creates the description of a host, with no required file or program found yet.
     ///
     /// `root` is `true` if the runner is root. `memory` and `disk` are in bytes, or `None` if they
     /// are unknown. Allocates nothing.
@@ -82,8 +82,8 @@ impl Host {
     /// # Errors
     ///
     /// - `NoMemory`: an allocation fails.
-    pub fn note(&mut self, need: Need, word: &Text) -> Result<(), NoMemory>
-        ensures { OnOk result (IsRecordedAsFound need word.now self.old self.new) }
+    pub fn record_found(&mut self, need: Need, word: &Text) -> Result<(), NoMemory>
+        ensures { OnOk result (RecordsAsFound need word.now self.old self.new) }
     {
         let name = word.copy()?.into_string();
         match need {

@@ -1,5 +1,5 @@
 ghost use Rattle.std.specs.Prelude.{◌≡◌, ◌↔◌, ◌∷◌, ◌++◌, [], List, IfOk, IsTrue, OnOk, OnErr, chars};
-ghost use Rattle.kt_metadata.specs.Common.{option_copied, option_map, filter, Variable, last_values, value_of, texts_of, given, IsRead, custom_pairs, is_valued, name_with_value};
+ghost use Rattle.kt_metadata.specs.Common.{option_copied, option_map, filter, Variable, last_values, value_of, texts_of, given, IsConsistent, custom_pairs, has_value, name_with_value};
 
 use crate::table::is_custom;
 use crate::value::PropertyDefinition;
@@ -8,7 +8,8 @@ use kt_base::{NoMemory, Text, Variable, Variables};
 use std::alloc::Global;
 use std::marker::Model;
 
-/// A map from names of properties to definitions, in the order of the first definitions.
+/// A map from the names of properties to their last definitions, in the order of the first
+/// definitions.
 ///
 /// In contracts, a `Layer` is the list of its names with their texts. Each name occurs once.
 #[derive(Drop)]
@@ -70,14 +71,13 @@ impl Layer {
 
     /// Sets the definition of the property `name` to `given`.
     ///
-    /// A definition that the layer already has is replaced in place. Otherwise, `given` is
-    /// appended.
+    /// An earlier definition of the property is replaced in place. Otherwise, `given` is appended.
     ///
     /// # Errors
     ///
     /// - `NoMemory`: an allocation fails. The layer is unchanged.
     pub fn put(&mut self, name: &str, given: PropertyDefinition) -> Result<(), NoMemory>
-        requires { IsRead (chars name.now) given }
+        requires { IsConsistent (chars name.now) given }
         ensures ok { OnOk result (self.new
             ≡ last_values (self.old ++ name_with_value (chars name.now) given.text ∷ [])) }
         ensures err { OnErr result (self.new ≡ self.old) }
@@ -87,8 +87,8 @@ impl Layer {
         Ok(())
     }
 
-    /// Sets each definition of `more` in the layer, in place of an earlier definition of the same
-    /// name.
+    /// Sets each definition of `more` in the layer, in place of an earlier definition of its
+    /// property.
     ///
     /// # Errors
     ///
@@ -103,12 +103,14 @@ impl Layer {
         Ok(())
     }
 
-    /// Appends the custom properties with their texts to `pairs`. Omits those with empty texts.
+    /// Appends the layer's custom properties with their texts to `pairs`.
+    ///
+    /// Properties with empty texts are omitted.
     ///
     /// # Errors
     ///
     /// - `NoMemory`: an allocation fails. Some properties may have been appended.
-    pub fn add_custom(&self, pairs: &mut Variables) -> Result<(), NoMemory>
+    pub fn add_custom_properties(&self, pairs: &mut Variables) -> Result<(), NoMemory>
         ensures { OnOk result (pairs.new ≡ pairs.old ++ custom_pairs self.now) }
     {
         let alloc = self.allocator();
@@ -125,7 +127,8 @@ impl Layer {
 ///
 /// - `NoMemory`: an allocation fails.
 pub fn add(pairs: &mut Variables, name: Text, value: Text) -> Result<(), NoMemory>
-    ensures { OnOk result (pairs.new ≡ pairs.old ++ filter is_valued (name_with_value name value ∷ [])) }
+    ensures { OnOk result (pairs.new ≡ pairs.old ++ filter has_value (name_with_value name value ∷
+        [])) }
 {
     if value.is_empty() {
         return Ok(());

@@ -1,4 +1,4 @@
-//! The properties of test programs and cases, and the requirements among them.
+//! The properties of test programs and cases, and the checks of the requirements that they state.
 #![tactic(auto)]
 
 mod fault;
@@ -22,5 +22,5 @@ pub use meta::Meta;
 pub use props::Props;
 pub use requirements::unmet;
 pub use table::is_kyuafile_property;
-pub use value::User;
+pub use value::RequiredUser;
 pub use values::theorem_of_words;

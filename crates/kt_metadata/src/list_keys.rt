@@ -1,7 +1,7 @@
 ghost use Rattle.std.specs.Prelude.{◌≡◌, ◌++◌, List, ℕ, chars, codes, Some, IfOk, IfSome, IsSome};
 ghost use Rattle.kt_metadata.specs.Common.{option_map, non_empty_suffix, form_of_property, name_of_key, IsKeyOf};
 
-use crate::table::{TABLE, non_empty_suffix, row_with_key};
+use crate::table::{PROPERTY_TABLE, non_empty_suffix, row_with_key};
 use kt_base::{NoMemory, Text};
 use std::alloc::Global;
 
@@ -34,15 +34,15 @@ fn name_of_custom_key(alloc: Global, key: &Text) -> Result<Option<Text>, NoMemor
 fn name_of_key(alloc: Global, key: &Text) -> Result<Option<Text>, NoMemory>
     ensures { IfOk result (λ found. found ≡ name_of_key key.now) }
 {
-    match row_with_key(key, &TABLE) {
+    match row_with_key(key, &PROPERTY_TABLE) {
         Some(row) => Ok(Some(Text::from_str(alloc, row.0)?)),
         None => name_of_custom_key(alloc, key),
     }
 }
 
-/// Converts the key of a property in a list of ATF cases to the property's name (this profile).
+/// Returns the name of the property whose key in a list of ATF cases is `key` (this profile).
 ///
-/// The name for the key `require.arch` is `allowed_architectures`, and for `X-NAME` it is
+/// For example, `require.arch` is the key of `allowed_architectures`. The key `X-NAME` is that of
 /// `custom.NAME`. Returns `None` if no property has the key.
 ///
 /// # Errors

@@ -1,6 +1,6 @@
 use crate::form::DEFAULT_TIMEOUT_SECONDS;
-use crate::value::{Value, copy_of_words};
-use crate::{Need, Props, User};
+use crate::value::{Value, copy_words};
+use crate::{Need, Props, RequiredUser};
 use kt_base::{Items, NoMemory, Text};
 
 /// The effective properties of a test case (kyuafile(5)): unset properties have their defaults.
@@ -26,7 +26,7 @@ pub struct Meta {
     /// The required programs: absolute paths, or names that are looked up in `PATH`.
     pub required_programs: Items<Text>,
     /// The user that must run the case.
-    pub required_user: User,
+    pub required_user: RequiredUser,
     /// The timeout in seconds, 1 to 1,000,000.
     pub timeout: u32,
 }
@@ -55,7 +55,7 @@ impl Meta {
     ghost use Rattle.std.specs.Prelude.{◌≡◌};
     ghost use Rattle.kt_metadata.specs.Common.{needed};
 
-    /// Returns the required files, or the required programs, as `need` selects.
+    /// Returns the required files if `need` is `File`, or the required programs if it is `Program`.
     pub fn needed(&self, need: Need) -> &[Text]
         ensures { result.now ≡ needed need self.now }
     {
@@ -80,12 +80,12 @@ impl Props {
         }
     }
 
-    /// Copies the elements of the property `name`. The list is empty if the property isn't set.
+    /// Copies the elements of the property `name`. The copy is empty if the property isn't set.
     fn words(&self, name: &str) -> Result<Items<Text>, NoMemory>
         ensures { IfOk result (λ found. found
             ≡ words_in (given (texts_of self.now) (chars name.now))) }
     {
-        copy_of_words(self.allocator(), self.listed(name))
+        copy_words(self.allocator(), self.listed(name))
     }
 
     /// Copies the text of the property `name`. The copy is empty if the property isn't set.
@@ -108,7 +108,7 @@ impl Props {
         }
     }
 
-    /// Returns the size of the property `name` in bytes, or 0 if the property isn't set.
+    /// Returns the size in bytes of the property `name`, or 0 if the property isn't set.
     fn size(&self, name: &str) -> u64
         ensures { result ≡ size_in (given (texts_of self.now) (chars name.now)) }
     {
@@ -118,17 +118,17 @@ impl Props {
         }
     }
 
-    /// Returns the required user of the property `name`, or `User::Any` if the property isn't set.
-    fn user(&self, name: &str) -> User
+    /// Returns the required user of the property `name`, or any user if the property isn't set.
+    fn user(&self, name: &str) -> RequiredUser
         ensures { result ≡ user_in (given (texts_of self.now) (chars name.now)) }
     {
         match self.value(name) {
-            Some(Value::User(user)) => *user,
-            _ => User::Any,
+            Some(Value::RequiredUser(user)) => *user,
+            _ => RequiredUser::Any,
         }
     }
 
-    /// Returns the timeout of the property `name` in seconds, or 300 if the property isn't set.
+    /// Returns the timeout in seconds of the property `name`, or 300 if the property isn't set.
     fn timeout(&self, name: &str) -> u32
         ensures { result ≡ timeout_in (given (texts_of self.now) (chars name.now)) }
     {
@@ -138,7 +138,7 @@ impl Props {
         }
     }
 
-    /// Returns the required files, or the required programs, as `need` selects.
+    /// Returns the required files if `need` is `File`, or the required programs if it is `Program`.
     ///
     /// Allocates nothing.
     pub fn needed(&self, need: Need) -> &[Text]

@@ -4,7 +4,7 @@ ghost use Rattle.kt_metadata.specs.Common.{option_copied, option_map, Variable, 
 use crate::PropFault;
 use crate::layer::{Layer, add};
 use crate::shared_layer::SharedLayer;
-use crate::table::{PropertyRow, TABLE, read_definition};
+use crate::table::{PROPERTY_TABLE, PropertyRow, parse_property_value};
 use crate::value::{PropertyDefinition, Value};
 use kt_base::{NoMemory, Text, Variables};
 use std::alloc::Global;
@@ -14,8 +14,8 @@ use std::rc::Rc;
 /// A set of properties of a program or a test case, with their values.
 ///
 /// In contracts, a `Props` is the list of the last values of the accepted definitions, in the order
-/// of the first definitions. An overlay over [`Props::shared`] shares the memory of the program's
-/// properties.
+/// of the first definitions. Overlays over properties from [`Props::shared`] share the memory of
+/// these properties.
 pub struct Props {
     program: Option<Rc<SharedLayer>>,
     own: Layer,
@@ -130,20 +130,21 @@ impl Props {
     /// - `NoMemory`: an allocation fails.
     pub fn set(&mut self, key: &Text, text: &Text) -> Result<(), PropFault>
         ensures ok { (definitions : List Variable) → self.old ≡ last_values definitions
-            → OnOk result (self.new ≡ last_values (definitions ++ name_with_value key.now text.now ∷ [])) }
+            → OnOk result (self.new ≡ last_values (definitions ++ name_with_value key.now text.now
+            ∷ [])) }
         ensures err { OnErr result (self.new ≡ self.old) }
         ensures accepted { OnOk result (definition_fault key.now text.now ≡ None) }
         ensures refused { IfFault result (λ fault. definition_fault key.now text.now ≡ Some fault) }
     {
         let alloc = self.allocator();
-        let value = read_definition(alloc, key, text)?;
+        let value = parse_property_value(alloc, key, text)?;
         let text = text.copy()?;
         self.own
             .put(key.as_str(), PropertyDefinition { text, value })?;
         Ok(())
     }
 
-    /// Sets each of the properties in `layer`, in place of an earlier value in `layer`.
+    /// Copies each property into `layer`, where it replaces an earlier value of the property.
     fn copy_into(&self, layer: &mut Layer) -> Result<(), NoMemory>
         ensures { OnOk result (layer.new ≡ last_values (layer.old ++ self.now)) }
     {
@@ -156,12 +157,12 @@ impl Props {
         }
     }
 
-    /// Copies all properties, those of the program and those of the case, into one new layer.
+    /// Creates one layer from copies of all properties, those of the program and those of the case.
     ///
     /// # Errors
     ///
     /// - `NoMemory`: an allocation fails.
-    pub(crate) fn merged(&self) -> Result<Layer, NoMemory>
+    pub(crate) fn merge_layers(&self) -> Result<Layer, NoMemory>
         ensures { IfOk result (λ layer. layer ≡ self.now) }
     {
         let mut layer = Layer::new(self.allocator());
@@ -169,20 +170,21 @@ impl Props {
         Ok(layer)
     }
 
-    /// Creates the listing of the properties in memory that its copies share.
-    fn shared_listing(&self) -> Result<Variables, NoMemory>
+    /// Creates the listing of the properties. Copies of the listing share its memory.
+    fn create_shared_listing(&self) -> Result<Variables, NoMemory>
         ensures { IfOk result (λ pairs. pairs ≡ listing self.now) }
     {
-        let pairs = self.own_listing()?;
+        let pairs = self.create_listing()?;
         pairs.into_shared()
     }
 
-    /// Creates a shared layer from copies of all properties and from their listing.
+    /// Creates a shared layer from copies of all properties, and from the listing of the
+    /// properties.
     fn shared_layer(&self) -> Result<SharedLayer, NoMemory>
         ensures { IfOk result (λ layer. layer ≡ self.now) }
     {
-        let layer = self.merged()?;
-        let pairs = self.shared_listing()?;
+        let layer = self.merge_layers()?;
+        let pairs = self.create_shared_listing()?;
         Ok(SharedLayer::new(layer, pairs))
     }
 
@@ -229,57 +231,63 @@ impl Props {
 }
 
 impl Props {
-    /// Returns the text of the property of the table row `row` in a listing.
+    /// Returns the text that a listing has for the property of the table row `row`.
     ///
     /// A property that isn't set has the text of its default value.
-    fn shown(&self, row: &PropertyRow) -> Result<Text, NoMemory>
+    fn listing_text(&self, row: &PropertyRow) -> Result<Text, NoMemory>
         ensures { IfOk result (λ text. text ≡ property_text (texts_of self.now) (row_in row.now)) }
     {
         let alloc = self.allocator();
         match self.find(row.0) {
-            Some(given) => given.value.shown(alloc, given.text.as_str()),
-            None => row.2.default_value(alloc).shown(alloc, ""),
+            Some(given) => given.value.listing_text(alloc, given.text.as_str()),
+            None => row.2.default_value(alloc).listing_text(alloc, ""),
         }
     }
 
-    /// Appends the properties of the table rows `rows` with their texts to `pairs`.
+    /// Appends the properties of the table rows `rows`, with their texts in a listing, to `pairs`.
     ///
     /// Properties with empty texts are omitted.
-    fn add_shown(&self, pairs: &mut Variables, rows: &[PropertyRow]) -> Result<(), NoMemory>
+    fn add_table_properties(
+        &self,
+        pairs: &mut Variables,
+        rows: &[PropertyRow],
+    ) -> Result<(), NoMemory>
         ensures { OnOk result (pairs.new
             ≡ pairs.old ++ property_pairs (texts_of self.now) (map row_in rows.now)) }
     {
         for row in rows {
             let name = Text::from_str(self.allocator(), row.0)?;
-            add(pairs, name, self.shown(row)?)?;
+            add(pairs, name, self.listing_text(row)?)?;
         }
         Ok(())
     }
 
-    /// Appends the custom properties with their texts to `pairs`. Omits those with empty texts.
-    fn add_custom(&self, pairs: &mut Variables) -> Result<(), NoMemory>
+    /// Appends the custom properties with their texts to `pairs`.
+    ///
+    /// Properties with empty texts are omitted.
+    fn add_custom_properties(&self, pairs: &mut Variables) -> Result<(), NoMemory>
         ensures { OnOk result (pairs.new ≡ pairs.old ++ custom_pairs self.now) }
     {
-        let all = self.merged()?;
-        all.add_custom(pairs)
+        let all = self.merge_layers()?;
+        all.add_custom_properties(pairs)
     }
 
-    /// Creates the listing of the properties in newly allocated memory.
-    fn own_listing(&self) -> Result<Variables, NoMemory>
+    /// Creates a new listing of the properties, which shares no memory.
+    fn create_listing(&self) -> Result<Variables, NoMemory>
         ensures { IfOk result (λ pairs. pairs ≡ listing self.now) }
     {
         let mut pairs = Variables::new(self.allocator());
-        self.add_shown(&mut pairs, &TABLE)?;
-        self.add_custom(&mut pairs)?;
+        self.add_table_properties(&mut pairs, &PROPERTY_TABLE)?;
+        self.add_custom_properties(&mut pairs)?;
         Ok(pairs)
     }
 
     /// Returns a listing of the properties: names with the texts of their effective values.
     ///
     /// The properties with fixed names come first, in alphabetical order. The custom properties
-    /// follow in the order of their first definitions. Elements are joined by one space, and
-    /// numbers are decimal. A property with an empty text is omitted. If an overlay adds no
-    /// property to [`Props::shared`] properties, the result shares the memory of their listing.
+    /// follow in the order of their first definitions. The elements of a list are joined by one
+    /// space, and numbers are decimal. A property with an empty text is omitted. If an overlay adds
+    /// no property to [`Props::shared`] properties, the result shares the memory of their listing.
     ///
     /// # Errors
     ///
@@ -291,7 +299,7 @@ impl Props {
     {
         match &self.program {
             Some(program) if self.own.is_empty() => program.listing(),
-            _ => self.own_listing(),
+            _ => self.create_listing(),
         }
     }
 }

@@ -1,34 +1,34 @@
 ghost use Rattle.std.specs.Prelude.{◌≡◌, ◌++◌, chars, IfOk, bytes_eq, not};
-ghost use Rattle.kt_metadata.specs.Common.{list_any, find, option_copied, reason_text, text_in, config_reason_text, listed_reason_text, user_reason_text, need_reason_text, amount_reason_text, is_allowed, is_found, needed, is_undefined};
+ghost use Rattle.kt_metadata.specs.Common.{list_any, find, option_copied, reason_text, text_in, config_reason_text, unsupported_reason_text, user_reason_text, need_reason_text, amount_reason_text, is_allowed, is_found, needed, is_undefined};
 
-use crate::{Host, Meta, Need, User};
+use crate::{Host, Meta, Need, RequiredUser};
 use kt_base::{NoMemory, Phrase, Reason, Text};
 use kt_config::Config;
 use std::alloc::Global;
 
-/// Returns `true` if the test suite `suite` has no variable `name` in the configuration.
+/// Returns `true` if the test suite `suite` has no variable `name` in the configuration `config`.
 fn is_undefined(config: &Config, suite: &Text, name: &Text) -> bool
     ensures { result ≡ is_undefined config.now suite.now name.now }
 {
     match config.suite_vars(suite) {
         None => true,
-        Some(variables) => !variables.is_defined(name),
+        Some(variables) => !variables.has_variable(name),
     }
 }
 
-/// Returns the first name in `words` that isn't a variable of the test suite `suite`.
+/// Returns the first name in `words` that isn't a variable of the test suite `suite` in `config`.
 ///
 /// Returns `None` if all names are variables of the suite.
-fn first_undefined<'a>(words: &'a [Text], config: &Config, suite: &Text) -> Option<&'a Text>
+fn first_undefined_name<'a>(words: &'a [Text], config: &Config, suite: &Text) -> Option<&'a Text>
     ensures { option_copied result ≡ find (is_undefined config.now suite.now) words.now }
 {
     words.iter().find(|word| is_undefined(config, suite, *word))
 }
 
-/// Returns the first required object of the kind `need` that wasn't found on the host.
+/// Returns the first required object of the kind `need` in `meta` that wasn't found on `host`.
 ///
 /// Returns `None` if all such objects were found.
-fn first_missing<'a>(need: Need, meta: &'a Meta, host: &Host) -> Option<&'a Text>
+fn first_missing_object<'a>(need: Need, meta: &'a Meta, host: &Host) -> Option<&'a Text>
     ensures { option_copied result
         ≡ find (λ word. not (is_found need host.now word)) (needed need meta.now) }
 {
@@ -36,22 +36,23 @@ fn first_missing<'a>(need: Need, meta: &'a Meta, host: &Host) -> Option<&'a Text
     words.iter().find(|word| !host.has(need, *word))
 }
 
-/// Returns `true` if `words` contains `word`.
-fn is_listed(words: &[Text], word: &str) -> bool
+/// Returns `true` if one of the elements `words` is `word`.
+fn contains_element(words: &[Text], word: &str) -> bool
     ensures { result ≡ list_any (λ w. bytes_eq w (chars word.now)) words.now }
 {
     words.iter().any(|listed| listed.is_word(word))
 }
 
-/// Returns `true` if `words` is empty or contains `word`.
+/// Returns `true` if the list `words` of allowed values allows `word`: it is empty or contains
+/// `word`.
 fn is_allowed(words: &[Text], word: &str) -> bool
     ensures { result ≡ is_allowed words.now (chars word.now) }
 {
-    words.is_empty() || is_listed(words, word)
+    words.is_empty() || contains_element(words, word)
 }
 
 /// Creates a reason whose text is the concatenation of `front`, `word` and `back`.
-fn about(alloc: Global, front: &str, word: &str, back: &str) -> Result<Reason, NoMemory>
+fn create_reason(alloc: Global, front: &str, word: &str, back: &str) -> Result<Reason, NoMemory>
     ensures { IfOk result (λ reason. reason_text reason
         ≡ chars front.now ++ (chars word.now ++ chars back.now)) }
 {
@@ -61,9 +62,10 @@ fn about(alloc: Global, front: &str, word: &str, back: &str) -> Result<Reason, N
     Ok(Reason::Owned(text))
 }
 
-/// Returns the reason to skip a case if a required variable isn't set for the test suite `suite`.
+/// Returns the reason to skip a case if `config` doesn't set a variable that the case requires.
 ///
-/// Returns `None` if all required variables are set.
+/// `meta` are the properties of the case, and `suite` is its test suite. Returns `None` if all
+/// required variables of the suite are set.
 ///
 /// # Errors
 ///
@@ -74,12 +76,13 @@ pub fn config_reason(
     config: &Config,
     suite: &Text,
 ) -> Result<Option<Reason>, NoMemory>
-    ensures { IfOk result (λ reason. text_in reason ≡ config_reason_text meta.now config.now suite.now) }
+    ensures { IfOk result (λ reason. text_in reason
+        ≡ config_reason_text meta.now config.now suite.now) }
 {
-    match first_undefined(meta.required_configs.as_slice(), config, suite) {
+    match first_undefined_name(meta.required_configs.as_slice(), config, suite) {
         None => Ok(None),
         Some(word) => {
-            let reason = about(
+            let reason = create_reason(
                 alloc,
                 "Required configuration property '",
                 word.as_str(),
@@ -93,43 +96,44 @@ pub fn config_reason(
 /// Returns the reason to skip a case if `word` isn't among the allowed values `listed`.
 ///
 /// `word` is the configured architecture or platform. An empty list allows each value. The reason
-/// begins with `front`. Returns `None` if `word` is allowed.
+/// begins with the text `front`. Returns `None` if `word` is allowed.
 ///
 /// # Errors
 ///
 /// - `NoMemory`: an allocation fails.
-pub fn listed_reason(
+pub fn unsupported_reason(
     alloc: Global,
     front: &str,
     listed: &[Text],
     word: &str,
 ) -> Result<Option<Reason>, NoMemory>
     ensures { IfOk result (λ reason. text_in reason
-        ≡ listed_reason_text (chars front.now) listed.now (chars word.now)) }
+        ≡ unsupported_reason_text (chars front.now) listed.now (chars word.now)) }
 {
     if is_allowed(listed, word) {
         return Ok(None);
     }
-    let reason = about(alloc, front, word, "' not supported")?;
+    let reason = create_reason(alloc, front, word, "' not supported")?;
     Ok(Some(reason))
 }
 
-/// Returns the reason to skip a case if the runner isn't the required user, else `None`.
+/// Returns the reason to skip a case if the runner isn't the required user `user`, else `None`.
 ///
 /// `root` is `true` if the runner is root.
-pub fn user_reason(user: User, root: bool) -> Option<Reason>
+pub fn user_reason(user: RequiredUser, root: bool) -> Option<Reason>
     ensures { text_in result ≡ user_reason_text user root }
 {
     match (user, root) {
-        (User::Root, false) => Some(Reason::Fixed(Phrase::RootNeeded)),
-        (User::Unprivileged, true) => Some(Reason::Fixed(Phrase::UnprivilegedNeeded)),
+        (RequiredUser::Root, false) => Some(Reason::Fixed(Phrase::RootNeeded)),
+        (RequiredUser::Unprivileged, true) => Some(Reason::Fixed(Phrase::UnprivilegedNeeded)),
         _ => None,
     }
 }
 
-/// Returns the reason to skip a case if a required object of the kind `need` wasn't found.
+/// Returns the reason to skip a case if a file or program that it requires wasn't found on `host`.
 ///
-/// Returns `None` if all such objects were found.
+/// `meta` are the properties of the case. `need` selects the files or the programs. Returns `None`
+/// if all of them were found.
 ///
 /// # Errors
 ///
@@ -142,10 +146,10 @@ pub fn need_reason(
 ) -> Result<Option<Reason>, NoMemory>
     ensures { IfOk result (λ reason. text_in reason ≡ need_reason_text need meta.now host.now) }
 {
-    match first_missing(need, meta, host) {
+    match first_missing_object(need, meta, host) {
         None => Ok(None),
         Some(word) => {
-            let reason = about(alloc, need.text(), word.as_str(), "' not found")?;
+            let reason = create_reason(alloc, need.text(), word.as_str(), "' not found")?;
             Ok(Some(reason))
         }
     }
@@ -153,8 +157,9 @@ pub fn need_reason(
 
 /// Returns the reason to skip a case if the host has less memory or disk space than required.
 ///
-/// `due` is the required amount in bytes, and `there` is the amount that the host has, if it is
-/// known. `phrase` is the message of the reason. Returns `None` if `there` is enough or unknown.
+/// `due` is the required amount in bytes. `there` is the amount that the host has, in bytes, or
+/// `None` if it is unknown. `phrase` is the message of the reason. Returns `None` if `there` is
+/// enough or unknown.
 pub fn amount_reason(phrase: Phrase, due: u64, there: Option<u64>) -> Option<Reason>
     ensures { text_in result ≡ amount_reason_text phrase due there }
 {

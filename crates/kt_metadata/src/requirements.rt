@@ -1,22 +1,25 @@
 ghost use Rattle.std.specs.Prelude.{◌≡◌, IfOk};
 ghost use Rattle.kt_metadata.specs.Common.{text_in, architecture_reason_text, platform_reason_text, rows, host_reason_texts, first_reason};
 
-use crate::reasons::{amount_reason, config_reason, listed_reason, need_reason, user_reason};
+use crate::reasons::{amount_reason, config_reason, need_reason, unsupported_reason, user_reason};
 use crate::{Host, Meta, Need};
 use kt_base::{NoMemory, Phrase, Reason, Text};
 use kt_config::Config;
 use std::alloc::Global;
 
-/// Returns the reason to skip a case if the configured architecture isn't allowed, else `None`.
+/// Returns the reason to skip a case if `meta` doesn't allow the architecture of `config`.
+///
+/// `meta` are the properties of the case. Returns `None` if the architecture is allowed.
 fn architecture_reason(
     alloc: Global,
     meta: &Meta,
     config: &Config,
 ) -> Result<Option<Reason>, NoMemory>
-    ensures { IfOk result (λ reason. text_in reason ≡ architecture_reason_text meta.now config.now) }
+    ensures { IfOk result (λ reason. text_in reason
+        ≡ architecture_reason_text meta.now config.now) }
 {
     let listed = meta.allowed_architectures.as_slice();
-    listed_reason(
+    unsupported_reason(
         alloc,
         "Current architecture '",
         listed,
@@ -24,19 +27,23 @@ fn architecture_reason(
     )
 }
 
-/// Returns the reason to skip a case if the configured platform isn't allowed, else `None`.
+/// Returns the reason to skip a case if `meta` doesn't allow the platform of `config`.
+///
+/// `meta` are the properties of the case. Returns `None` if the platform is allowed.
 fn platform_reason(alloc: Global, meta: &Meta, config: &Config) -> Result<Option<Reason>, NoMemory>
     ensures { IfOk result (λ reason. text_in reason ≡ platform_reason_text meta.now config.now) }
 {
     let listed = meta.allowed_platforms.as_slice();
-    listed_reason(alloc, "Current platform '", listed, config.platform())
+    unsupported_reason(alloc, "Current platform '", listed, config.platform())
 }
 
-/// Returns the reason to skip a case: that of the first requirement which `host` doesn't meet.
+/// Returns the reason to skip a case if `host` doesn't meet one of the case's requirements.
 ///
+/// `meta` are the properties of the case. The reason is that of the first unmet requirement.
 /// Returns `None` if the host meets the requirements on user, files, programs, memory and disk.
 fn host_reason(alloc: Global, meta: &Meta, host: &Host) -> Result<Option<Reason>, NoMemory>
-    ensures { IfOk result (λ reason. text_in reason ≡ first_reason (host_reason_texts meta.now host.now)) }
+    ensures { IfOk result (λ reason. text_in reason
+        ≡ first_reason (host_reason_texts meta.now host.now)) }
 {
     if let Some(reason) = user_reason(meta.required_user, host.root) {
         return Ok(Some(reason));
@@ -53,11 +60,12 @@ fn host_reason(alloc: Global, meta: &Meta, host: &Host) -> Result<Option<Reason>
     Ok(amount_reason(Phrase::DiskNeeded, meta.required_disk_space, host.disk))
 }
 
-/// Returns the reason to skip a case: that of its first unmet requirement, or `None` if all are
-/// met.
+/// Returns the reason to skip a case if one of its requirements isn't met, else `None`.
 ///
-/// The requirements are checked in this order (this profile): variables of the test suite `suite`,
-/// architecture, platform, user, files, programs, memory, disk space.
+/// `meta` are the properties of the case. The reason is that of the first unmet requirement. The
+/// requirements on `config` are checked first: variables of the test suite `suite`, architecture,
+/// platform. The requirements on `host` follow: user, files, programs, memory, disk space (this
+/// profile).
 ///
 /// # Errors
 ///

@@ -5,7 +5,7 @@ use crate::layer::Layer;
 use kt_base::{NoMemory, Variables};
 use std::marker::Model;
 
-/// A layer of a program's properties with its listing. The cases of the program share its memory.
+/// A layer of a program's properties, and the listing of the layer. The program's cases share both.
 ///
 /// In contracts, a `SharedLayer` is the list of its names with their texts. Each name occurs once.
 #[derive(Drop)]
@@ -35,7 +35,7 @@ impl SharedLayer {
         SharedLayer { layer, pairs }
     }
 
-    /// Returns the layer without its listing.
+    /// Returns the layer, without its listing.
     pub fn layer(&self) -> &Layer
         ensures { result.now ≡ self.now }
     {

@@ -1,5 +1,5 @@
 ghost use Rattle.std.specs.Prelude.{◌≡◌, chars, map, IfOk, Some};
-ghost use Rattle.kt_metadata.specs.Common.{find, option_copied, option_map, row_in, has_key, has_name, is_custom, form_of_property, is_kyuafile_property, value_of_text, definition_fault, IfFault, filled, non_empty_suffix};
+ghost use Rattle.kt_metadata.specs.Common.{find, option_copied, option_map, row_in, has_key, has_name, is_custom, form_of_property, is_kyuafile_property, value_of_text, definition_fault, IfFault, non_empty_text, non_empty_suffix};
 
 use crate::PropFault;
 use crate::form::Form;
@@ -7,14 +7,15 @@ use crate::value::Value;
 use kt_base::Text;
 use std::alloc::Global;
 
-/// A row of [`TABLE`]: a property's name, its key in a list of ATF cases, and its values' form.
+/// A row of [`PROPERTY_TABLE`]: a property's name, its key in a list of ATF cases, and the form of
+/// its values.
 pub type PropertyRow = (&'static str, &'static str, Form);
 
-/// The properties with fixed names, in the order of a listing.
+/// The properties with fixed names, in the order of a listing of properties.
 ///
 /// A row has the name (kyuafile(5), for `has_cleanup` atf-test-case(4)), the key in a list of ATF
 /// cases (this profile), and the form of the values.
-pub const TABLE: [PropertyRow; 12] = [
+pub const PROPERTY_TABLE: [PropertyRow; 12] = [
     ("allowed_architectures", "require.arch", Form::Words),
     ("allowed_platforms", "require.machine", Form::Words),
     ("description", "descr", Form::Text),
@@ -25,7 +26,7 @@ pub const TABLE: [PropertyRow; 12] = [
     ("required_files", "require.files", Form::Files),
     ("required_memory", "require.memory", Form::Size),
     ("required_programs", "require.progs", Form::Programs),
-    ("required_user", "require.user", Form::User),
+    ("required_user", "require.user", Form::RequiredUser),
     ("timeout", "timeout", Form::Timeout),
 ];
 
@@ -38,7 +39,8 @@ pub fn is_custom(name: &str) -> bool
     non_empty_suffix(name, "custom.").is_some()
 }
 
-/// Returns the first of `rows` whose property has the name `name`, or `None` if no row has it.
+/// Returns the first of `rows` whose property has the name `name`, or `None` if there is no such
+/// row.
 fn row_with_name<'a>(name: &Text, rows: &'a [PropertyRow]) -> Option<&'a PropertyRow>
     ensures { option_map row_in (option_copied result)
         ≡ find (has_name name.now) (map row_in rows.now) }
@@ -51,7 +53,7 @@ fn row_with_name<'a>(name: &Text, rows: &'a [PropertyRow]) -> Option<&'a Propert
     None
 }
 
-/// Returns the first of `rows` whose key is `key`, or `None` if no row has this key.
+/// Returns the first of `rows` whose property has the key `key`, or `None` if there is no such row.
 ///
 /// The keys are those of a list of ATF cases (this profile).
 pub fn row_with_key<'a>(key: &Text, rows: &'a [PropertyRow]) -> Option<&'a PropertyRow>
@@ -73,7 +75,7 @@ fn form_of_property(name: &Text) -> Option<Form>
     if is_custom(name.as_str()) {
         return Some(Form::Text);
     }
-    match row_with_name(name, &TABLE) {
+    match row_with_name(name, &PROPERTY_TABLE) {
         Some(row) => Some(row.2),
         None => None,
     }
@@ -95,7 +97,7 @@ pub fn is_kyuafile_property(name: &Text) -> bool
 /// - `UnknownProperty`: no property has this name.
 /// - `BadValue`: a property has this name, but `text` isn't a value of the property.
 /// - `NoMemory`: an allocation fails.
-pub fn read_definition(alloc: Global, name: &Text, text: &Text) -> Result<Value, PropFault>
+pub fn parse_property_value(alloc: Global, name: &Text, text: &Text) -> Result<Value, PropFault>
     ensures value { IfOk result (λ value. value_of_text name.now text.now ≡ Some value) }
     ensures refused { IfFault result (λ fault. definition_fault name.now text.now ≡ Some fault) }
 {
@@ -109,8 +111,8 @@ pub fn read_definition(alloc: Global, name: &Text, text: &Text) -> Result<Value,
 }
 
 /// Returns `text`, or `None` if `text` is empty.
-fn filled(text: &str) -> Option<&str>
-    ensures { option_map (λ part. chars part.now) result ≡ filled (chars text.now) }
+fn non_empty_text(text: &str) -> Option<&str>
+    ensures { option_map (λ part. chars part.now) result ≡ non_empty_text (chars text.now) }
 {
     if text.is_empty() {
         return None;
@@ -127,6 +129,6 @@ pub fn non_empty_suffix<'a>(text: &'a str, front: &str) -> Option<&'a str>
 {
     match text.strip_prefix(front) {
         None => None,
-        Some(part) => filled(part),
+        Some(part) => non_empty_text(part),
     }
 }

@@ -1,12 +1,12 @@
 ghost use Rattle.std.specs.Prelude.{◌≡◌, ◌++◌, chars, IfOk, OnOk};
-ghost use Rattle.kt_metadata.specs.Listing.{joined, spaced, truth_text, user_text, shown};
+ghost use Rattle.kt_metadata.specs.Listing.{space_joined, space_prefixed, truth_text, user_text, listing_text};
 
 use kt_base::{Items, NoMemory, Text};
 use std::alloc::Global;
 
 /// A requirement on the user that runs a case.
 #[derive(Clone, Copy)]
-pub enum User {
+pub enum RequiredUser {
     /// Any user.
     Any,
     /// The user root.
@@ -18,7 +18,7 @@ pub enum User {
 /// A value of a property, parsed by the property's [`Form`](crate::form::Form).
 #[derive(Drop)]
 pub enum Value {
-    /// The elements of the text, in their order.
+    /// A list: the elements of the text, in their order.
     Words(Items<Text>),
     /// Any text. The text itself is stored in [`PropertyDefinition`].
     Text,
@@ -27,17 +27,17 @@ pub enum Value {
     /// A size in bytes.
     Size(u64),
     /// A required user.
-    User(User),
+    RequiredUser(RequiredUser),
     /// A timeout in seconds, 1 to 1,000,000.
     Timeout(u32),
 }
 
-/// Copies the list `words` into newly allocated memory.
+/// Copies the elements `words` into newly allocated memory.
 ///
 /// # Errors
 ///
 /// - `NoMemory`: an allocation fails.
-pub fn copy_of_words(alloc: Global, words: &[Text]) -> Result<Items<Text>, NoMemory>
+pub fn copy_words(alloc: Global, words: &[Text]) -> Result<Items<Text>, NoMemory>
     ensures { IfOk result (λ copy. copy ≡ words.now) }
 {
     let mut copy = Items::new(alloc);
@@ -49,7 +49,7 @@ pub fn copy_of_words(alloc: Global, words: &[Text]) -> Result<Items<Text>, NoMem
 
 /// Concatenates the elements `words`, with one space between two elements.
 fn join(alloc: Global, words: &[Text]) -> Result<Text, NoMemory>
-    ensures { IfOk result (λ text. text ≡ joined words.now) }
+    ensures { IfOk result (λ text. text ≡ space_joined words.now) }
 {
     match words.split_first() {
         None => Ok(Text::new(alloc)),
@@ -57,9 +57,9 @@ fn join(alloc: Global, words: &[Text]) -> Result<Text, NoMemory>
     }
 }
 
-/// Returns the text `front` with the elements `words` appended, each after a space.
+/// Appends the elements `words` to the text `front`, each after a space, and returns the text.
 fn join_after(front: Text, words: &[Text]) -> Result<Text, NoMemory>
-    ensures { IfOk result (λ text. text ≡ front ++ spaced words.now) }
+    ensures { IfOk result (λ text. text ≡ front ++ space_prefixed words.now) }
 {
     let mut text = front;
     for word in words {
@@ -70,7 +70,7 @@ fn join_after(front: Text, words: &[Text]) -> Result<Text, NoMemory>
 }
 
 /// Returns the text of the truth value `value` in a listing of properties: `true` or `false`.
-fn truth_word(value: bool) -> &'static str
+fn truth_keyword(value: bool) -> &'static str
     ensures { chars result.now ≡ truth_text value }
 {
     if value { "true" } else { "false" }
@@ -79,13 +79,13 @@ fn truth_word(value: bool) -> &'static str
 /// Returns the text of the required user `user` in a listing of properties.
 ///
 /// The text for any user is empty.
-fn user_word(user: User) -> &'static str
+fn user_keyword(user: RequiredUser) -> &'static str
     ensures { chars result.now ≡ user_text user }
 {
     match user {
-        User::Any => "",
-        User::Root => "root",
-        User::Unprivileged => "unprivileged",
+        RequiredUser::Any => "",
+        RequiredUser::Root => "root",
+        RequiredUser::Unprivileged => "unprivileged",
     }
 }
 
@@ -99,32 +99,32 @@ impl Value {
         ensures { IfOk result (λ value. value ≡ self.now) }
     {
         match self {
-            Value::Words(words) => Ok(Value::Words(copy_of_words(alloc, words.as_slice())?)),
+            Value::Words(words) => Ok(Value::Words(copy_words(alloc, words.as_slice())?)),
             Value::Text => Ok(Value::Text),
             Value::Truth(truth) => Ok(Value::Truth(*truth)),
             Value::Size(bytes) => Ok(Value::Size(*bytes)),
-            Value::User(user) => Ok(Value::User(*user)),
+            Value::RequiredUser(user) => Ok(Value::RequiredUser(*user)),
             Value::Timeout(seconds) => Ok(Value::Timeout(*seconds)),
         }
     }
 
     /// Returns the text of the value in a listing of properties.
     ///
-    /// `text` is the text from which the value was parsed. Elements are joined by one space, and
-    /// numbers are decimal.
+    /// `text` is the text from which the value was parsed. The elements of a list are joined by one
+    /// space, and numbers are decimal.
     ///
     /// # Errors
     ///
     /// - `NoMemory`: an allocation fails.
-    pub fn shown(&self, alloc: Global, text: &str) -> Result<Text, NoMemory>
-        ensures { IfOk result (λ listed. listed ≡ shown self.now (chars text.now)) }
+    pub fn listing_text(&self, alloc: Global, text: &str) -> Result<Text, NoMemory>
+        ensures { IfOk result (λ listed. listed ≡ listing_text self.now (chars text.now)) }
     {
         match self {
             Value::Words(words) => join(alloc, words.as_slice()),
             Value::Text => Text::from_str(alloc, text),
-            Value::Truth(truth) => Text::from_str(alloc, truth_word(*truth)),
+            Value::Truth(truth) => Text::from_str(alloc, truth_keyword(*truth)),
             Value::Size(bytes) => Text::from_number(alloc, *bytes),
-            Value::User(user) => Text::from_str(alloc, user_word(*user)),
+            Value::RequiredUser(user) => Text::from_str(alloc, user_keyword(*user)),
             Value::Timeout(seconds) => Text::from_number(alloc, u64::from(*seconds)),
         }
     }

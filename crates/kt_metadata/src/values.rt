@@ -1,12 +1,14 @@
 ghost use Rattle.std.specs.Prelude.{◌≡◌, ◌∷◌, [], ◌++◌, List, ℕ, IfOk, OnOk};
-ghost use Rattle.kt_metadata.specs.Common.{list_any, truth_of, user_of, number_of, unit_of, factor_of, scaled, limited, is_not_absolute, is_not_program_name, is_space, ended, words, words_from, AreWords};
+ghost use Rattle.kt_metadata.specs.Common.{list_any, truth_of, user_of, number_of, unit_of, factor_of, checked_product, timeout_of_number, is_not_absolute, is_not_program_name, is_space, with_element, words, words_from, AreWords};
 ghost use Rattle.kt_metadata.specs.Values.{size_in, timeout_in};
 
-use crate::User;
-use kt_base::{Items, NoMemory, Text, decimal_up_to, digits_length, has_slash, is_absolute, named};
+use crate::RequiredUser;
+use kt_base::{
+    Items, NoMemory, Text, digits_length, has_slash, is_absolute, named, parse_decimal_up_to,
+};
 use std::alloc::Global;
 
-/// Returns `true` if `c` is white space: a space, or a character from 9 to 13.
+/// Returns `true` if `c` is white space: a space, or one of the characters with the codes 9 to 13.
 fn is_space(c: char) -> bool
     ensures { result ≡ is_space c }
 {
@@ -14,8 +16,8 @@ fn is_space(c: char) -> bool
 }
 
 /// Appends the element `word` to `words`, unless `word` is empty.
-fn end_word(words: &mut Items<Text>, word: Text) -> Result<(), NoMemory>
-    ensures { OnOk result (words.new ≡ words.old ++ ended word []) }
+fn push_non_empty(words: &mut Items<Text>, word: Text) -> Result<(), NoMemory>
+    ensures { OnOk result (words.new ≡ words.old ++ with_element word []) }
 {
     if word.is_empty() {
         return Ok(());
@@ -23,16 +25,23 @@ fn end_word(words: &mut Items<Text>, word: Text) -> Result<(), NoMemory>
     words.push(word)
 }
 
-/// Processes `c`, the next character of a text. `word` is the beginning of an element before `c`.
+/// Processes `c`, the next character of a text that is split into elements.
 ///
-/// Returns `word` with `c` appended. If `c` is white space, appends `word` to `words` instead, if
-/// it is not empty, and returns an empty text.
-fn next_word(alloc: Global, words: &mut Items<Text>, word: Text, c: char) -> Result<Text, NoMemory>
+/// `word` is the part of the current element before `c`.
+///
+/// Returns `word` with `c` appended. If `c` is white space, the element ends: the call appends
+/// `word` to `words`, unless `word` is empty, and returns an empty text.
+fn process_char(
+    alloc: Global,
+    words: &mut Items<Text>,
+    word: Text,
+    c: char,
+) -> Result<Text, NoMemory>
     ensures { IfOk result (λ next. (rest : List ℕ) → words.new ++ words_from next rest
         ≡ words.old ++ words_from word (c ∷ rest)) }
 {
     if is_space(c) {
-        end_word(words, word)?;
+        push_non_empty(words, word)?;
         return Ok(Text::new(alloc));
     }
     let mut word = word;
@@ -51,13 +60,13 @@ pub fn words(alloc: Global, text: &Text) -> Result<Items<Text>, NoMemory>
     let mut found = Items::new(alloc);
     let mut word = Text::new(alloc);
     for c in text.as_str().chars() {
-        word = next_word(alloc, &mut found, word, c)?;
+        word = process_char(alloc, &mut found, word, c)?;
     }
-    end_word(&mut found, word)?;
+    push_non_empty(&mut found, word)?;
     Ok(found)
 }
 
-/// Theorem: by the rule `AreWords`, `words text` is the only list of elements of a text.
+/// Theorem: by the rule `AreWords`, each text has exactly one list of elements, `words text`.
 pub fn theorem_of_words()
     ensures words { (text : List ℕ) → AreWords text (words text) }
     ensures only { (text : List ℕ) → (found : List (List ℕ)) → AreWords text found
@@ -65,7 +74,7 @@ pub fn theorem_of_words()
 {}
 
 /// The truth values, each with its text in a Kyuafile or a list of ATF cases (kyuafile(5)).
-const TRUTHS: [(&str, bool); 4] = [
+const TRUTH_VALUES: [(&str, bool); 4] = [
     ("true", true),
     ("yes", true),
     ("false", false),
@@ -79,27 +88,27 @@ const TRUTHS: [(&str, bool); 4] = [
 pub fn truth(text: &Text) -> Option<bool>
     ensures { result ≡ truth_of text.now }
 {
-    named(text, &TRUTHS)
+    named(text, &TRUTH_VALUES)
 }
 
 /// The required users, each with its text in a Kyuafile or a list of ATF cases (kyuafile(5)).
-const USERS: [(&str, User); 3] = [
-    ("", User::Any),
-    ("root", User::Root),
-    ("unprivileged", User::Unprivileged),
+const REQUIRED_USERS: [(&str, RequiredUser); 3] = [
+    ("", RequiredUser::Any),
+    ("root", RequiredUser::Root),
+    ("unprivileged", RequiredUser::Unprivileged),
 ];
 
 /// Parses `text` as a required user: an empty text, `root` or `unprivileged`.
 ///
 /// Returns `None` for another text.
 #[tactic(auto, unfolding(crate::proofs::Common::chars))]
-pub fn user(text: &Text) -> Option<User>
+pub fn user(text: &Text) -> Option<RequiredUser>
     ensures { result ≡ user_of text.now }
 {
-    named(text, &USERS)
+    named(text, &REQUIRED_USERS)
 }
 
-/// The greatest timeout of a test case, in seconds.
+/// The longest timeout of a test case, in seconds.
 const LONGEST_TIMEOUT_SECONDS: u32 = 1_000_000;
 
 /// Parses `digits` as a decimal number.
@@ -111,13 +120,13 @@ fn number(digits: &[u8]) -> Option<u64>
     if digits.is_empty() {
         return None;
     }
-    decimal_up_to(u64::MAX, digits)
+    parse_decimal_up_to(u64::MAX, digits)
 }
 
 /// Returns the number of bytes that the unit `c` represents, or `None` if `c` isn't a unit.
 ///
 /// The units are K (1024), M (1024^2), G (1024^3) and T (1024^4), in either case.
-fn unit(c: u8) -> Option<u64>
+fn unit_bytes(c: u8) -> Option<u64>
     ensures { result ≡ unit_of c }
 {
     match c {
@@ -129,16 +138,17 @@ fn unit(c: u8) -> Option<u64>
     }
 }
 
-/// Returns the factor that the bytes `rest` after the digits of a size represent.
+/// Returns the factor by which the number of a size is multiplied. `rest` are the bytes after its
+/// digits.
 ///
-/// The factor is 1 if `rest` is empty, or that of the unit `rest`. Returns `None` if `rest` isn't a
-/// unit.
+/// The factor is 1 if `rest` is empty, or the number of bytes in the unit `rest`. Returns `None` if
+/// `rest` isn't a unit.
 fn factor(rest: &[u8]) -> Option<u64>
     ensures { result ≡ factor_of rest.now }
 {
     match rest {
         [] => Some(1),
-        [c] => unit(*c),
+        [c] => unit_bytes(*c),
         _ => None,
     }
 }
@@ -146,8 +156,8 @@ fn factor(rest: &[u8]) -> Option<u64>
 /// Multiplies `number` by `factor`.
 ///
 /// Returns `None` if one of them is `None` or the product isn't below 2^64.
-fn scaled(number: Option<u64>, factor: Option<u64>) -> Option<u64>
-    ensures { result ≡ scaled number factor }
+fn checked_product(number: Option<u64>, factor: Option<u64>) -> Option<u64>
+    ensures { result ≡ checked_product number factor }
 {
     number?.checked_mul(factor?)
 }
@@ -160,15 +170,15 @@ pub fn size(text: &[u8]) -> Option<u64>
     ensures { result ≡ size_in text.now }
 {
     let length = digits_length(text);
-    scaled(number(&text[..length]), factor(&text[length..]))
+    checked_product(number(&text[..length]), factor(&text[length..]))
 }
 
 /// Converts `number` to a timeout in seconds. `rest` are the bytes after the number's digits.
 ///
 /// The number 0 represents the longest timeout, 1,000,000 seconds. Returns `None` if `number` is
 /// `None` or above 1,000,000, or if `rest` isn't empty.
-fn limited(number: Option<u64>, rest: &[u8]) -> Option<u32>
-    ensures { result ≡ limited number rest.now }
+fn timeout_of_number(number: Option<u64>, rest: &[u8]) -> Option<u32>
+    ensures { result ≡ timeout_of_number number rest.now }
 {
     let seconds = number?;
     if !rest.is_empty() {
@@ -190,7 +200,7 @@ pub fn timeout(text: &[u8]) -> Option<u32>
     ensures { result ≡ timeout_in text.now }
 {
     let length = digits_length(text);
-    limited(number(&text[..length]), &text[length..])
+    timeout_of_number(number(&text[..length]), &text[length..])
 }
 
 /// Returns `true` if `word` isn't an absolute path.

@@ -1,16 +1,16 @@
 -- The steps of a JUnit report over details.
 use Rattle.std.proofs.Common.{Option, Ok, Err, true, false, Result, get_or, take, drop, flat_map, ◌≡◌, ◌<◌, ◌≤◌, ◌+◌, ℕ, List, [], ◌∷◌, ◌++◌, length, refl, ap, ◌∙◌, sym, subst, append-nil, append_assoc, take-append-drop}
-use Rattle.kt_report.proofs.Common.{Shows, shows_as, shows_both, shows_more, heading, case_bytes, ending, junit_layout, drop_more, take_all, take_more, flat_map_more}
+use Rattle.kt_report.proofs.Common.{Emits, shows_as, shows_both, shows_more, heading, case_bytes, ending, junit_layout, drop_more, take_all, take_more, flat_map_more}
 use Rattle.kt_base.specs.declared.entry.Entry.{Entry}
 use Rattle.kt_base.specs.declared.entry.Run.{Run}
 use Rattle.kt_report.proofs.Fillings.{filled_both, filled_one}
 use Rattle.kt_report.proofs.Layouts.{cut_later}
-use Rattle.kt_report.specs.Details.{Filled, WritesOverDetails}
+use Rattle.kt_report.specs.Details.{ReadsDetails, WritesOverDetails}
 use Rattle.kt_report.specs.Details.{none}
 use Rattle.kt_report.specs.Inner.Steps.{WritesEntry, WritesFirst}
 use Rattle.kt_report.specs.declared.report_fault.ReportFault.{ReportFault}
-use Rattle.kt_report.specs.declared.report_stop.ReportStop.{ReportStop}
-use Rattle.kt_report.specs.declared.report_stop.ReportStop.TheVariants.{Details, Report}
+use Rattle.kt_report.specs.declared.write_report_error.WriteReportError.{WriteReportError}
+use Rattle.kt_report.specs.declared.write_report_error.WriteReportError.TheVariants.{Details, Report}
 
 module _ {S F : Type 0} (reads : S → Entry → Result Entry F → S → Type 0) (run : Run) (old : S) (was : Option (List ℕ)) where
   -- `Written due now new`: the heading and the cases of `due` were written.
@@ -18,15 +18,15 @@ module _ {S F : Type 0} (reads : S → Entry → Result Entry F → S → Type 0
   Written due now new = WritesFirst reads old was now new (junit_layout run) due
 
   -- `Ends now new answer`: the report was written, or `answer` is the error that ended it.
-  abbrev pub Ends : Option (List ℕ) → S → Result (Unit {0}) (ReportStop F ReportFault) → Type 0
+  abbrev pub Ends : Option (List ℕ) → S → Result (Unit {0}) (WriteReportError F ReportFault) → Type 0
   Ends now new answer = WritesOverDetails reads (junit_layout run) run.entries old was now new answer
 
   -- After the heading, no case is written.
-  pub writes_none : (now : Option (List ℕ)) → Shows was now false (heading run) → Written [] now old
+  pub writes_none : (now : Option (List ℕ)) → Emits was now false (heading run) → Written [] now old
   writes_none now s = ([], none old, shows_as (sym (append-nil (heading run))) s)
 
   -- The report ends early if the heading can't be written.
-  pub heading_cut : (now : Option (List ℕ)) (fault : ReportFault) → Shows was now true (heading run) → Ends now old (Err (Report fault))
+  pub heading_cut : (now : Option (List ℕ)) (fault : ReportFault) → Emits was now true (heading run) → Ends now old (Err (Report fault))
   heading_cut now fault s = record { ends = ([], run.entries, [], refl, none old, cut_later (junit_layout run) [] run.entries (shows_more [] s)) }
 
   module _ (mid new : S) (held now : Option (List ℕ)) (xs : List Entry) (same : xs ≡ run.entries) (i : ℕ) (e d : Entry) (low : i < length xs) (is : e ≡ get_or xs i d)
@@ -34,17 +34,17 @@ module _ {S F : Type 0} (reads : S → Entry → Result Entry F → S → Type 0
     within : i < length run.entries
     within = subst (λ (es : List Entry). i < length es) same low
 
-    stands : get_or run.entries i d ≡ e
-    stands = sym (subst (λ (es : List Entry). e ≡ get_or es i d) same is)
+    is_unescaped : get_or run.entries i d ≡ e
+    is_unescaped = sym (subst (λ (es : List Entry). e ≡ get_or es i d) same is)
 
     parts : run.entries ≡ take i run.entries ++ e ∷ drop (i + 1) run.entries
-    parts = sym (take-append-drop i run.entries) ∙ ap (λ (l : List Entry). take i run.entries ++ l) (drop_more run.entries i d within ∙ ap (λ (x : Entry). x ∷ drop (i + 1) run.entries) stands)
+    parts = sym (take-append-drop i run.entries) ∙ ap (λ (l : List Entry). take i run.entries ++ l) (drop_more run.entries i d within ∙ ap (λ (x : Entry). x ∷ drop (i + 1) run.entries) is_unescaped)
 
     next : take (i + 1) run.entries ≡ take i run.entries ++ e ∷ []
-    next = take_more run.entries i d within ∙ ap (λ (x : Entry). take i run.entries ++ x ∷ []) stands
+    next = take_more run.entries i d within ∙ ap (λ (x : Entry). take i run.entries ++ x ∷ []) is_unescaped
 
     -- The report ends early if a case can't be read or written.
-    pub case_cut : (stop : ReportStop F ReportFault) → WritesEntry reads mid held now new case_bytes e (Err stop) → Ends now new (Err stop)
+    pub case_cut : (stop : WriteReportError F ReportFault) → WritesEntry reads mid held now new case_bytes e (Err stop) → Ends now new (Err stop)
     case_cut (Details fault) c =
         record {
           ends = (
@@ -56,7 +56,7 @@ module _ {S F : Type 0} (reads : S → Entry → Result Entry F → S → Type 0
             parts,
             w.1,
             c.ends.0,
-            subst (λ (x : Option (List ℕ)). Shows was x false (heading run ++ flat_map case_bytes w.0 ++ [])) (sym c.ends.1) (shows_as (sym (append-nil (heading run ++ flat_map case_bytes w.0))) w.2),
+            subst (λ (x : Option (List ℕ)). Emits was x false (heading run ++ flat_map case_bytes w.0 ++ [])) (sym c.ends.1) (shows_as (sym (append-nil (heading run ++ flat_map case_bytes w.0))) w.2),
           );
         }
     case_cut (Report fault) c =
@@ -82,9 +82,9 @@ module _ {S F : Type 0} (reads : S → Entry → Result Entry F → S → Type 0
     whole = take_all i run.entries (subst (λ (es : List Entry). length es ≤ i) same all)
 
     -- The report ends early if its end can't be written.
-    pub end_cut : (fault : ReportFault) → Shows held now true ending → Ends now new (Err (Report fault))
+    pub end_cut : (fault : ReportFault) → Emits held now true ending → Ends now new (Err (Report fault))
     end_cut fault s = record { ends = (take i run.entries, [], w.0, sym (append-nil (take i run.entries) ∙ whole), w.1, shows_both w.2 s) }
 
     -- After its end, the whole report is written.
-    pub junit_written : Shows held now false ending → Ends now new (Ok tt)
-    junit_written s = record { ends = (w.0, subst (λ (es : List Entry). Filled reads old es w.0 new) whole w.1, shows_both w.2 s) }
+    pub junit_written : Emits held now false ending → Ends now new (Ok tt)
+    junit_written s = record { ends = (w.0, subst (λ (es : List Entry). ReadsDetails reads old es w.0 new) whole w.1, shows_both w.2 s) }

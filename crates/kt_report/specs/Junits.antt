@@ -10,9 +10,10 @@ use Rattle.kt_report.specs.Digits.{seconds}
 use Rattle.kt_report.specs.Cases.{case_texts}
 use Rattle.kt_report.specs.Layouts.{Layout}
 use Rattle.kt_report.specs.declared.case_texts.CaseTexts.{CaseTexts}
-use Rattle.kt_report.specs.Texts.{count_bytes}
+use Rattle.kt_report.specs.Texts.{kind_count_bytes}
 
--- `result_element kind reason`: the result of a case, by its kind and its escaped reason.
+-- `result_element kind reason`: the XML element for a verdict of the kind `kind` with the escaped
+-- reason `reason`, or nothing if the kind has no element.
 abbrev pub result_element : Kind → List ℕ → List ℕ
 result_element Passed reason = []
 result_element ExpectedFailure reason = []
@@ -20,37 +21,37 @@ result_element Skipped reason = codes "<skipped/>\n"
 result_element Failed reason = codes "<failure message=\"" ++ utf8 reason ++ codes "\"/>\n"
 result_element Broken reason = codes "<error message=\"" ++ utf8 reason ++ codes "\"/>\n"
 
--- `output_element name text`: an element for the escaped output of a case, or nothing if there is
--- no output.
+-- `output_element name text`: the XML element `name` for the escaped output `text` of a case, or
+-- nothing if `text` is empty.
 abbrev pub output_element : List ℕ → List ℕ → List ℕ
 output_element name [] = []
 output_element name (c ∷ text) = codes "<" ++ name ++ codes ">" ++ utf8 (c ∷ text) ++ codes "</" ++ name ++ codes ">\n"
 
--- `element texts kind millis`: the element of a case with these escaped texts, this kind and this
--- duration.
+-- `element texts kind millis`: the XML element of a case with the escaped texts `texts`, a verdict
+-- of the kind `kind`, and a duration of `millis` milliseconds.
 abbrev pub element : CaseTexts → Kind → ℕ → List ℕ
 element texts kind millis =
     codes "<testcase classname=\"" ++ utf8 texts.program ++ codes "\" name=\"" ++ utf8 texts.case_name ++ codes "\" time=\"" ++ seconds millis ++ codes "\">\n"
     ++ result_element kind texts.reason ++ output_element (codes "system-out") texts.out ++ output_element (codes "system-err") texts.err ++ codes "</testcase>\n"
 
--- `case_bytes e`: the element of the entry `e`.
+-- `case_bytes e`: the XML element of the case of the entry `e`.
 abbrev pub case_bytes : Entry → List ℕ
 case_bytes e = element (case_texts e) e.verdict.kind e.millis
 
--- `heading run`: the bytes of the report before its cases.
+-- `heading run`: the bytes of the JUnit report of `run` before its first case.
 abbrev pub heading : Run → List ℕ
 heading run =
-    codes "<?xml version=\"1.0\" encoding=\"utf-8\"?>\n<testsuite tests=\"" ++ decimal (length run.entries) ++ codes "\" failures=\"" ++ count_bytes Failed run.entries ++ codes "\" errors=\"" ++ count_bytes Broken run.entries
-    ++ codes "\" skipped=\"" ++ count_bytes Skipped run.entries ++ codes "\">\n"
+    codes "<?xml version=\"1.0\" encoding=\"utf-8\"?>\n<testsuite tests=\"" ++ decimal (length run.entries) ++ codes "\" failures=\"" ++ kind_count_bytes Failed run.entries ++ codes "\" errors=\"" ++ kind_count_bytes Broken run.entries
+    ++ codes "\" skipped=\"" ++ kind_count_bytes Skipped run.entries ++ codes "\">\n"
 
--- `ending`: the bytes of the report after its cases.
+-- `ending`: the bytes of a JUnit report after its last case.
 abbrev pub ending : List ℕ
 ending = codes "</testsuite>\n"
 
--- `junit_bytes run`: the report, which has a case for each entry, by position.
+-- `junit_bytes run`: the JUnit report of `run`, which has a case for each entry, by position.
 abbrev pub junit_bytes : Run → List ℕ
 junit_bytes run = heading run ++ flat_map case_bytes run.entries ++ ending
 
--- `junit_layout run`: the report of `run`, as a text over its entries.
+-- `junit_layout run`: the layout of the JUnit report of `run` over its entries.
 abbrev pub junit_layout : Run → Layout
 junit_layout run = record { first = λ shown. heading run ++ flat_map case_bytes shown; next = λ shown e. []; last = ending }

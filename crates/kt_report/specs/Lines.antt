@@ -7,12 +7,13 @@ use Rattle.kt_base.specs.Kinds.{word}
 use Rattle.kt_base.specs.Utf8.{utf8}
 use Rattle.kt_report.specs.Digits.{seconds}
 
--- `printable_reason kind reason`: the reason as printed. A passed case has none.
+-- `printable_reason kind reason`: the bytes that are printed for the reason `reason` of a verdict
+-- of the kind `kind`: a colon, a space and the reason, or nothing for a passed case.
 abbrev pub printable_reason : Kind → List ℕ → List ℕ
 printable_reason Passed reason = []
 printable_reason _ reason = codes ": " ++ utf8 reason
 
--- `line_bytes e`: the program, the case, the kind of the verdict, the reason and the duration of
--- the entry `e`.
+-- `line_bytes e`: the line of the entry `e`: its program, case, kind of the verdict, reason and
+-- duration.
 abbrev pub line_bytes : Entry → List ℕ
 line_bytes e = utf8 e.program ++ codes ":" ++ utf8 e.case_name ++ codes "  ->  " ++ word e.verdict.kind ++ printable_reason e.verdict.kind e.verdict.reason ++ codes "  [" ++ seconds e.millis ++ codes "s]\n"

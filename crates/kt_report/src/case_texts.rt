@@ -1,6 +1,6 @@
 use kt_base::Text;
 
-/// A case's texts, escaped for XML.
+/// A test case's texts in the JUnit report, escaped for XML.
 pub struct CaseTexts {
     /// The path of the test program.
     pub program: Text,

@@ -1,8 +1,8 @@
 use kt_base::{Entry, Output, OutputFault, Variables};
 
-/// The outputs of a test case's body and cleanup.
+/// A test case's outputs: those of its body and of its cleanup.
 #[derive(Drop)]
-pub struct ShownOutputs {
+pub struct EntryOutputs {
     /// The output of the test case's body.
     pub body: Output,
     /// The output of the test case's cleanup.
@@ -18,32 +18,32 @@ pub trait Details {
     /// The error of a failed read.
     type Fault: Copy;
 
-    /// Specification: reading the properties of an entry leads from the first state to the second,
-    /// and gives the entry with its properties.
+    /// Specification: reading the properties of an entry leads from the first state to the last,
+    /// and gives the entry with these properties, or an error.
     ghost reads_pairs: { Self → Entry → Result Entry Self.Fault → Self → Type 0 };
 
-    /// Specification: reading the outputs of an entry leads from the first state to the second, and
-    /// gives the entry with its outputs.
+    /// Specification: reading the outputs of an entry leads from the first state to the last, and
+    /// gives the entry with these outputs, or an error.
     ghost reads_outputs: { Self → Entry → Result Entry Self.Fault → Self → Type 0 };
 
-    /// Reads the properties of an entry. Returns `None` if the entry has its own properties.
+    /// Reads the properties of `entry`. Returns `None` if `entry` itself contains them.
     ///
     /// # Errors
     ///
-    /// - the error of the failed read.
+    /// - `Fault`: the read fails.
     fn pairs(&mut self, entry: &Entry) -> Result<Option<Variables>, Self::Fault>
         ensures { reads_pairs self.old entry.now (with_pairs_read entry.now result) self.new };
 
-    /// Reads the outputs of an entry. Returns `None` if the entry has its own outputs.
+    /// Reads the outputs of `entry`. Returns `None` if `entry` itself contains them.
     ///
     /// # Errors
     ///
-    /// - the error of the failed read.
-    fn outputs(&mut self, entry: &Entry) -> Result<Option<ShownOutputs>, Self::Fault>
+    /// - `Fault`: the read fails.
+    fn outputs(&mut self, entry: &Entry) -> Result<Option<EntryOutputs>, Self::Fault>
         ensures { reads_outputs self.old entry.now (with_outputs_read entry.now result) self.new };
 }
 
-/// The details that entries have themselves.
+/// A `Details` that reads nothing, for entries that contain their properties and outputs.
 #[derive(Drop)]
 pub struct OwnDetails;
 
@@ -61,7 +61,7 @@ impl Details for OwnDetails {
         Ok(None)
     }
 
-    fn outputs(&mut self, _entry: &Entry) -> Result<Option<ShownOutputs>, OutputFault> {
+    fn outputs(&mut self, _entry: &Entry) -> Result<Option<EntryOutputs>, OutputFault> {
         Ok(None)
     }
 }

@@ -1,13 +1,13 @@
 ghost use Rattle.std.specs.Prelude.{is_err};
-ghost use Rattle.kt_report.specs.Common.{Shows, line_bytes, printable_reason};
+ghost use Rattle.kt_report.specs.Common.{Emits, line_bytes, printable_reason};
 
 use crate::moments::write_seconds;
 use kt_base::{Entry, Kind, OutputFault, Verdict, emit, emit_all};
 use std::io::Write;
 
-/// Writes a colon and the reason of a verdict. A passed case has no reason.
+/// Writes a colon and the reason of `verdict`, or nothing for a passed case, which has no reason.
 fn write_reason<W: Write>(verdict: &Verdict, out: &mut W) -> Result<(), OutputFault>
-    ensures { Shows (W.contents out.old) (W.contents out.new) (is_err result)
+    ensures { Emits (W.contents out.old) (W.contents out.new) (is_err result)
         (printable_reason verdict.now.kind verdict.now.reason) }
 {
     match verdict.kind() {
@@ -19,7 +19,7 @@ fn write_reason<W: Write>(verdict: &Verdict, out: &mut W) -> Result<(), OutputFa
     }
 }
 
-/// Writes the line of an entry: program and case, kind and reason of the verdict, and the duration
+/// Writes the line of `entry`: program and case, kind and reason of the verdict, and the duration
 /// in seconds (this profile).
 ///
 /// The function doesn't allocate.
@@ -28,7 +28,7 @@ fn write_reason<W: Write>(verdict: &Verdict, out: &mut W) -> Result<(), OutputFa
 ///
 /// - `OutputFault`: a write fails. A proper prefix of the line was written.
 pub fn line<W: Write>(entry: &Entry, out: &mut W) -> Result<(), OutputFault>
-    ensures { Shows (W.contents out.old) (W.contents out.new) (is_err result)
+    ensures { Emits (W.contents out.old) (W.contents out.new) (is_err result)
         (line_bytes entry.now) }
 {
     let case_name = entry.case_name.as_bytes();

@@ -1,14 +1,15 @@
 ghost use Rattle.std.specs.Prelude.{◌≡◌, ◌≤◌, [], ◌∷◌, ◌++◌, ◌==◌, ◌&&◌, not, false, true, bytes_eq, length, IfOk, OnOk};
 ghost use Rattle.std.specs.List.{list_all};
-ghost use Rattle.kt_report.specs.Common.{prefix_len, chars, lossy, case_texts, with_outputs, escaped, escapes};
+ghost use Rattle.kt_report.specs.Common.{prefix_len, chars, lossy, case_texts, with_outputs, escaped, escaped_text};
 
 use crate::case_texts::CaseTexts;
 use kt_base::{Bytes, Entry, NoMemory, Output, Text, lossy};
 use std::alloc::Global;
 
-/// Appends a character, escaped for XML: for an attribute or for content.
+/// Appends `c` to `text`, escaped for an XML attribute if `attribute` is `true`, otherwise for
+/// content.
 #[tactic(auto, unfolding(crate::proofs::Common::chars))]
-fn push_escaped(text: &mut Text, attribute: bool, c: char) -> Result<(), NoMemory>
+fn push_escaped_char(text: &mut Text, attribute: bool, c: char) -> Result<(), NoMemory>
     ensures { OnOk result (text.new ≡ text.old ++ escaped attribute c) }
 {
     match c {
@@ -25,11 +26,12 @@ fn push_escaped(text: &mut Text, attribute: bool, c: char) -> Result<(), NoMemor
     }
 }
 
-/// Returns `true` if a byte of UTF-8 is written to XML unchanged.
+/// Returns `true` if `byte`, a byte of UTF-8, is written to XML unchanged.
 ///
-/// Byte 239 is not, since it is the first byte of U+FFFE and U+FFFF. The code has no branch, so
-/// that the compiler tests many bytes at once.
-fn stands(attribute: bool, byte: u8) -> bool
+/// `attribute` is `true` for an attribute, and `false` for content. The result is `false` for byte
+/// 239, the first byte of U+FFFE and U+FFFF. The code has no branch, so that the compiler tests
+/// many bytes at once.
+fn is_unescaped(attribute: bool, byte: u8) -> bool
     ensures { result ≡ bytes_eq (escaped attribute byte) (byte ∷ []) && not (byte == 239) }
 {
     let is_blank = !attribute & ((byte == b'\t') | (byte == b'\n'));
@@ -37,32 +39,37 @@ fn stands(attribute: bool, byte: u8) -> bool
     is_blank | (byte >= b' ') & !is_named & (byte != 239)
 }
 
-/// Returns `true` if each of these bytes is written to XML unchanged.
+/// Returns `true` if `is_unescaped` returns `true` for each byte of `bytes`.
+///
+/// `attribute` is `true` for an attribute, and `false` for content.
 fn are_unescaped(attribute: bool, bytes: &[u8; 32]) -> bool
     ensures { result ≡ list_all
         (λ b. bytes_eq (escaped attribute b) (b ∷ []) && not (b == 239)) bytes.now }
 {
     let mut all = true;
     for byte in bytes {
-        all = all & stands(attribute, *byte);
+        all = all & is_unescaped(attribute, *byte);
     }
     all
 }
 
-/// Returns the number of bytes at the beginning of a short text that are written to XML unchanged.
+/// Returns the number of leading bytes of a short `text` for which `is_unescaped` returns `true`.
+///
+/// `attribute` is `true` for an attribute, and `false` for content.
 fn short_unescaped_length(attribute: bool, text: &[u8]) -> usize
     ensures length { result ≡ prefix_len
         (λ b. bytes_eq (escaped attribute b) (b ∷ []) && not (b == 239)) text.now }
     ensures within { result ≤ length text.now }
 {
     text.iter()
-        .take_while(|byte| stands(attribute, **byte))
+        .take_while(|byte| is_unescaped(attribute, **byte))
         .count()
 }
 
-/// Returns the number of bytes at the beginning of a text that are written to XML unchanged.
+/// Returns the number of leading bytes of `text` for which `is_unescaped` returns `true`.
 ///
-/// The bytes are tested in chunks of 32, and the rest one by one.
+/// `attribute` is `true` for an attribute, and `false` for content. The bytes are tested in chunks
+/// of 32, and the rest one by one.
 fn unescaped_length(attribute: bool, text: &[u8]) -> usize
     ensures { result ≡ prefix_len
         (λ b. bytes_eq (escaped attribute b) (b ∷ []) && not (b == 239)) text.now }
@@ -79,11 +86,12 @@ fn unescaped_length(attribute: bool, text: &[u8]) -> usize
     length + short_unescaped_length(attribute, rest)
 }
 
-/// Appends `text`, escaped for an XML attribute if `attribute` is `true`, otherwise for content.
+/// Appends `text` to `escaped`, escaped for an XML attribute if `attribute` is `true`, otherwise
+/// for content.
 ///
 /// Consecutive bytes that need no escape are copied at once.
-fn push_escapes(escaped: &mut Text, attribute: bool, text: &str) -> Result<(), NoMemory>
-    ensures { OnOk result (escaped.new ≡ escaped.old ++ escapes attribute (chars text.now)) }
+fn push_escaped_text(escaped: &mut Text, attribute: bool, text: &str) -> Result<(), NoMemory>
+    ensures { OnOk result (escaped.new ≡ escaped.old ++ escaped_text attribute (chars text.now)) }
 {
     let mut rest = text;
     while !rest.is_empty() {
@@ -93,47 +101,53 @@ fn push_escapes(escaped: &mut Text, attribute: bool, text: &str) -> Result<(), N
         let Some(c) = characters.next() else {
             return Ok(());
         };
-        push_escaped(escaped, attribute, c)?;
+        push_escaped_char(escaped, attribute, c)?;
         rest = characters.as_str();
     }
     Ok(())
 }
 
-/// Returns a text, escaped for an attribute of XML.
-fn escape(alloc: Global, text: &Text) -> Result<Text, NoMemory>
-    ensures { IfOk result (λ t. t ≡ escapes true text.now) }
+/// Returns `text`, escaped for an XML attribute.
+fn escape_attribute(alloc: Global, text: &Text) -> Result<Text, NoMemory>
+    ensures { IfOk result (λ t. t ≡ escaped_text true text.now) }
 {
     let mut escaped = Text::new(alloc);
-    push_escapes(&mut escaped, true, text.as_str())?;
+    push_escaped_text(&mut escaped, true, text.as_str())?;
     Ok(escaped)
 }
 
-/// Appends an output, escaped for the content of XML.
+/// Appends the output `bytes` to `escaped`, escaped for the content of XML.
 ///
-/// An output in UTF-8 is not copied before it is escaped.
-fn push_output(alloc: Global, escaped: &mut Text, bytes: &[u8]) -> Result<(), NoMemory>
-    ensures { OnOk result (escaped.new ≡ escaped.old ++ escapes false (lossy bytes.now)) }
+/// Bytes that are not UTF-8 become U+FFFD. An output in UTF-8 is not copied before it is escaped.
+fn push_escaped_output(alloc: Global, escaped: &mut Text, bytes: &[u8]) -> Result<(), NoMemory>
+    ensures { OnOk result (escaped.new ≡ escaped.old ++ escaped_text false (lossy bytes.now)) }
 {
     match str::from_utf8(bytes) {
-        Ok(text) => push_escapes(escaped, false, text),
+        Ok(text) => push_escaped_text(escaped, false, text),
         Err(_fault) => {
             let text = lossy(alloc, bytes)?;
-            push_escapes(escaped, false, text.as_str())
+            push_escaped_text(escaped, false, text.as_str())
         }
     }
 }
 
-/// Returns the outputs of a body and of its cleanup, joined and escaped for the content of XML.
+/// Returns the outputs `body` of a body and `cleanup` of its cleanup, joined and escaped for XML.
+///
+/// The escapes are those for content.
 fn escape_outputs(alloc: Global, body: &Bytes, cleanup: &Bytes) -> Result<Text, NoMemory>
-    ensures { IfOk result (λ t. t ≡ escapes false (lossy body.now ++ lossy cleanup.now)) }
+    ensures { IfOk result (λ t. t ≡ escaped_text false (lossy body.now ++ lossy cleanup.now)) }
 {
     let mut escaped = Text::new(alloc);
-    push_output(alloc, &mut escaped, body.as_slice())?;
-    push_output(alloc, &mut escaped, cleanup.as_slice())?;
+    push_escaped_output(alloc, &mut escaped, body.as_slice())?;
+    push_escaped_output(alloc, &mut escaped, cleanup.as_slice())?;
     Ok(escaped)
 }
 
-/// Returns the texts of an entry with these outputs, escaped for XML.
+/// Returns the texts of `entry` with the outputs `body` and `cleanup`, escaped for XML.
+///
+/// # Errors
+///
+/// - `NoMemory`: an allocation fails.
 pub fn case_texts(
     alloc: Global,
     entry: &Entry,
@@ -145,9 +159,9 @@ pub fn case_texts(
     let mut reason = Text::new(alloc);
     entry.verdict.write_reason(&mut reason)?;
     Ok(CaseTexts {
-        program: escape(alloc, &entry.program)?,
-        case_name: escape(alloc, &entry.case_name)?,
-        reason: escape(alloc, &reason)?,
+        program: escape_attribute(alloc, &entry.program)?,
+        case_name: escape_attribute(alloc, &entry.case_name)?,
+        reason: escape_attribute(alloc, &reason)?,
         out: escape_outputs(alloc, &body.out, &cleanup.out)?,
         err: escape_outputs(alloc, &body.err, &cleanup.err)?,
     })

@@ -1,19 +1,22 @@
 ghost use Rattle.std.specs.Prelude.{◌≡◌, ◌++◌, false, is_err, flat_map, codes};
-ghost use Rattle.kt_report.specs.Common.{utf8, Shows, with_outputs, result_element, output_element, element, case_bytes, heading, ending, junit_bytes, junit_layout, WritesEntry, WritesOverDetails};
+ghost use Rattle.kt_report.specs.Common.{utf8, Emits, with_outputs, result_element, output_element, element, case_bytes, heading, ending, junit_bytes, junit_layout, WritesEntry, WritesOverDetails};
 
 use crate::case_texts::CaseTexts;
 use crate::details::OwnDetails;
 use crate::escaping::case_texts;
 use crate::moments::write_seconds;
-use crate::summary::count_digits;
-use crate::{Details, ReportFault, ReportStop};
+use crate::summary::decimal_count;
+use crate::{Details, ReportFault, WriteReportError};
 use kt_base::{Decimal, Entry, Kind, Output, OutputFault, Run, Text, emit, emit_all};
 use std::alloc::Global;
 use std::io::Write;
 
-/// Writes the element for the verdict on a case in the JUnit report, if its kind has one.
-fn write_result<W: Write>(kind: Kind, reason: &Text, out: &mut W) -> Result<(), OutputFault>
-    ensures { Shows (W.contents out.old) (W.contents out.new) (is_err result)
+/// Writes the element for a verdict of the kind `kind` in the JUnit report, if the kind has an
+/// element.
+///
+/// `reason` is the reason of the verdict, escaped for XML.
+fn write_result_element<W: Write>(kind: Kind, reason: &Text, out: &mut W) -> Result<(), OutputFault>
+    ensures { Emits (W.contents out.old) (W.contents out.new) (is_err result)
         (result_element kind reason.now) }
 {
     match kind {
@@ -24,9 +27,11 @@ fn write_result<W: Write>(kind: Kind, reason: &Text, out: &mut W) -> Result<(), 
     }
 }
 
-/// Writes the element for an output of a case in the JUnit report, unless the output is empty.
-fn write_output<W: Write>(name: &[u8], text: &Text, out: &mut W) -> Result<(), OutputFault>
-    ensures { Shows (W.contents out.old) (W.contents out.new) (is_err result)
+/// Writes the element `name` for the output `text` of a case, unless the output is empty.
+///
+/// The output is escaped for XML.
+fn write_output_element<W: Write>(name: &[u8], text: &Text, out: &mut W) -> Result<(), OutputFault>
+    ensures { Emits (W.contents out.old) (W.contents out.new) (is_err result)
         (output_element name.now text.now) }
 {
     let bytes = text.as_bytes();
@@ -37,13 +42,16 @@ fn write_output<W: Write>(name: &[u8], text: &Text, out: &mut W) -> Result<(), O
 }
 
 /// Writes the `testcase` element of a case in the JUnit report.
-fn write_element<W: Write>(
+///
+/// `texts` are the texts of the case, `kind` is the kind of its verdict, and `millis` is its
+/// duration in milliseconds.
+fn write_case_element<W: Write>(
     texts: &CaseTexts,
     kind: Kind,
     millis: u64,
     out: &mut W,
 ) -> Result<(), OutputFault>
-    ensures { Shows (W.contents out.old) (W.contents out.new) (is_err result)
+    ensures { Emits (W.contents out.old) (W.contents out.new) (is_err result)
         (element texts.now kind millis) }
 {
     emit_all(
@@ -58,23 +66,23 @@ fn write_element<W: Write>(
     )?;
     write_seconds(u128::from(millis), out)?;
     emit(b"\">\n", out)?;
-    write_result(kind, &texts.reason, out)?;
-    write_output(b"system-out", &texts.out, out)?;
-    write_output(b"system-err", &texts.err, out)?;
+    write_result_element(kind, &texts.reason, out)?;
+    write_output_element(b"system-out", &texts.out, out)?;
+    write_output_element(b"system-err", &texts.err, out)?;
     emit(b"</testcase>\n", out)
 }
 
-/// Writes the beginning of the JUnit report of a run, before its cases.
+/// Writes the beginning of the JUnit report of `run`, up to its first case.
 ///
-/// Of the entries, only the verdicts count. The function doesn't allocate.
+/// The function uses only the verdicts of the entries. It doesn't allocate.
 fn write_heading<W: Write>(run: &Run, out: &mut W) -> Result<(), OutputFault>
-    ensures { Shows (W.contents out.old) (W.contents out.new) (is_err result) (heading run.now) }
+    ensures { Emits (W.contents out.old) (W.contents out.new) (is_err result) (heading run.now) }
 {
     let entries = run.entries.as_slice();
     let tests = Decimal::new(entries.len() as u64);
-    let failures = count_digits(Kind::Failed, entries);
-    let errors = count_digits(Kind::Broken, entries);
-    let skipped = count_digits(Kind::Skipped, entries);
+    let failures = decimal_count(Kind::Failed, entries);
+    let errors = decimal_count(Kind::Broken, entries);
+    let skipped = decimal_count(Kind::Skipped, entries);
     emit_all(
         &[
             b"<?xml version=\"1.0\" encoding=\"utf-8\"?>\n<testsuite tests=\"",
@@ -91,59 +99,62 @@ fn write_heading<W: Write>(run: &Run, out: &mut W) -> Result<(), OutputFault>
     )
 }
 
-/// Writes the case of an entry in the JUnit report, with these outputs of its body and its cleanup.
-fn write_shown<W: Write>(
+/// Writes the element of `entry` in the JUnit report, with the outputs `body` and `cleanup`.
+///
+/// They are the outputs of the body and of the cleanup of the entry's case.
+fn write_with_details<W: Write>(
     alloc: Global,
     entry: &Entry,
     body: &Output,
     cleanup: &Output,
     out: &mut W,
 ) -> Result<(), ReportFault>
-    ensures { Shows (W.contents out.old) (W.contents out.new) (is_err result)
+    ensures { Emits (W.contents out.old) (W.contents out.new) (is_err result)
         (case_bytes (with_outputs entry.now body.now cleanup.now)) }
 {
     let texts = case_texts(alloc, entry, body, cleanup)?;
-    write_element(&texts, entry.verdict.kind(), entry.millis, out)?;
+    write_case_element(&texts, entry.verdict.kind(), entry.millis, out)?;
     Ok(())
 }
 
-/// Writes a case of the JUnit report, with the outputs that are read for it.
+/// Writes the element of `entry` in the JUnit report, with the outputs that `details` reads.
 fn write_case<D: Details, W: Write>(
     alloc: Global,
     entry: &Entry,
     details: &mut D,
     out: &mut W,
-) -> Result<(), ReportStop<D::Fault, ReportFault>>
+) -> Result<(), WriteReportError<D::Fault, ReportFault>>
     ensures { WritesEntry D.reads_outputs details.old (W.contents out.old) (W.contents out.new)
         details.new case_bytes entry.now result }
 {
     let written = match details.outputs(entry) {
-        Ok(Some(read)) => write_shown(alloc, entry, &read.body, &read.cleanup, out),
-        Ok(None) => write_shown(alloc, entry, &entry.body, &entry.cleanup, out),
-        Err(fault) => return Err(ReportStop::Details(fault)),
+        Ok(Some(read)) => write_with_details(alloc, entry, &read.body, &read.cleanup, out),
+        Ok(None) => write_with_details(alloc, entry, &entry.body, &entry.cleanup, out),
+        Err(fault) => return Err(WriteReportError::Details(fault)),
     };
     match written {
         Ok(()) => Ok(()),
-        Err(fault) => Err(ReportStop::Report(fault)),
+        Err(fault) => Err(WriteReportError::Report(fault)),
     }
 }
 
-/// Writes the JUnit report of a run, with the outputs that are read for each entry (this profile).
+/// Writes the JUnit report of `run`, with the outputs that `details` reads for each entry (this
+/// profile).
 ///
-/// A test suite has a case for each recorded entry, by position. Of the entries in `run`, the
-/// outputs count only if `details` returns none. The outputs of an entry are read just before its
-/// case is written, and the texts of one entry at a time are allocated.
+/// The test suite has a case for each recorded entry, by position. The outputs in an entry of `run`
+/// are written only if `details` returns `None` for it. The outputs of an entry are read just
+/// before its case is written, and the texts of one entry at a time are allocated.
 ///
 /// # Errors
 ///
-/// - `Details`: a read fails. The cases before it were written.
+/// - `Details`: a read fails. The cases before this entry were written.
 /// - `Report`: an allocation or a write fails. A proper prefix of the report was written.
-pub fn junit_over<D: Details, W: Write>(
+pub fn write_junit_report<D: Details, W: Write>(
     alloc: Global,
     run: &Run,
     details: &mut D,
     out: &mut W,
-) -> Result<(), ReportStop<D::Fault, ReportFault>>
+) -> Result<(), WriteReportError<D::Fault, ReportFault>>
     ensures { WritesOverDetails D.reads_outputs (junit_layout run.now) run.now.entries details.old
         (W.contents out.old) (W.contents out.new) details.new result }
 {
@@ -155,21 +166,21 @@ pub fn junit_over<D: Details, W: Write>(
     Ok(())
 }
 
-/// Writes the JUnit report of a run with the outputs that its entries have (this profile).
+/// Writes the JUnit report of `run` with the outputs that its entries have (this profile).
 ///
-/// [`junit_over`] describes the report.
+/// [`write_junit_report`] describes the report.
 ///
 /// # Errors
 ///
 /// - `NoMemory`: an allocation fails. A proper prefix of the report was written.
 /// - `Output`: a write fails. A proper prefix of the report was written.
 pub fn junit<W: Write>(alloc: Global, run: &Run, out: &mut W) -> Result<(), ReportFault>
-    ensures { Shows (W.contents out.old) (W.contents out.new) (is_err result)
+    ensures { Emits (W.contents out.old) (W.contents out.new) (is_err result)
         (junit_bytes run.now) }
 {
-    match junit_over(alloc, run, &mut OwnDetails, out) {
+    match write_junit_report(alloc, run, &mut OwnDetails, out) {
         Ok(()) => Ok(()),
-        Err(ReportStop::Details(fault)) => Err(ReportFault::Output(fault)),
-        Err(ReportStop::Report(fault)) => Err(fault),
+        Err(WriteReportError::Details(fault)) => Err(ReportFault::Output(fault)),
+        Err(WriteReportError::Report(fault)) => Err(fault),
     }
 }

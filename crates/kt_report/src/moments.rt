@@ -1,44 +1,48 @@
 ghost use Rattle.std.specs.Prelude.{◌≡◌, ◌<◌, pos, is_err};
-ghost use Rattle.kt_report.specs.Common.{epoch_day, Shows, printable_moment, IsDateOf, clock_bytes, date_bytes, moment_bytes, digit, two_digits, three_digits, four_digits, seconds};
+ghost use Rattle.kt_report.specs.Common.{epoch_day, Emits, printable_moment, IsDateOf, time_of_day_bytes, date_bytes, moment_bytes, digit, two_digits, three_digits, four_digits, seconds};
 
 use jiff::ToSpan;
 use jiff::civil::{Date, date};
 use kt_base::{Decimal, LATEST_MOMENT_MILLIS, OutputFault, emit, emit_all};
 use std::io::Write;
 
-/// Returns the last decimal digit of a number.
+/// Returns the last decimal digit of `n`, in ASCII.
 fn digit(n: u64) -> u8
     ensures { result ≡ digit n }
 {
     b'0' + (n % 10) as u8
 }
 
-/// Returns the last two decimal digits of a number.
+/// Returns the last two decimal digits of `n`, in ASCII.
 pub fn two_digits(n: u64) -> [u8; 2]
     ensures { result ≡ two_digits n }
 {
     [digit(n / 10), digit(n)]
 }
 
-/// Returns the last three decimal digits of a number.
+/// Returns the last three decimal digits of `n`, in ASCII.
 pub fn three_digits(n: u64) -> [u8; 3]
     ensures { result ≡ three_digits n }
 {
     [digit(n / 100), digit(n / 10), digit(n)]
 }
 
-/// Returns the last four decimal digits of a number.
+/// Returns the last four decimal digits of `n`, in ASCII.
 pub fn four_digits(n: u64) -> [u8; 4]
     ensures { result ≡ four_digits n }
 {
     [digit(n / 1000), digit(n / 100), digit(n / 10), digit(n)]
 }
 
-/// Writes a duration in seconds, with three digits after the point.
+/// Writes a duration of `millis` milliseconds, in seconds with three digits after the point.
+///
+/// # Errors
+///
+/// - `OutputFault`: a write fails.
 pub fn write_seconds<W: Write>(millis: u128, out: &mut W) -> Result<(), OutputFault>
-    ensures { Shows (W.contents out.old) (W.contents out.new) (is_err result) (seconds millis) }
+    ensures { Emits (W.contents out.old) (W.contents out.new) (is_err result) (seconds millis) }
 {
-    let whole = Decimal::wide(millis / 1000);
+    let whole = Decimal::from_u128(millis / 1000);
     let rest = three_digits((millis % 1000) as u64);
     emit_all(&[whole.as_bytes(), b".", &rest], out)
 }
@@ -46,7 +50,9 @@ pub fn write_seconds<W: Write>(millis: u128, out: &mut W) -> Result<(), OutputFa
 /// The length of a day, in milliseconds.
 const MILLIS_PER_DAY: u64 = 86_400_000;
 
-/// Returns a timestamp as printed: at most the last millisecond of the year 9999.
+/// Returns the timestamp that is printed for `moment`.
+///
+/// This is `moment`, or the last timestamp of the year 9999 if `moment` is later.
 fn printable_moment(moment: u64) -> u64
     ensures { result ≡ printable_moment moment }
 {
@@ -61,7 +67,7 @@ fn date_after(days: u64) -> Date
     date(1970, 1, 1).checked_add((days as i64).days()).unwrap()
 }
 
-/// Returns the civil date of a timestamp, which is given in milliseconds since 1970 in UTC.
+/// Returns the civil date, in UTC, of the timestamp `moment`, in milliseconds since 1970 in UTC.
 ///
 /// For a timestamp after the year 9999, the date is the last day of that year.
 pub fn date_of(moment: u64) -> Date
@@ -71,8 +77,9 @@ pub fn date_of(moment: u64) -> Date
 }
 
 /// Writes the time of day that is `millis` milliseconds after midnight.
-fn write_clock<W: Write>(millis: u64, out: &mut W) -> Result<(), OutputFault>
-    ensures { Shows (W.contents out.old) (W.contents out.new) (is_err result) (clock_bytes millis) }
+fn write_time_of_day<W: Write>(millis: u64, out: &mut W) -> Result<(), OutputFault>
+    ensures { Emits (W.contents out.old) (W.contents out.new) (is_err result) (time_of_day_bytes
+        millis) }
 {
     let hours = two_digits(millis / 3_600_000);
     let minutes = two_digits(millis / 60_000 % 60);
@@ -81,9 +88,9 @@ fn write_clock<W: Write>(millis: u64, out: &mut W) -> Result<(), OutputFault>
     emit_all(&[&hours, b":", &minutes, b":", &seconds, b".", &rest], out)
 }
 
-/// Writes a date, as `2023-11-14`.
+/// Writes `date` in the form `2023-11-14`.
 fn write_date<W: Write>(date: Date, out: &mut W) -> Result<(), OutputFault>
-    ensures { Shows (W.contents out.old) (W.contents out.new) (is_err result) (date_bytes date) }
+    ensures { Emits (W.contents out.old) (W.contents out.new) (is_err result) (date_bytes date) }
 {
     let year = four_digits(u64::from(date.year().unsigned_abs()));
     let month = two_digits(u64::from(date.month().unsigned_abs()));
@@ -91,13 +98,20 @@ fn write_date<W: Write>(date: Date, out: &mut W) -> Result<(), OutputFault>
     emit_all(&[&year, b"-", &month, b"-", &day], out)
 }
 
-/// Writes a timestamp with its date, as `2023-11-14T22:13:20.123Z`.
+/// Writes the timestamp `moment`, whose date is `date`, as `2023-11-14T22:13:20.123Z`.
+///
+/// `moment` is in milliseconds since 1970 in UTC. The last timestamp of the year 9999 is written
+/// for a later one.
+///
+/// # Errors
+///
+/// - `OutputFault`: a write fails.
 pub fn write_moment<W: Write>(date: Date, moment: u64, out: &mut W) -> Result<(), OutputFault>
-    ensures { Shows (W.contents out.old) (W.contents out.new) (is_err result)
+    ensures { Emits (W.contents out.old) (W.contents out.new) (is_err result)
         (moment_bytes date moment) }
 {
     write_date(date, out)?;
     emit(b"T", out)?;
-    write_clock(printable_moment(moment) % MILLIS_PER_DAY, out)?;
+    write_time_of_day(printable_moment(moment) % MILLIS_PER_DAY, out)?;
     emit(b"Z", out)
 }

@@ -1,20 +1,20 @@
 ghost use Rattle.std.specs.Prelude.{◌≡◌, flat_map, map, is_err, true};
-ghost use Rattle.kt_report.specs.Common.{Shows, printable_byte, pair_bytes, entry_bytes, with_properties, WritesEntry, reading};
+ghost use Rattle.kt_report.specs.Common.{Emits, printable_byte, pair_bytes, entry_bytes, with_properties, WritesEntry, reads_if_verbose};
 
-use crate::{Details, ReportStop, line};
+use crate::{Details, WriteReportError, line};
 use kt_base::{Entry, OutputFault, Variable, Variables, emit, emit_all};
 use std::io::Write;
 
-/// Returns a byte of a value as printed: a question mark for a control character.
+/// Returns the byte that is printed for `byte` in a value: `?` for a byte below 32, else `byte`.
 fn printable_byte(byte: u8) -> u8
     ensures { result ≡ printable_byte byte }
 {
     if byte < 32 { b'?' } else { byte }
 }
 
-/// Writes a value, with a question mark for each control character.
+/// Writes `value`, the value of a property, with a question mark for each byte below 32.
 fn write_value<W: Write>(value: &[u8], out: &mut W) -> Result<(), OutputFault>
-    ensures { Shows (W.contents out.old) (W.contents out.new) (is_err result)
+    ensures { Emits (W.contents out.old) (W.contents out.new) (is_err result)
         (map printable_byte value.now) }
 {
     for byte in value {
@@ -23,9 +23,9 @@ fn write_value<W: Write>(value: &[u8], out: &mut W) -> Result<(), OutputFault>
     Ok(())
 }
 
-/// Writes a name and its value on one line.
+/// Writes the line of the property `pair`: its name and its value.
 fn write_property<W: Write>(pair: &Variable, out: &mut W) -> Result<(), OutputFault>
-    ensures { Shows (W.contents out.old) (W.contents out.new) (is_err result)
+    ensures { Emits (W.contents out.old) (W.contents out.new) (is_err result)
         (pair_bytes pair.now) }
 {
     emit_all(&[b"    ", pair.name.as_bytes(), b" = "], out)?;
@@ -33,9 +33,9 @@ fn write_property<W: Write>(pair: &Variable, out: &mut W) -> Result<(), OutputFa
     emit(b"\n", out)
 }
 
-/// Writes names and their values, each pair on its own line.
-fn write_pairs<W: Write>(pairs: &[Variable], out: &mut W) -> Result<(), OutputFault>
-    ensures { Shows (W.contents out.old) (W.contents out.new) (is_err result)
+/// Writes the line of each property in `pairs`.
+fn write_properties<W: Write>(pairs: &[Variable], out: &mut W) -> Result<(), OutputFault>
+    ensures { Emits (W.contents out.old) (W.contents out.new) (is_err result)
         (flat_map pair_bytes pairs.now) }
 {
     for pair in pairs {
@@ -44,52 +44,64 @@ fn write_pairs<W: Write>(pairs: &[Variable], out: &mut W) -> Result<(), OutputFa
     Ok(())
 }
 
-/// Writes the line of an entry, followed by the lines of `pairs` instead of the entry's own pairs.
-fn write_shown<W: Write>(entry: &Entry, pairs: &Variables, out: &mut W) -> Result<(), OutputFault>
-    ensures { Shows (W.contents out.old) (W.contents out.new) (is_err result)
+/// Writes the line of `entry`, followed by the lines of the properties `pairs`.
+///
+/// The properties in `entry` itself are not written.
+fn write_with_details<W: Write>(
+    entry: &Entry,
+    pairs: &Variables,
+    out: &mut W,
+) -> Result<(), OutputFault>
+    ensures { Emits (W.contents out.old) (W.contents out.new) (is_err result)
         (entry_bytes true (with_properties entry.now pairs.now)) }
 {
     line(entry, out)?;
-    write_pairs(pairs.as_slice(), out)
+    write_properties(pairs.as_slice(), out)
 }
 
-/// Writes the line of an entry, followed by the lines of the pairs that are read for it.
-fn write_with_pairs<D: Details, W: Write>(
+/// Writes the line of `entry`, followed by the lines of the properties that `details` reads.
+fn write_verbose_entry<D: Details, W: Write>(
     entry: &Entry,
     details: &mut D,
     out: &mut W,
-) -> Result<(), ReportStop<D::Fault, OutputFault>>
+) -> Result<(), WriteReportError<D::Fault, OutputFault>>
     ensures { WritesEntry D.reads_pairs details.old (W.contents out.old) (W.contents out.new)
         details.new (entry_bytes true) entry.now result }
 {
     let written = match details.pairs(entry) {
-        Ok(Some(pairs)) => write_shown(entry, &pairs, out),
-        Ok(None) => write_shown(entry, &entry.meta, out),
-        Err(fault) => return Err(ReportStop::Details(fault)),
+        Ok(Some(pairs)) => write_with_details(entry, &pairs, out),
+        Ok(None) => write_with_details(entry, &entry.meta, out),
+        Err(fault) => return Err(WriteReportError::Details(fault)),
     };
     match written {
         Ok(()) => Ok(()),
-        Err(fault) => Err(ReportStop::Report(fault)),
+        Err(fault) => Err(WriteReportError::Report(fault)),
     }
 }
 
-/// Writes the line of an entry, followed by the lines of its pairs if `verbose` is `true`.
+/// Writes the line of `entry`, followed by the lines of its properties if `verbose` is `true`.
 ///
-/// The pairs are read before the line is written. Without `verbose`, no pairs are read.
+/// `details` reads the properties before the line is written. If `verbose` is `false`, none are
+/// read.
+///
+/// # Errors
+///
+/// - `Details`: the read fails. Nothing was written.
+/// - `Report`: a write fails.
 pub fn write_entry<D: Details, W: Write>(
     verbose: bool,
     entry: &Entry,
     details: &mut D,
     out: &mut W,
-) -> Result<(), ReportStop<D::Fault, OutputFault>>
-    ensures { WritesEntry (reading verbose D.reads_pairs) details.old (W.contents out.old)
+) -> Result<(), WriteReportError<D::Fault, OutputFault>>
+    ensures { WritesEntry (reads_if_verbose verbose D.reads_pairs) details.old (W.contents out.old)
         (W.contents out.new) details.new (entry_bytes verbose) entry.now result }
 {
     if verbose {
-        return write_with_pairs(entry, details, out);
+        return write_verbose_entry(entry, details, out);
     }
     match line(entry, out) {
         Ok(()) => Ok(()),
-        Err(fault) => Err(ReportStop::Report(fault)),
+        Err(fault) => Err(WriteReportError::Report(fault)),
     }
 }

@@ -6,8 +6,8 @@ use thiserror::Error;
 
 /// Errors returned by [`junit`].
 ///
-/// If an error is returned, a proper prefix of the text was written. Each error contains its cause:
-/// there is no error without a failed allocation or a failed write.
+/// If an error is returned, a proper prefix of the report was written. Each error contains its
+/// cause, a failed allocation or a failed write.
 #[derive(Clone, Copy, Debug, Error)]
 #[error(transparent)]
 pub enum ReportFault {

@@ -1,8 +1,8 @@
 ghost use Rattle.std.specs.Prelude.{◌≡◌, ◌∷◌, [], None, length, is_err};
-ghost use Rattle.kt_report.specs.Common.{list_any, Shows, same_kind, entries_of, chosen_of, entries_by_section, title, opening, order, reading, WritesEntries};
+ghost use Rattle.kt_report.specs.Common.{list_any, Emits, is_same_kind, entries_of, chosen_entries, entries_by_section, title, title_line_after, order, reads_if_verbose, WritesEntries};
 
 use crate::pairs::write_entry;
-use crate::{Details, ReportStop};
+use crate::{Details, WriteReportError};
 use kt_base::{Entry, Kind, OutputFault, emit_all};
 use std::io::Write;
 
@@ -16,40 +16,40 @@ const SECTION_ORDER: [Kind; 5] = [
 ];
 
 /// Returns the kinds in the order of their sections in the text report.
-fn text_order() -> &'static [Kind]
+fn order_of_sections() -> &'static [Kind]
     ensures { result.now ≡ order }
 {
     &SECTION_ORDER
 }
 
-/// Returns `true` if the two kinds are equal.
-fn same_kind(kind: Kind, other: Kind) -> bool
-    ensures { result ≡ same_kind kind other }
+/// Returns `true` if the kinds `kind` and `other` are equal.
+fn is_same_kind(kind: Kind, other: Kind) -> bool
+    ensures { result ≡ is_same_kind kind other }
 {
     kind == other
 }
 
-/// Returns `true` if the kind is one of the chosen kinds.
+/// Returns `true` if `kind` is one of the chosen kinds, `kinds`.
 fn is_chosen(kinds: &[Kind], kind: Kind) -> bool
-    ensures { result ≡ list_any (same_kind kind) kinds.now }
+    ensures { result ≡ list_any (is_same_kind kind) kinds.now }
 {
-    kinds.iter().any(|first| same_kind(kind, *first))
+    kinds.iter().any(|first| is_same_kind(kind, *first))
 }
 
-/// Returns the number of entries whose verdict is of this kind.
+/// Returns the number of `entries` whose verdict is of the kind `kind`.
 pub fn count(kind: Kind, entries: &[Entry]) -> usize
     ensures { result ≡ length (entries_of kind entries.now) }
 {
     let mut found = 0;
     for entry in entries {
-        if same_kind(kind, entry.verdict.kind()) {
+        if is_same_kind(kind, entry.verdict.kind()) {
             found += 1;
         }
     }
     found
 }
 
-/// Returns the title of a kind's section in the text report.
+/// Returns the title of the section of `kind` in the text report.
 fn title(kind: Kind) -> &'static [u8]
     ensures { result.now ≡ title kind }
 {
@@ -62,29 +62,33 @@ fn title(kind: Kind) -> &'static [u8]
     }
 }
 
-/// Writes the title of a kind's section in the text report, unless the entry before it is in that
-/// section. `before` is the kind of the entry before it.
+/// Writes the title of the section of `kind` in the text report, if the section begins.
+///
+/// `before` is the kind of the preceding entry. If it is `kind`, the section has begun already.
 fn write_title<W: Write>(before: Option<Kind>, kind: Kind, out: &mut W) -> Result<(), OutputFault>
-    ensures { Shows (W.contents out.old) (W.contents out.new) (is_err result)
-        (opening before kind) }
+    ensures { Emits (W.contents out.old) (W.contents out.new) (is_err result)
+        (title_line_after before kind) }
 {
     match before {
-        Some(before) if same_kind(before, kind) => Ok(()),
+        Some(before) if is_same_kind(before, kind) => Ok(()),
         _ => emit_all(&[b"===> ", title(kind), b"\n"], out),
     }
 }
 
-/// Writes an entry of the text report, with its pairs if `verbose` is `true`, and returns its kind.
+/// Writes `entry` in the text report, and returns the kind of its verdict.
 ///
-/// `before` is the kind of the entry before it. A title precedes the entry if its kind differs.
-fn write_titled<D: Details, W: Write>(
+/// If `verbose` is `true`, the properties that `details` reads follow the line of the entry.
+/// `before` is the kind of the preceding entry. A title precedes the line if the kind of the entry
+/// differs from `before`.
+fn write_titled_entry<D: Details, W: Write>(
     verbose: bool,
     before: Option<Kind>,
     entry: &Entry,
     details: &mut D,
     out: &mut W,
-) -> Result<Option<Kind>, ReportStop<D::Fault, OutputFault>>
-    ensures { WritesEntries (reading verbose D.reads_pairs) details.old (W.contents out.old)
+) -> Result<Option<Kind>, WriteReportError<D::Fault, OutputFault>>
+    ensures { WritesEntries (reads_if_verbose verbose D.reads_pairs) details.old (W.contents
+        out.old)
         (W.contents out.new) details.new verbose before (entry.now ∷ []) result }
 {
     let kind = entry.verdict.kind();
@@ -93,9 +97,11 @@ fn write_titled<D: Details, W: Write>(
     Ok(Some(kind))
 }
 
-/// Writes the section of a kind, if the kind is chosen.
+/// Writes the section of `kind` in the text report, if `kind` is one of the chosen `kinds`.
 ///
-/// Returns the kind of the last written entry, or `before` if nothing is written.
+/// The section has those of `entries` whose verdict is of the kind `kind`. If `verbose` is `true`,
+/// the properties that `details` reads follow the line of each entry. `before` is the kind of the
+/// preceding entry. Returns the kind of the last written entry, or `before` if nothing is written.
 fn write_section<D: Details, W: Write>(
     verbose: bool,
     kinds: &[Kind],
@@ -104,38 +110,49 @@ fn write_section<D: Details, W: Write>(
     before: Option<Kind>,
     details: &mut D,
     out: &mut W,
-) -> Result<Option<Kind>, ReportStop<D::Fault, OutputFault>>
-    ensures { WritesEntries (reading verbose D.reads_pairs) details.old (W.contents out.old)
+) -> Result<Option<Kind>, WriteReportError<D::Fault, OutputFault>>
+    ensures { WritesEntries (reads_if_verbose verbose D.reads_pairs) details.old (W.contents
+        out.old)
         (W.contents out.new) details.new verbose before
-        (chosen_of kinds.now entries.now kind) result }
+        (chosen_entries kinds.now entries.now kind) result }
 {
     if !is_chosen(kinds, kind) {
         return Ok(before);
     }
     let mut last = before;
     for entry in entries {
-        if same_kind(kind, entry.verdict.kind()) {
-            last = write_titled(verbose, last, entry, details, out)?;
+        if is_same_kind(kind, entry.verdict.kind()) {
+            last = write_titled_entry(verbose, last, entry, details, out)?;
         }
     }
     Ok(last)
 }
 
-/// Writes the sections of the chosen kinds, in their order, and returns the kind of the last
-/// written entry.
+/// Writes the sections of the chosen `kinds`, and returns the kind of the last written entry.
+///
+/// The sections contain `entries`, and are in the order of `order_of_sections`. If `verbose` is
+/// `true`, the properties that `details` reads follow the line of each entry. The result is `None`
+/// if nothing is written.
+///
+/// # Errors
+///
+/// - `Details`: a read fails. The entries before this entry and the title of its section were
+///   written.
+/// - `Report`: a write fails.
 pub fn write_sections<D: Details, W: Write>(
     verbose: bool,
     kinds: &[Kind],
     entries: &[Entry],
     details: &mut D,
     out: &mut W,
-) -> Result<Option<Kind>, ReportStop<D::Fault, OutputFault>>
-    ensures { WritesEntries (reading verbose D.reads_pairs) details.old (W.contents out.old)
+) -> Result<Option<Kind>, WriteReportError<D::Fault, OutputFault>>
+    ensures { WritesEntries (reads_if_verbose verbose D.reads_pairs) details.old (W.contents
+        out.old)
         (W.contents out.new) details.new verbose None
         (entries_by_section kinds.now entries.now) result }
 {
     let mut last = None;
-    for kind in text_order() {
+    for kind in order_of_sections() {
         last = write_section(verbose, kinds, entries, *kind, last, details, out)?;
     }
     Ok(last)

@@ -1,5 +1,5 @@
 ghost use Rattle.std.specs.Prelude.{◌≡◌, sum_by, is_err};
-ghost use Rattle.kt_report.specs.Common.{Shows, count_bytes, unfinished_bytes, summary, started_bytes, counts_bytes};
+ghost use Rattle.kt_report.specs.Common.{Emits, kind_count_bytes, unfinished_bytes, summary, summary_title_bytes, totals_bytes};
 
 use crate::moments::{write_moment, write_seconds};
 use crate::sections::count;
@@ -7,7 +7,7 @@ use jiff::civil::Date;
 use kt_base::{Decimal, Entry, Kind, OutputFault, Run, emit, emit_all};
 use std::io::Write;
 
-/// Returns the sum of the durations of these entries, in milliseconds.
+/// Returns the sum of the durations of `entries`, in milliseconds.
 fn total_millis(entries: &[Entry]) -> u128
     ensures { result ≡ sum_by (λ e. e.millis) entries.now }
 {
@@ -18,16 +18,16 @@ fn total_millis(entries: &[Entry]) -> u128
     total
 }
 
-/// Returns the number of entries of a kind, in decimal.
-pub fn count_digits(kind: Kind, entries: &[Entry]) -> Decimal
-    ensures { result ≡ count_bytes kind entries.now }
+/// Returns the number of `entries` whose verdict is of the kind `kind`, in decimal.
+pub fn decimal_count(kind: Kind, entries: &[Entry]) -> Decimal
+    ensures { result ≡ kind_count_bytes kind entries.now }
 {
     Decimal::new(count(kind, entries) as u64)
 }
 
-/// Writes `, unfinished` if a run is not finished.
+/// Writes `, unfinished` if `finished` is `false`, so if the run is not finished.
 fn write_unfinished<W: Write>(finished: bool, out: &mut W) -> Result<(), OutputFault>
-    ensures { Shows (W.contents out.old) (W.contents out.new) (is_err result)
+    ensures { Emits (W.contents out.old) (W.contents out.new) (is_err result)
         (unfinished_bytes finished) }
 {
     if finished {
@@ -36,10 +36,12 @@ fn write_unfinished<W: Write>(finished: bool, out: &mut W) -> Result<(), OutputF
     emit(b", unfinished", out)
 }
 
-/// Writes the title of the summary, the number of a run and the time of its start.
-fn write_started<W: Write>(date: Date, run: &Run, out: &mut W) -> Result<(), OutputFault>
-    ensures { Shows (W.contents out.old) (W.contents out.new) (is_err result)
-        (started_bytes date run.now) }
+/// Writes the title of the summary, the number of the run and the timestamp of its start.
+///
+/// `date` is the date of the start. If the run is not finished, `, unfinished` follows.
+fn write_summary_title<W: Write>(date: Date, run: &Run, out: &mut W) -> Result<(), OutputFault>
+    ensures { Emits (W.contents out.old) (W.contents out.new) (is_err result)
+        (summary_title_bytes date run.now) }
 {
     let number = Decimal::new(run.number);
     emit_all(
@@ -50,16 +52,16 @@ fn write_started<W: Write>(date: Date, run: &Run, out: &mut W) -> Result<(), Out
     write_unfinished(run.finished, out)
 }
 
-/// Writes the number of entries, and the number of entries of each kind except passed.
+/// Writes the number of `entries`, and the number of them of each kind except `passed`.
 fn write_counts<W: Write>(entries: &[Entry], out: &mut W) -> Result<(), OutputFault>
-    ensures { Shows (W.contents out.old) (W.contents out.new) (is_err result)
-        (counts_bytes entries.now) }
+    ensures { Emits (W.contents out.old) (W.contents out.new) (is_err result)
+        (totals_bytes entries.now) }
 {
     let total = Decimal::new(entries.len() as u64);
-    let skipped = count_digits(Kind::Skipped, entries);
-    let expected = count_digits(Kind::ExpectedFailure, entries);
-    let broken = count_digits(Kind::Broken, entries);
-    let failed = count_digits(Kind::Failed, entries);
+    let skipped = decimal_count(Kind::Skipped, entries);
+    let expected = decimal_count(Kind::ExpectedFailure, entries);
+    let broken = decimal_count(Kind::Broken, entries);
+    let failed = decimal_count(Kind::Failed, entries);
     emit_all(
         &[
             b"\nTest cases: ",
@@ -80,13 +82,17 @@ fn write_counts<W: Write>(entries: &[Entry], out: &mut W) -> Result<(), OutputFa
 
 /// Writes the summary of a run, which ends the text report. `date` is the date of the run's start.
 ///
-/// Of the entries, only the verdicts and the durations count.
+/// The function uses only the verdicts and the durations of the entries.
+///
+/// # Errors
+///
+/// - `OutputFault`: a write fails.
 pub fn write_summary<W: Write>(date: Date, run: &Run, out: &mut W) -> Result<(), OutputFault>
-    ensures { Shows (W.contents out.old) (W.contents out.new) (is_err result)
+    ensures { Emits (W.contents out.old) (W.contents out.new) (is_err result)
         (summary date run.now) }
 {
     let entries = run.entries.as_slice();
-    write_started(date, run, out)?;
+    write_summary_title(date, run, out)?;
     write_counts(entries, out)?;
     emit(b"Total time: ", out)?;
     write_seconds(total_millis(entries), out)?;

@@ -1,36 +1,39 @@
 ghost use Rattle.std.specs.Prelude.{is_err, ◌≡◌, Bool, false, List};
-ghost use Rattle.kt_report.specs.Common.{Date, Shows, IsDateOf, text_bytes, text_layout, entries_by_section, reading, WritesOverDetails, Entry, Output, Kind, Run, heading, case_bytes, with_outputs, ChangesHiddenParts, with_entries};
+ghost use Rattle.kt_report.specs.Common.{Date, Emits, IsDateOf, text_bytes, text_layout, entries_by_section, reads_if_verbose, WritesOverDetails, Entry, Output, Kind, Run, heading, case_bytes, with_outputs, ChangesHiddenParts, with_entries};
 
 use crate::details::OwnDetails;
 use crate::moments::date_of;
 use crate::sections::write_sections;
 use crate::summary::write_summary;
-use crate::{Details, ReportStop};
+use crate::{Details, WriteReportError};
 use kt_base::{Kind, OutputFault, Run};
 use std::io::Write;
 
-/// Writes the text report of a run, with the properties that are read for each entry (this
+/// Writes the text report of `run`, with the properties that `details` reads for each entry (this
 /// profile).
 ///
-/// There is a section for each chosen kind that has an entry, and then the summary. The order of
-/// the sections is passed, skipped, expected failures, broken, failed. If `verbose` is `true`, the
-/// properties that a case declares follow its line. They are read just before the line is written,
-/// so one entry at a time has them. Otherwise none are read. A timestamp after the year 9999 is
-/// printed as the last timestamp of that year. The function doesn't allocate.
+/// There is a section for each of the chosen `kinds` that has an entry, and then the summary. The
+/// order of the sections is passed, skipped, expected failures, broken, failed. If `verbose` is
+/// `true`, the properties that a case declares follow its line. They are read just before the line
+/// is written, so that only the properties of one entry are in memory. If `verbose` is `false`, no
+/// properties are read. A timestamp after the year 9999 is printed as the last timestamp of that
+/// year. The function doesn't allocate.
 ///
 /// # Errors
 ///
-/// - `Details`: a read fails. The entries before it and the title of its section were written.
+/// - `Details`: a read fails. The entries before this entry and the title of its section were
+///   written.
 /// - `Report`: a write fails. A proper prefix of the report was written.
-pub fn text_over<D: Details, W: Write>(
+pub fn write_text_report<D: Details, W: Write>(
     run: &Run,
     kinds: &[Kind],
     verbose: bool,
     details: &mut D,
     out: &mut W,
-) -> Result<(), ReportStop<D::Fault, OutputFault>>
+) -> Result<(), WriteReportError<D::Fault, OutputFault>>
     ensures { (date : Date) × IsDateOf run.now.started date
-        × WritesOverDetails (reading verbose D.reads_pairs) (text_layout date verbose run.now)
+        × WritesOverDetails (reads_if_verbose verbose D.reads_pairs) (text_layout date verbose
+        run.now)
         (entries_by_section kinds.now run.now.entries) details.old (W.contents out.old)
         (W.contents out.new) details.new result }
 {
@@ -40,9 +43,10 @@ pub fn text_over<D: Details, W: Write>(
     Ok(())
 }
 
-/// Writes the text report of a run with the properties that its entries have (this profile).
+/// Writes the text report of `run` with the properties that its entries have (this profile).
 ///
-/// [`text_over`] describes the report. The function doesn't allocate.
+/// [`write_text_report`] describes the report, with its `kinds` and `verbose`. The function doesn't
+/// allocate.
 ///
 /// # Errors
 ///
@@ -54,13 +58,13 @@ pub fn text<W: Write>(
     out: &mut W,
 ) -> Result<(), OutputFault>
     ensures { (date : Date) × IsDateOf run.now.started date
-        × Shows (W.contents out.old) (W.contents out.new) (is_err result)
+        × Emits (W.contents out.old) (W.contents out.new) (is_err result)
         (text_bytes date kinds.now verbose run.now) }
 {
-    match text_over(run, kinds, verbose, &mut OwnDetails, out) {
+    match write_text_report(run, kinds, verbose, &mut OwnDetails, out) {
         Ok(()) => Ok(()),
-        Err(ReportStop::Details(fault)) => Err(fault),
-        Err(ReportStop::Report(fault)) => Err(fault),
+        Err(WriteReportError::Details(fault)) => Err(fault),
+        Err(WriteReportError::Report(fault)) => Err(fault),
     }
 }
 
@@ -69,7 +73,7 @@ pub fn text<W: Write>(
 /// The text report and the heading of the JUnit report don't depend on the outputs of entries. The
 /// JUnit report, and the text report without `verbose`, don't depend on the properties that cases
 /// declare.
-pub fn theorem_of_outlines()
+pub fn theorem_of_hidden_parts()
     ensures text { (change : Entry → Entry) (date : Date) (kinds : List Kind) (verbose : Bool)
         (run : Run) → ChangesHiddenParts verbose change
         → text_bytes date kinds verbose (with_entries change run)

@@ -1,5 +1,5 @@
 use crate::answer;
-use kt_examples::{Example, ExampleFault, Result, asked, both, read_rows};
+use kt_examples::{Example, ExampleFault, Result, convert_error, parse_rows, zip_results};
 use std::alloc::Global;
 use std::fs::File;
 use std::io::Eprint;
@@ -9,8 +9,9 @@ use std::{env, fs, io};
 /// The maximum number of bytes that are printed of an output, unless `--whole` precedes the file.
 const SHOWN_BYTES: usize = 1_000;
 
-/// Returns the index of the first byte of the first line in which two outputs differ.
-fn differing_line(wanted: &[u8], found: &[u8]) -> usize {
+/// Returns the index of the first byte of the first line in which the outputs `wanted` and `found`
+/// differ.
+fn find_difference(wanted: &[u8], found: &[u8]) -> usize {
     let mut line = 0usize;
     for (place, (due, told)) in wanted.iter().zip(found).enumerate() {
         if *due != *told {
@@ -23,32 +24,39 @@ fn differing_line(wanted: &[u8], found: &[u8]) -> usize {
     line
 }
 
-/// Returns at most `shown` bytes of an output as text, from index `from` on.
+/// Returns at most `shown` bytes of the output `answer` as a text, from the byte at index `from`
+/// on.
 fn part(alloc: Global, answer: &[u8], from: usize, shown: usize) -> Result<String> {
     let rest = answer.get(from..).unwrap_or(&[]);
     let part = rest.get(..shown).unwrap_or(rest);
-    asked(String::from_utf8_lossy(alloc, part))
+    convert_error(String::from_utf8_lossy(alloc, part))
 }
 
 /// Executes an example, and returns `None` if its output is as expected. Otherwise returns a
-/// message with the file, the line and both outputs from the first line that differs.
-fn mismatch(alloc: Global, file: &str, row: &Example<'_>, shown: usize) -> Result<Option<String>> {
+/// message with the file, the line and both outputs, from the first line that differs. `shown` is
+/// the maximum number of bytes of each output in the message.
+fn check_example(
+    alloc: Global,
+    file: &str,
+    row: &Example<'_>,
+    shown: usize,
+) -> Result<Option<String>> {
     let subject = file.strip_suffix(".rows").unwrap_or(file);
-    let (wanted, found) = both(row.wanted(alloc), answer(alloc, subject, row))?;
+    let (wanted, found) = zip_results(row.wanted(alloc), answer(alloc, subject, row))?;
     let (wanted, found) = (wanted.as_slice(), found.as_bytes());
     if found == wanted {
         return Ok(None);
     }
-    let from = differing_line(wanted, found);
+    let from = find_difference(wanted, found);
     let line = row.line;
-    let (wanted, found) = both(
+    let (wanted, found) = zip_results(
         part(alloc, wanted, from, shown),
         part(alloc, found, from, shown),
     )?;
     let text = format!(in alloc;
         "{file}:{line}: another answer\n  wanted: {wanted:?}\n  got:    {found:?}"
     );
-    asked(text).map(Some)
+    convert_error(text).map(Some)
 }
 
 /// Prints the error of an example that has no output, with its file and line.
@@ -57,8 +65,9 @@ fn print_fault<R: Eprint>(rt: &R, file: &str, line: u64, fault: ExampleFault) ->
     eprintln!(rt; "{file}:{line}: {text}")
 }
 
-/// Checks the examples of a file, prints their number, and returns `true` if each output is as
-/// expected.
+/// Checks the examples of the file `file`, prints a message for each one that fails, and then
+/// prints the number of examples. Returns `true` if each output is as expected. `shown` is the
+/// maximum number of bytes of an output in a message.
 fn check_rows<R: Runtime + AllocGlobal>(
     rt: &R,
     file: &str,
@@ -67,7 +76,7 @@ fn check_rows<R: Runtime + AllocGlobal>(
 ) -> io::Result<bool> {
     let mut is_good = true;
     for row in rows {
-        match mismatch(rt.alloc(), file, row, shown) {
+        match check_example(rt.alloc(), file, row, shown) {
             Ok(None) => continue,
             Ok(Some(lines)) => rt.eprintln(lines)?,
             Err(fault) => print_fault(rt, file, row.line, fault)?,
@@ -79,15 +88,15 @@ fn check_rows<R: Runtime + AllocGlobal>(
     Ok(is_good)
 }
 
-/// Checks the examples in the file with the name `file`. Returns `true` if the file is valid and
-/// each output is as expected.
+/// Checks the examples in the file with the name `file`. `shown` is the maximum number of bytes of
+/// an output in a message. Returns `true` if the file is valid and each output is as expected.
 fn check_file<R: Runtime + Files<File = File> + AllocGlobal>(
     rt: &R,
     file: &str,
     shown: usize,
 ) -> io::Result<bool> {
     let text = fs::read_to_string(rt, file)?;
-    match read_rows(rt.alloc(), text.as_str()) {
+    match parse_rows(rt.alloc(), text.as_str()) {
         Ok(rows) => check_rows(rt, file, rows.as_slice(), shown),
         Err((line, fault)) => {
             print_fault(rt, file, line, fault)?;

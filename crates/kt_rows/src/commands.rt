@@ -1,72 +1,73 @@
 //! Command lines over a scripted results host, scripted files and a scripted system.
 
+use crate::commands_run::CommandsRun;
 use crate::disk_tests;
-use crate::played::CommandsRun;
+use crate::failing_store::FailingStore;
 use crate::printing::push_pieces;
-use crate::refusing_store::RefusingStore;
 use crate::scripted_results_host::ScriptedResultsHost;
 use kt_base::Text;
-use kt_child::DriverFault;
-use kt_cli::source_of;
+use kt_cli::kyuafile_directory;
 use kt_doubles::{
-    PartwiseStore, Scene, failure, push_call, push_calls, push_runs, scene_of, shortage,
+    Scene, SplitReadStore, parse_scene, provoke_store_error, push_call, push_calls, push_runs,
+    shortage,
 };
 use kt_examples::{
-    Example, ExampleFault, ExampleLine, ExampleOutput, Result, content_at, halves, number,
-    unescape_lossy,
+    Example, ExampleFault, ExampleLine, ExampleOutput, Result, entry_lines_at, number,
+    split_required, unescape_lossy,
 };
+use kt_os::OsFault;
 use kt_store::StoreFault;
 use std::alloc::Global;
 
-/// The maximum number of writes that fail in turn, plus 1.
-const LIMIT: u64 = 10_000;
+/// The limit of `writes each`: the writes with a number below it are made to fail in turn.
+const MAX_TRIALS: u64 = 10_000;
 
 /// Parses the error of a results store: `no-memory`, `failed` or `unknown-schema`.
-fn store_fault(alloc: Global, fault: &str) -> Result<StoreFault> {
+fn parse_store_fault(alloc: Global, fault: &str) -> Result<StoreFault> {
     match fault {
         "no-memory" => Ok(StoreFault::from(shortage(alloc)?)),
-        "failed" => Ok(StoreFault::Store(failure(alloc)?)),
+        "failed" => Ok(StoreFault::Store(provoke_store_error(alloc)?)),
         "unknown-schema" => Ok(StoreFault::UnknownSchema),
         _ => Err(ExampleFault::InvalidExample("there is no such fault of a store")),
     }
 }
 
-/// Parses the error of creating a driver: `no-memory` or `no-work-directory`.
-fn driver_fault(alloc: Global, fault: &str) -> Result<DriverFault> {
+/// Parses the error of reading the process environment: `no-memory` or `no-work-directory`.
+fn env_fault(alloc: Global, fault: &str) -> Result<OsFault> {
     match fault {
-        "no-memory" => Ok(DriverFault::NoMemory(shortage(alloc)?)),
-        "no-work-directory" => Ok(DriverFault::NoWorkDirectory),
-        _ => Err(ExampleFault::InvalidExample("there is no such fault of a driver")),
+        "no-memory" => Ok(OsFault::Memory(shortage(alloc)?)),
+        "no-work-directory" => Ok(OsFault::Failed),
+        _ => Err(ExampleFault::InvalidExample("there is no such fault of the environment")),
     }
 }
 
 /// Creates the results store of an example, in memory, and executes the lines `begin`, `put` and
 /// `finish`.
-fn results_of(alloc: Global, row: &Example<'_>) -> Result<RefusingStore> {
-    let mut results = RefusingStore::of(alloc, row)?;
+fn create_results(alloc: Global, row: &Example<'_>) -> Result<FailingStore> {
+    let mut results = FailingStore::of(alloc, row)?;
     let mut unread = ExampleOutput::new(alloc);
     let lines = row.entries.as_slice();
     for (place, line) in lines.iter().enumerate() {
         if matches!(line.word, "begin" | "put" | "finish") {
-            let mut calls = PartwiseStore {
+            let mut calls = SplitReadStore {
                 store: &mut results,
                 alloc,
             };
-            push_call(&mut unread, &mut calls, line, content_at(lines, place))?;
+            push_call(&mut unread, &mut calls, line, entry_lines_at(lines, place))?;
         }
     }
-    unread.so_far()?;
+    unread.text_so_far()?;
     Ok(results)
 }
 
-/// Sets an error or an environment variable of a results host as a line requires. Other lines are
-/// ignored.
-fn take(platform: &mut ScriptedResultsHost<RefusingStore>, line: &ExampleLine<'_>) -> Result<()> {
+/// Sets an error or an environment variable of the results host `platform` as the line `line`
+/// requires. Other lines are ignored.
+fn take(platform: &mut ScriptedResultsHost<FailingStore>, line: &ExampleLine<'_>) -> Result<()> {
     let alloc = platform.calls.alloc;
     match line.word {
-        "open" => platform.open_error = Some(store_fault(alloc, line.text)?),
-        "close" => platform.close_error = Some(store_fault(alloc, line.text)?),
-        "surroundings" => platform.env_error = Some(driver_fault(alloc, line.text)?),
+        "open" => platform.open_error = Some(parse_store_fault(alloc, line.text)?),
+        "close" => platform.close_error = Some(parse_store_fault(alloc, line.text)?),
+        "surroundings" => platform.env_error = Some(env_fault(alloc, line.text)?),
         "path" => platform.path = Some(unescape_lossy(alloc, line.text)?),
         "user" => platform.user = Some(unescape_lossy(alloc, line.text)?),
         _ => {}
@@ -75,8 +76,8 @@ fn take(platform: &mut ScriptedResultsHost<RefusingStore>, line: &ExampleLine<'_
 }
 
 /// Creates the results host of an example.
-fn platform_of(alloc: Global, row: &Example<'_>) -> Result<ScriptedResultsHost<RefusingStore>> {
-    let mut platform = ScriptedResultsHost::new(alloc, results_of(alloc, row)?);
+fn create_host(alloc: Global, row: &Example<'_>) -> Result<ScriptedResultsHost<FailingStore>> {
+    let mut platform = ScriptedResultsHost::new(alloc, create_results(alloc, row)?);
     for line in row.entries.as_slice() {
         take(&mut platform, line)?;
     }
@@ -91,41 +92,41 @@ fn run_example(
     row: &Example<'_>,
     scene: &Scene,
     failing: u64,
-) -> Result<CommandsRun<RefusingStore>> {
+) -> Result<CommandsRun<FailingStore>> {
     let alloc = scene.alloc;
-    let mut played = CommandsRun::new(alloc, platform_of(alloc, row)?);
-    played.page.at_most = row.number("takes", 4096)? as usize;
-    played.page.failing = failing;
-    played.page.flush_fails = row.text("flush").is_some();
-    played.errors.failing = row.number("error", 0)?;
-    played.play(row.entries.as_slice(), scene)?;
-    Ok(played)
+    let mut commands_run = CommandsRun::new(alloc, create_host(alloc, row)?);
+    commands_run.page.at_most = row.number("takes", 4096)? as usize;
+    commands_run.page.failing = failing;
+    commands_run.page.flush_fails = row.text("flush").is_some();
+    commands_run.errors.failing = row.number("error", 0)?;
+    commands_run.execute_lines(row.entries.as_slice(), scene)?;
+    Ok(commands_run)
 }
 
 /// Appends the runs of the results store, or `open` if the store isn't closed.
-fn push_closed(out: &mut ExampleOutput, played: &mut CommandsRun<RefusingStore>) {
-    match &mut played.platform.results {
+fn push_store_state(out: &mut ExampleOutput, commands_run: &mut CommandsRun<FailingStore>) {
+    match &mut commands_run.platform.results {
         Some(store) => {
             let alloc = out.alloc;
-            push_runs(out, &mut PartwiseStore { store, alloc }, false);
+            push_runs(out, &mut SplitReadStore { store, alloc }, false);
         }
         None => out.push("open"),
     }
 }
 
-/// Appends the outputs, the exit statuses, and the parts that `show WORDS` selects: `runs` of the
-/// store, or the calls on the `system`.
+/// Appends the outputs and the exit statuses, and what the line `show WORDS` selects: `runs` are
+/// the runs of the store, and `system` are the calls on the system.
 fn push_result_and_state(
     out: &mut ExampleOutput,
     row: &Example<'_>,
-    played: &mut CommandsRun<RefusingStore>,
+    commands_run: &mut CommandsRun<FailingStore>,
 ) -> Result<()> {
-    played.push_result(out)?;
+    commands_run.push_result(out)?;
     for word in row.text("show").unwrap_or("").split_whitespace() {
         out.separate("\n");
         match word {
-            "system" => push_calls(out, "calls", played.log.so_far()?)?,
-            _ => push_closed(out, played),
+            "system" => push_calls(out, "calls", commands_run.log.text_so_far()?)?,
+            _ => push_store_state(out, commands_run),
         }
     }
     Ok(())
@@ -134,10 +135,10 @@ fn push_result_and_state(
 /// Checks `cut`, the state after a failed write: the output is a proper prefix of that of `whole`,
 /// the last exit status is 2, and the runs are those of `whole`. Returns a message if one of these
 /// facts is false, else `None`.
-fn wrong(
+fn find_violation(
     alloc: Global,
-    whole: &mut CommandsRun<RefusingStore>,
-    cut: &mut CommandsRun<RefusingStore>,
+    whole: &mut CommandsRun<FailingStore>,
+    cut: &mut CommandsRun<FailingStore>,
 ) -> Result<Option<&'static str>> {
     let (whole_page, cut_page) = (whole.page.kept()?, cut.page.kept()?);
     if cut_page.len() >= whole_page.len() || !whole_page.starts_with(cut_page) {
@@ -147,25 +148,26 @@ fn wrong(
         return Ok(Some("the exit is another one"));
     }
     let (mut due, mut told) = (ExampleOutput::new(alloc), ExampleOutput::new(alloc));
-    push_closed(&mut due, whole);
-    push_closed(&mut told, cut);
-    if due.so_far()? != told.so_far()? {
+    push_store_state(&mut due, whole);
+    push_store_state(&mut told, cut);
+    if due.text_so_far()? != told.text_so_far()? {
         return Ok(Some("the runs are others"));
     }
     Ok(None)
 }
 
-/// Executes command lines without a failure, and then with each write failing in turn. Appends the
-/// output without a failure, and the output of the first execution in which something is wrong.
+/// Executes the command lines of `row` once without a failed write, and then with each write
+/// failing in turn. Appends the first output, and that of the first execution in which
+/// `find_violation` finds a violation.
 fn push_each_failing(out: &mut ExampleOutput, row: &Example<'_>, scene: &Scene) -> Result<()> {
     let mut whole = run_example(row, scene, 0)?;
     push_result_and_state(out, row, &mut whole)?;
-    for failing in 1..LIMIT {
+    for failing in 1..MAX_TRIALS {
         let mut cut = run_example(row, scene, failing)?;
         if cut.page.writes < failing {
             break;
         }
-        if let Some(what) = wrong(out.alloc, &mut whole, &mut cut)? {
+        if let Some(what) = find_violation(out.alloc, &mut whole, &mut cut)? {
             out.separate("\n");
             write!(out, "at write {failing}: {what}\n");
             return push_result_and_state(out, row, &mut cut);
@@ -175,29 +177,29 @@ fn push_each_failing(out: &mut ExampleOutput, row: &Example<'_>, scene: &Scene) 
 }
 
 /// Executes the command lines of an example, and appends the outputs and exit statuses. If
-/// `is_asked` is set, the calls on the results host precede them. With `writes each`, each write
+/// `is_asked` is set, first appends the calls on the results host. With `writes each`, each write
 /// fails in turn, and the calls aren't appended.
 fn done(out: &mut ExampleOutput, row: &Example<'_>, is_asked: bool) -> Result<()> {
-    let scene = scene_of(out.alloc, row)?;
+    let scene = parse_scene(out.alloc, row)?;
     let writes = row.text("writes").unwrap_or("0");
     if writes == "each" {
         return push_each_failing(out, row, &scene);
     }
-    let mut played = run_example(row, &scene, number(writes)?)?;
-    match played.platform.calls.so_far()? {
+    let mut commands_run = run_example(row, &scene, number(writes)?)?;
+    match commands_run.platform.calls.text_so_far()? {
         _ if !is_asked => {}
         "" => out.push("nothing\n"),
         calls => write!(out, "{calls}\n"),
     }
-    push_result_and_state(out, row, &mut played)
+    push_result_and_state(out, row, &mut commands_run)
 }
 
 /// Parses `HERE KYUAFILE`, and appends the Kyuafile's absolute directory for the working directory
 /// HERE.
 fn push_source(out: &mut ExampleOutput, text: &str) -> Result<()> {
-    let (here, kyuafile) = halves(text, " ", "a directory and a Kyuafile are due")?;
+    let (here, kyuafile) = split_required(text, " ", "a directory and a Kyuafile are due")?;
     let kyuafile = Text::from_str(out.alloc, kyuafile)?;
-    out.text(source_of(out.alloc, here, &kyuafile));
+    out.text(kyuafile_directory(out.alloc, here, &kyuafile));
     Ok(())
 }
 
@@ -228,6 +230,6 @@ pub fn answer(out: &mut ExampleOutput, row: &Example<'_>) -> Result<()> {
 ///
 /// - `InvalidExample`: a line is missing or invalid.
 /// - `NoMemory`: an allocation outside the command failed.
-pub fn opening(out: &mut ExampleOutput, row: &Example<'_>) -> Result<()> {
+pub fn push_with_calls(out: &mut ExampleOutput, row: &Example<'_>) -> Result<()> {
     done(out, row, true)
 }

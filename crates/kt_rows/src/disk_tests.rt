@@ -1,31 +1,32 @@
 //! The command `test` on a disk that fails at a call, and the runs that a crash then leaves.
 
+use crate::commands_run::CommandsRun;
 use crate::disks::{
-    Work, crash_and_read, empty_files, fused, is_partial_run, run_on_files, schema_1_files,
+    DatabaseOperation, add_fuse, crash_and_read, create_empty_files, create_schema_1_files,
+    is_partial_run, run_on_files,
 };
-use crate::played::CommandsRun;
 use crate::scripted_results_host::ScriptedResultsHost;
 use kt_dbfile::RunsFile;
-use kt_doubles::{Scene, scene_of};
+use kt_doubles::{Scene, parse_scene};
 use kt_examples::{Example, ExampleFault, ExampleOutput, Result, due};
 use kt_store::{ResultStore, Results, StoreFault};
 use sqlite::{Alter, Connection};
 use sqlite_disk::{Files, Fuse, Memory};
 
 /// The maximum number of executions with a disk that fails.
-const LIMIT: u64 = 400;
+const MAX_TRIALS: u64 = 400;
 
 /// The last line of a command's output if its store failed.
-const LINE: &str = "kyua: E: results store failed\n";
+const STORE_FAILED_LINE: &str = "kyua: E: results store failed\n";
 
 /// The last line of a command's output if an allocation failed.
-const MEMORY: &str = "kyua: E: out of memory\n";
+const NO_MEMORY_LINE: &str = "kyua: E: out of memory\n";
 
 /// The output if the runs that are left are neither those before nor those after the failed call.
 const OTHER_RUNS_TEXT: &str =
     ", and then the runs are neither from before the call nor from after it";
 
-/// The outcome of the command `test`.
+/// The outcome of an execution of the command `test`.
 #[derive(Drop)]
 struct TestResult {
     /// The text on standard output.
@@ -36,7 +37,7 @@ struct TestResult {
     spawned: bool,
 }
 
-/// An execution on a disk that fails, and the content of the files after a crash.
+/// An execution of `test` on a disk that fails, and the content of the files after a crash.
 #[derive(Drop)]
 struct Attempt {
     /// The outcome, or `None` if the results tables couldn't be attached.
@@ -47,10 +48,10 @@ struct Attempt {
     left: Vec<String>,
 }
 
-/// An execution on a disk that doesn't fail. Its store calls have numbers: 0 attaches the tables, 1
-/// is `begin`, then comes a `put` for each entry, and then `finish`.
+/// An execution of `test` on a disk that doesn't fail. Its store calls have numbers: 0 attaches the
+/// tables, 1 is `begin`, then comes a `put` for each entry, and then `finish`.
 #[derive(Drop)]
-struct SoundRun {
+struct BaselineRun {
     /// The outcome.
     tested: TestResult,
     /// The runs before the execution.
@@ -59,15 +60,15 @@ struct SoundRun {
     left: Vec<String>,
 }
 
-impl SoundRun {
+impl BaselineRun {
     /// Returns the number of the store call `finish`.
     fn last(&self) -> usize {
         self.left.len().saturating_sub(self.before.len())
     }
 
-    /// Returns the number of the last store call that was completed, or `None` if no call leaves
-    /// the runs `left`.
-    fn completed_call(&self, left: &[String]) -> Option<usize> {
+    /// Returns the number of the last store call that was completed if a command left the runs
+    /// `left`. Returns `None` if no completed call leaves these runs.
+    fn find_completed_call(&self, left: &[String]) -> Option<usize> {
         let (before, whole) = (self.before.as_slice(), self.left.as_slice());
         if left == before {
             return Some(0);
@@ -78,13 +79,14 @@ impl SoundRun {
         (1..self.last()).find(|done| is_partial_run(left, whole, before.len(), *done))
     }
 
-    /// Returns the number of the store call that stopped a command, derived from its output and its
-    /// children. The number after `finish` means that no call stopped the command. The error
-    /// describes an output that fits no call, or a failed allocation.
-    fn stopping_call(&self, cut: &TestResult) -> Result<usize, &'static str> {
+    /// Returns the number of the store call that stopped the command with the outcome `cut`. It
+    /// follows from the output and from whether a child was started. The number after `finish`
+    /// means that no call stopped the command. The error describes an output that fits no call, or
+    /// a failed allocation.
+    fn find_stopping_call(&self, cut: &TestResult) -> Result<usize, &'static str> {
         let (page, whole) = (cut.page.as_str(), self.tested.page.as_str());
-        let memory = page.strip_suffix(MEMORY);
-        let front = match memory.or(page.strip_suffix(LINE)) {
+        let memory = page.strip_suffix(NO_MEMORY_LINE);
+        let front = match memory.or(page.strip_suffix(STORE_FAILED_LINE)) {
             _ if page == whole && cut.status == self.tested.status => {
                 return Ok(self.last().saturating_add(1));
             }
@@ -103,15 +105,15 @@ impl SoundRun {
         }
     }
 
-    /// Appends the store call that stopped a command, as ` attach 1`, ` begin`, ` put 1` or
-    /// ` finish`. The runs that are left must be those before or after the call. A text that begins
-    /// with a comma ends the trial.
+    /// Appends the store call that stopped the execution `cut`, as ` attach 1`, ` begin`, ` put 1`
+    /// or ` finish`. The runs that are left must be those before or after the call. A text that
+    /// begins with a comma ends the trial.
     fn push_stop(&self, out: &mut ExampleOutput, cut: &Attempt) {
         let stop = match &cut.tested {
             None => Ok(0),
-            Some(tested) => self.stopping_call(tested),
+            Some(tested) => self.find_stopping_call(tested),
         };
-        match (stop, self.completed_call(cut.left.as_slice())) {
+        match (stop, self.find_completed_call(cut.left.as_slice())) {
             (Err(what), Some(_)) => write!(out, ", {what}"),
             (Ok(stop), Some(done)) if stop == done || stop == done.saturating_add(1) => match stop {
                 0 => write!(out, " attach {}", cut.schema),
@@ -126,7 +128,12 @@ impl SoundRun {
 }
 
 /// Appends `word`, the output of a command, and the runs that a crash left, each on a new line.
-fn push_tested(out: &mut ExampleOutput, word: &str, tested: Option<&TestResult>, left: &[String]) {
+fn push_test_result(
+    out: &mut ExampleOutput,
+    word: &str,
+    tested: Option<&TestResult>,
+    left: &[String],
+) {
     out.line(word);
     if let Some(tested) = tested {
         out.line(tested.page.as_str());
@@ -155,23 +162,23 @@ impl DiskTrial<'_> {
     /// Executes the command lines over a store. Returns the outcome of the last of them, and the
     /// store.
     fn run_over_store<R: ResultStore + Drop>(self, results: R) -> Result<(TestResult, R)> {
-        let mut played = CommandsRun::new(
+        let mut commands_run = CommandsRun::new(
             self.scene.alloc,
             ScriptedResultsHost::new(self.scene.alloc, results),
         );
-        played.play(self.row.entries.as_slice(), self.scene)?;
-        let status = *due(played.exits.last(), "there is no command")?;
+        commands_run.execute_lines(self.row.entries.as_slice(), self.scene)?;
+        let status = *due(commands_run.exits.last(), "there is no command")?;
         let tested = TestResult {
-            page: played.page.text(self.scene.alloc)?,
+            page: commands_run.page.text(self.scene.alloc)?,
             status,
-            spawned: played.log.so_far()?.contains("spawn "),
+            spawned: commands_run.log.text_so_far()?.contains("spawn "),
         };
-        Ok((tested, played.into_results()?))
+        Ok((tested, commands_run.into_results()?))
     }
 
     /// Executes the command lines on `files`, and returns the outcome and the content after a
     /// crash. Returns `None` if the files can't be opened.
-    fn tried(self, files: Files<Fuse<Memory>>) -> Result<Option<Attempt>> {
+    fn execute_and_crash(self, files: Files<Fuse<Memory>>) -> Result<Option<Attempt>> {
         let (alloc, frames) = (self.scene.alloc, self.frames);
         let Some((tested, files)) = run_on_files(alloc, files, frames, self)? else {
             return Ok(None);
@@ -187,18 +194,21 @@ impl DiskTrial<'_> {
     /// Creates the files on which the command lines begin, and which fail after `calls` calls.
     fn files(self, calls: u64) -> Result<Files<Fuse<Memory>>> {
         let files = match self.is_old {
-            true => schema_1_files(self.scene.alloc, self.frames)?,
-            false => empty_files(self.scene.alloc),
+            true => create_schema_1_files(self.scene.alloc, self.frames)?,
+            false => create_empty_files(self.scene.alloc),
         };
-        Ok(fused(files, self.in_log, calls))
+        Ok(add_fuse(files, self.in_log, calls))
     }
 
-    /// Executes the command lines on a disk that doesn't fail, and returns the runs before and
-    /// after it.
-    fn whole(self) -> Result<SoundRun> {
+    /// Executes the command lines on a disk that doesn't fail. Returns the outcome, and the runs
+    /// before and after the execution.
+    fn whole(self) -> Result<BaselineRun> {
         let (_, before) = crash_and_read(self.scene.alloc, self.files(u64::MAX)?, self.frames)?;
-        let whole = due(self.tried(self.files(u64::MAX)?)?, "there is no store")?;
-        Ok(SoundRun {
+        let whole = due(
+            self.execute_and_crash(self.files(u64::MAX)?)?,
+            "there is no store",
+        )?;
+        Ok(BaselineRun {
             tested: due(whole.tested, "its tables are not taken")?,
             before,
             left: whole.left,
@@ -209,11 +219,11 @@ impl DiskTrial<'_> {
     /// calls that stopped them. Consecutive executions that stop in the same call are appended
     /// once. The trial ends if no call stopped a command, or if something is wrong. If the output
     /// or the runs are wrong, appends them without and with the failure.
-    fn push_stops(self, out: &mut ExampleOutput, whole: &SoundRun) -> Result<()> {
+    fn push_stops(self, out: &mut ExampleOutput, whole: &BaselineRun) -> Result<()> {
         out.push("stopped in");
         let mut last = String::new(self.scene.alloc);
-        for calls in 0..LIMIT {
-            let Some(cut) = self.tried(self.files(calls)?)? else {
+        for calls in 0..MAX_TRIALS {
+            let Some(cut) = self.execute_and_crash(self.files(calls)?)? else {
                 continue;
             };
             let mut stop = ExampleOutput::new(self.scene.alloc);
@@ -223,8 +233,8 @@ impl DiskTrial<'_> {
                 out.push(stop.as_str());
             }
             if stop.as_str().starts_with(", and then") {
-                push_tested(out, "whole", Some(&whole.tested), whole.left.as_slice());
-                push_tested(out, "cut", cut.tested.as_ref(), cut.left.as_slice());
+                push_test_result(out, "whole", Some(&whole.tested), whole.left.as_slice());
+                push_test_result(out, "cut", cut.tested.as_ref(), cut.left.as_slice());
             }
             if stop.as_str().starts_with(',') {
                 break;
@@ -252,10 +262,13 @@ impl DiskTrial<'_> {
 
 /// Executes the command lines over a database. The outcome is `None` if the results tables can't be
 /// attached.
-impl Work for DiskTrial<'_> {
+impl DatabaseOperation for DiskTrial<'_> {
     type WorkResult = Option<TestResult>;
 
-    fn over<S: Alter + Drop>(self, conn: Connection<S>) -> Result<(Option<TestResult>, S)> {
+    fn execute_on_database<S: Alter + Drop>(
+        self,
+        conn: Connection<S>,
+    ) -> Result<(Option<TestResult>, S)> {
         if !conn.is_autocommit() {
             return Err(ExampleFault::InvalidExample("a transaction is open"));
         }
@@ -286,7 +299,7 @@ impl Work for DiskTrial<'_> {
 /// - `InvalidExample`: a line is missing or invalid, or the store can't be created or read.
 /// - `NoMemory`: an allocation outside the command failed.
 pub fn answer(out: &mut ExampleOutput, row: &Example<'_>, disk: &str) -> Result<()> {
-    let scene = scene_of(out.alloc, row)?;
+    let scene = parse_scene(out.alloc, row)?;
     let trial = DiskTrial {
         row,
         scene: &scene,

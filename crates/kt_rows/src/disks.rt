@@ -2,7 +2,10 @@
 
 use kt_base::Entry;
 use kt_doubles::state_text;
-use kt_examples::{ExampleFault, ExampleOutput, Result, asked, both, due, push_entries, push_made};
+use kt_examples::{
+    ExampleFault, ExampleOutput, Result, convert_error, due, push_entries, push_or_fail,
+    zip_results,
+};
 use kt_store::{Results, RunHead};
 use sqlite::{Alter, Connection, Options};
 use sqlite_disk::{Crash, Disk, Files, Fuse, Memory};
@@ -14,18 +17,21 @@ const SCHEMA_1: &str =
     "CREATE TABLE meta (name TEXT PRIMARY KEY, value INTEGER NOT NULL) STRICT; CREATE TABLE runs (id INTEGER PRIMARY KEY, started INTEGER NOT NULL, total INTEGER NOT NULL, finished INTEGER NOT NULL CHECK (finished IN (0, 1))) STRICT; CREATE TABLE entries (run INTEGER NOT NULL REFERENCES runs (id), position INTEGER NOT NULL, program TEXT NOT NULL, case_name TEXT NOT NULL, kind INTEGER NOT NULL CHECK (kind BETWEEN 0 AND 4), reason TEXT NOT NULL, started INTEGER NOT NULL, millis INTEGER NOT NULL, body_out BLOB NOT NULL, body_err BLOB NOT NULL, clean_out BLOB NOT NULL, clean_err BLOB NOT NULL, PRIMARY KEY (run, position)) STRICT; INSERT INTO meta (name, value) VALUES ('schema', 1); INSERT INTO runs (started, total, finished) VALUES (5, 1, 1); INSERT INTO entries VALUES (1, 0, 'a', 'main', 3, 'x<y', 1700000000123, 12, X'68690A', X'', X'', X'')";
 
 /// An interface to an operation on a database.
-pub trait Work {
+pub trait DatabaseOperation {
     /// The result of the operation.
     type WorkResult;
 
-    /// Executes the operation on the database of `conn`. Returns its result and the connection's byte
-    /// store.
+    /// Executes the operation on the database of `conn`. Returns the result, and the store below
+    /// the connection.
     ///
     /// # Errors
     ///
     /// - `InvalidExample`: the operation fails in a way that no example expects.
     /// - `NoMemory`: an allocation outside the database failed.
-    fn over<S: Alter + Drop>(self, conn: Connection<S>) -> Result<(Self::WorkResult, S)>;
+    fn execute_on_database<S: Alter + Drop>(
+        self,
+        conn: Connection<S>,
+    ) -> Result<(Self::WorkResult, S)>;
 }
 
 /// Executes an operation on the database in `files`, and closes the files. Returns the result and
@@ -35,7 +41,7 @@ pub trait Work {
 /// # Errors
 ///
 /// - `InvalidExample` or `NoMemory`: `work` fails with this error.
-pub fn run_on_files<D: Disk + Drop, W: Work + Drop>(
+pub fn run_on_files<D: Disk + Drop, W: DatabaseOperation + Drop>(
     alloc: Global,
     files: Files<D>,
     frames: usize,
@@ -48,21 +54,21 @@ pub fn run_on_files<D: Disk + Drop, W: Work + Drop>(
     options.checkpoint_frames = frames;
     match Connection::open_files(alloc, files, options) {
         Ok(conn) => {
-            let (made, store) = work.over(conn)?;
+            let (made, store) = work.execute_on_database(conn)?;
             Ok(Some((made, store.close())))
         }
         Err(_) => Ok(None),
     }
 }
 
-/// A `Work` that creates a store of schema 1 in an empty database.
+/// A `DatabaseOperation` that creates a store of schema 1 in an empty database.
 #[derive(Clone, Copy)]
 struct Schema1Store;
 
-impl Work for Schema1Store {
+impl DatabaseOperation for Schema1Store {
     type WorkResult = ();
 
-    fn over<S: Alter + Drop>(self, mut conn: Connection<S>) -> Result<((), S)> {
+    fn execute_on_database<S: Alter + Drop>(self, mut conn: Connection<S>) -> Result<((), S)> {
         match conn.execute_batch(SCHEMA_1) {
             Ok(_) => Ok(((), conn.into_store())),
             Err(_) => Err(ExampleFault::InvalidExample("the old store is not made")),
@@ -71,7 +77,7 @@ impl Work for Schema1Store {
 }
 
 /// Creates a file in memory with the contents `bytes`.
-fn file_of(alloc: Global, bytes: &[u8]) -> Result<Memory> {
+fn create_memory_file(alloc: Global, bytes: &[u8]) -> Result<Memory> {
     let mut file = Memory::new(alloc);
     if file.write_at(0, bytes).is_err() || file.sync().is_err() {
         return Err(ExampleFault::InvalidExample("the old store is not made"));
@@ -80,7 +86,7 @@ fn file_of(alloc: Global, bytes: &[u8]) -> Result<Memory> {
 }
 
 /// Creates an empty log and an empty database file, both in memory.
-pub fn empty_files(alloc: Global) -> Files<Memory> {
+pub fn create_empty_files(alloc: Global) -> Files<Memory> {
     Files {
         log: Memory::new(alloc),
         db: Memory::new(alloc),
@@ -94,18 +100,21 @@ pub fn empty_files(alloc: Global) -> Files<Memory> {
 ///
 /// - `InvalidExample`: the store can't be created.
 /// - `NoMemory`: an allocation failed.
-pub fn schema_1_files(alloc: Global, frames: usize) -> Result<Files<Memory>> {
-    let empty = fused(empty_files(alloc), true, u64::MAX);
+pub fn create_schema_1_files(alloc: Global, frames: usize) -> Result<Files<Memory>> {
+    let empty = add_fuse(create_empty_files(alloc), true, u64::MAX);
     let made = run_on_files(alloc, empty, frames, Schema1Store)?;
     let ((), files) = due(made, "the old store is not made")?;
     let (log, db) = (files.log.inner().bytes(), files.db.inner().bytes());
-    let (log, db) = both(file_of(alloc, log), file_of(alloc, db))?;
+    let (log, db) = zip_results(
+        create_memory_file(alloc, log),
+        create_memory_file(alloc, db),
+    )?;
     Ok(Files { log, db })
 }
 
-/// Returns both files, of which one fails after `calls` calls: the log if `in_log` is set, and
-/// otherwise the database file.
-pub fn fused(files: Files<Memory>, in_log: bool, calls: u64) -> Files<Fuse<Memory>> {
+/// Returns both files, and makes one of them fail after `calls` calls: the log if `in_log` is set,
+/// and otherwise the database file.
+pub fn add_fuse(files: Files<Memory>, in_log: bool, calls: u64) -> Files<Fuse<Memory>> {
     Files {
         log: Fuse::new(files.log, if in_log { calls } else { u64::MAX }),
         db: Fuse::new(files.db, if in_log { u64::MAX } else { calls }),
@@ -113,16 +122,16 @@ pub fn fused(files: Files<Memory>, in_log: bool, calls: u64) -> Files<Fuse<Memor
 }
 
 /// Returns the line, the outputs and the properties of the only entry in the list `entry`.
-fn whole_text(alloc: Global, entry: &[Entry]) -> Result<String> {
+fn full_entry_text(alloc: Global, entry: &[Entry]) -> Result<String> {
     let mut out = ExampleOutput::new(alloc);
     for word in ["cases", "outputs", "pairs"] {
         out.line("");
         push_entries(&mut out, word, entry);
     }
-    asked(out.end())
+    convert_error(out.end())
 }
 
-/// Appends the head, the entries and the state of a run to `told`.
+/// Appends texts with the head, the entries and the state of a run to `told`.
 fn push_told<S: Alter>(
     alloc: Global,
     told: &mut Vec<String>,
@@ -136,14 +145,17 @@ fn push_told<S: Alter>(
         "run {} at {}, {} cases",
         head.number, head.started, head.total
     );
-    push_made(told, asked(text))?;
+    push_or_fail(told, convert_error(text))?;
     for entry in found.as_slice().chunks(1) {
-        push_made(told, whole_text(alloc, entry))?;
+        push_or_fail(told, full_entry_text(alloc, entry))?;
     }
-    push_made(told, asked(String::from_str(alloc, state_text(head))))
+    push_or_fail(
+        told,
+        convert_error(String::from_str(alloc, state_text(head))),
+    )
 }
 
-/// Returns the head, the entries and the state of each run of a store.
+/// Returns texts with the head, the entries and the state of each run of the store `results`.
 fn told<S: Alter>(alloc: Global, results: &mut Results<S>) -> Result<Vec<String>> {
     let Ok(heads) = results.runs() else {
         return Err(ExampleFault::InvalidExample("its runs can not be told"));
@@ -156,23 +168,28 @@ fn told<S: Alter>(alloc: Global, results: &mut Results<S>) -> Result<Vec<String>
 }
 
 /// Returns the schema number of a database, or `None` if the query fails.
-fn schema_number_of<S: Alter>(conn: &mut Connection<S>) -> Option<i64> {
+fn query_schema_number<S: Alter>(conn: &mut Connection<S>) -> Option<i64> {
     let row = conn.query_row("SELECT value FROM meta WHERE name = 'schema'", &[]);
     row.ok()?.get(0).ok()
 }
 
-/// A `Work` that returns the schema number of a database, or 0 without one, and all its runs. The
-/// query for the number is repeated once if it fails, because an allocation may fail once.
+/// A `DatabaseOperation` that returns the schema number of a database, or 0 without one, and all
+/// its runs. The query for the number is repeated once if it fails, because an allocation may fail
+/// once.
 #[derive(Clone, Copy)]
 struct ContentReader {
+    /// The allocator of the texts.
     alloc: Global,
 }
 
-impl Work for ContentReader {
+impl DatabaseOperation for ContentReader {
     type WorkResult = (i64, Vec<String>);
 
-    fn over<S: Alter + Drop>(self, mut conn: Connection<S>) -> Result<(Self::WorkResult, S)> {
-        let schema = schema_number_of(&mut conn).or_else(|| schema_number_of(&mut conn));
+    fn execute_on_database<S: Alter + Drop>(
+        self,
+        mut conn: Connection<S>,
+    ) -> Result<(Self::WorkResult, S)> {
+        let schema = query_schema_number(&mut conn).or_else(|| query_schema_number(&mut conn));
         if !conn.is_autocommit() {
             return Err(ExampleFault::InvalidExample("a transaction is open"));
         }

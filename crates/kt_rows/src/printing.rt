@@ -1,14 +1,15 @@
 use kt_base::{NoMemory, emit};
 use kt_cli::LineOutput;
 use kt_examples::{
-    Example, ExampleOutput, Result, ScriptedWriter, WriteFault, asked, push_made, unescaped,
+    Example, ExampleOutput, Result, ScriptedWriter, WriteFault, convert_error, push_or_fail,
+    unescape,
 };
 use std::alloc::Global;
 use std::io::Write;
 
-/// Creates a writer that accepts `at_most` bytes per write and fails from write number `failing`
-/// on. Writes are counted from 1, and with 0 no write fails. `fault` is the way in which writes
-/// fail.
+/// Creates a writer that accepts at most `at_most` bytes per write and fails from write number
+/// `failing` on. Writes are counted from 1, and no write fails if `failing` is 0. `fault` is the
+/// way in which writes fail.
 pub fn writer(alloc: Global, at_most: usize, failing: u64, fault: WriteFault) -> ScriptedWriter {
     let mut writer = ScriptedWriter::new(alloc);
     writer.at_most = at_most;
@@ -17,8 +18,8 @@ pub fn writer(alloc: Global, at_most: usize, failing: u64, fault: WriteFault) ->
     writer
 }
 
-/// Prints all pieces, even after a failed write, and flushes them if `flushes` is set. Returns
-/// `true` if nothing failed.
+/// Prints `pieces` to `out`, even after a failed write, and then flushes `out` if `flushes` is set.
+/// Returns `true` if nothing failed.
 fn print<W: Write>(pieces: &[Vec<u8>], out: &mut W, flushes: bool) -> bool {
     let mut well = true;
     for piece in pieces {
@@ -27,8 +28,8 @@ fn print<W: Write>(pieces: &[Vec<u8>], out: &mut W, flushes: bool) -> bool {
     (!flushes || out.flush().is_ok()) && well
 }
 
-/// Prints and flushes pieces, through a line buffer if `to_lines` is set. Returns `true` if nothing
-/// failed.
+/// Prints `pieces` to `out` and flushes them, through a line buffer if `to_lines` is set. Returns
+/// `true` if nothing failed.
 fn print_whole(pieces: &[Vec<u8>], to_lines: bool, out: &mut ScriptedWriter) -> bool {
     if to_lines {
         print(pieces, &mut LineOutput::new(out, true), true)
@@ -37,10 +38,14 @@ fn print_whole(pieces: &[Vec<u8>], to_lines: bool, out: &mut ScriptedWriter) -> 
     }
 }
 
-/// Checks a writer after one of its writes failed: the failure was reported, no write followed it,
-/// and the written bytes are a proper prefix of `whole`. Returns a message if one of these facts is
-/// false, else `None`.
-fn wrong(whole: &[u8], cut: &ScriptedWriter, well: bool) -> Result<Option<&'static str>, NoMemory> {
+/// Checks the writer `cut` after one of its writes failed: the failure was reported (`well` is
+/// `false`), no write followed it, and the written bytes are a proper prefix of `whole`. Returns a
+/// message if one of these facts is false, else `None`.
+fn find_violation(
+    whole: &[u8],
+    cut: &ScriptedWriter,
+    well: bool,
+) -> Result<Option<&'static str>, NoMemory> {
     let kept = cut.kept()?;
     if well {
         return Ok(Some("all went well"));
@@ -58,7 +63,7 @@ fn wrong(whole: &[u8], cut: &ScriptedWriter, well: bool) -> Result<Option<&'stat
 /// check that fails. A writer that doesn't fail must get the text `whole`. A writer that fails at
 /// one of its first 100 writes must get a proper prefix of `whole`. If `to_lines` is `true`, a line
 /// buffer is between the pieces and the writer.
-fn push_wrong(
+fn push_violations(
     out: &mut ExampleOutput,
     pieces: &[Vec<u8>],
     to_lines: bool,
@@ -78,7 +83,7 @@ fn push_wrong(
         ] {
             let mut cut = writer(out.alloc, at_most, failing, fault);
             let well = print_whole(pieces, to_lines, &mut cut);
-            if let Some(what) = wrong(whole, &cut, well)? {
+            if let Some(what) = find_violation(whole, &cut, well)? {
                 out.line(what);
             }
         }
@@ -86,9 +91,9 @@ fn push_wrong(
     Ok(())
 }
 
-/// Prints pieces into several writers, and appends the text after a line for each error. The
-/// writers accept all bytes, 7 bytes or 1 byte per write, and may fail at one of the first 100
-/// writes. If `to_lines` is set, a line buffer precedes each writer.
+/// Prints `pieces` into several writers, and appends a line for each violation, and then the
+/// printed text. The writers accept all bytes, 7 bytes or 1 byte per write, and may fail at one of
+/// the first 100 writes. If `to_lines` is set, a line buffer precedes each writer.
 ///
 /// # Errors
 ///
@@ -98,7 +103,7 @@ pub fn push_printed(out: &mut ExampleOutput, pieces: &[Vec<u8>], to_lines: bool)
     print_whole(pieces, to_lines, &mut page);
     let whole = page.kept()?;
     for at_most in [usize::MAX, 7, 1] {
-        push_wrong(out, pieces, to_lines, whole, at_most)?;
+        push_violations(out, pieces, to_lines, whole, at_most)?;
     }
     out.bytes(whole);
     Ok(())
@@ -116,7 +121,7 @@ pub fn push_pieces(out: &mut ExampleOutput, row: &Example<'_>) -> Result<()> {
     let mut pieces = Vec::new(out.alloc);
     for line in row.entries.as_slice() {
         if line.word == "piece" {
-            push_made(&mut pieces, unescaped(out.alloc, line.text))?;
+            push_or_fail(&mut pieces, unescape(out.alloc, line.text))?;
         }
     }
     if row.text("unflushed").is_none() {

@@ -1,14 +1,15 @@
 use crate::printing::{push_printed, writer};
 use kt_base::{Bytes, NoMemory, Reason, Text, Verdict, emit_number, emit_u128, lossy, send};
 use kt_examples::{
-    Example, ExampleFault, ExampleLine, ExampleOutput, Result, ScriptedWriter, WriteFault, kind_of,
-    push_reason, unescaped,
+    Example, ExampleFault, ExampleLine, ExampleOutput, Result, ScriptedWriter, WriteFault,
+    parse_kind, push_reason, unescape,
 };
 use std::alloc::Global;
 
-/// Appends a verdict's kind, and `good` if it counts as a success or else `bad`.
+/// Appends the verdict kind with the keyword `word`, and `good` if it counts as a success or else
+/// `bad`.
 fn push_kind(out: &mut ExampleOutput, word: &str) -> Result<()> {
-    let kind = kind_of(word)?;
+    let kind = parse_kind(word)?;
     let quality = if kind.good() { "good" } else { "bad" };
     write!(out, "{}, {quality}", kind.word());
     Ok(())
@@ -50,7 +51,8 @@ fn push_sent(out: &mut ExampleOutput, row: &Example<'_>, bytes: &[u8]) -> Result
     Ok(())
 }
 
-/// Executes the example of the keyword `word` with decoded bytes, and appends its output.
+/// Executes an example with the keyword `word` and the decoded bytes `bytes`, and appends its
+/// output.
 fn push_told(out: &mut ExampleOutput, row: &Example<'_>, word: &str, bytes: Vec<u8>) -> Result<()> {
     match word {
         "words" => {
@@ -81,6 +83,6 @@ pub fn answer(out: &mut ExampleOutput, row: &Example<'_>) -> Result<()> {
         "kind" => push_kind(out, text),
         "number" => push_number(out, text),
         "nothing" => push_reason(out, &Verdict::broken(Reason::Nothing)),
-        _ => push_told(out, row, word, unescaped(out.alloc, text)?),
+        _ => push_told(out, row, word, unescape(out.alloc, text)?),
     }
 }

@@ -1,10 +1,9 @@
 ghost use Rattle.std.specs.Prelude.{◌≤◌, IfOk, length};
-ghost use Rattle.kt_cli.specs.Machines.{read_limit};
+ghost use Rattle.kt_os.specs.Machines.{read_limit};
 
 use kt_base::{Bytes, LATEST_MOMENT_MILLIS};
-use kt_cli::HostFiles;
 use kt_doubles::{Scene, fail_allocation};
-use kt_suite::ReadFault;
+use kt_os::{FileFault, HostFiles};
 use std::alloc::Global;
 
 /// The maximum number of bytes that are read of a file: one more than a Kyuafile may have.
@@ -20,13 +19,13 @@ pub struct ScriptedFiles<'a> {
 }
 
 /// Returns a copy of the first `READ_LIMIT_BYTES` bytes, or of all bytes if they are fewer.
-fn front_of(alloc: Global, bytes: &[u8]) -> Result<Bytes, ReadFault>
+fn copy_front(alloc: Global, bytes: &[u8]) -> Result<Bytes, FileFault>
     ensures { IfOk result (λ bytes. length bytes ≤ read_limit) }
 {
     let count = bytes.len().min(READ_LIMIT_BYTES);
     match Bytes::from_slice(alloc, &bytes[..count]) {
         Ok(front) => Ok(front),
-        Err(refusal) => Err(ReadFault::Memory(refusal)),
+        Err(refusal) => Err(FileFault::Memory(refusal)),
     }
 }
 
@@ -34,18 +33,18 @@ impl HostFiles for ScriptedFiles<'_> {
     // The script decides each result, so the relation is trivial.
     ghost answers = { λ _ _ _. Unit {0} };
 
-    fn front(&mut self, path: &str) -> Result<Bytes, ReadFault> {
+    fn front(&mut self, path: &str) -> Result<Bytes, FileFault> {
         if self.scene.has("dear", path) {
             if let Err(refusal) = fail_allocation(self.scene.alloc) {
-                return Err(ReadFault::Memory(refusal));
+                return Err(FileFault::Memory(refusal));
             }
         }
         if self.scene.has("locked", path) {
-            return Err(ReadFault::Failed);
+            return Err(FileFault::Failed);
         }
         match self.scene.bytes_at(path) {
-            None => Err(ReadFault::Missing),
-            Some(bytes) => front_of(self.scene.alloc, bytes),
+            None => Err(FileFault::Missing),
+            Some(bytes) => copy_front(self.scene.alloc, bytes),
         }
     }
 
@@ -53,7 +52,7 @@ impl HostFiles for ScriptedFiles<'_> {
         self.scene.has("program", path)
     }
 
-    fn is_there(&mut self, path: &str) -> bool {
+    fn path_exists(&mut self, path: &str) -> bool {
         self.scene.has("found-file", path)
     }
 

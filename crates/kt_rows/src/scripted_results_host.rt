@@ -1,7 +1,7 @@
 use kt_base::{NoMemory, Text};
-use kt_child::DriverFault;
-use kt_cli::{ProcessEnv, ResultsHost};
+use kt_cli::ResultsHost;
 use kt_examples::ExampleOutput;
+use kt_os::{OsFault, ProcessEnv};
 use kt_store::{Access, ResultStore, StoreFault};
 use std::alloc::Global;
 
@@ -15,7 +15,7 @@ pub struct ScriptedResultsHost<R: ResultStore + Drop> {
     /// The error of closing the results store, if it fails.
     pub close_error: Option<StoreFault>,
     /// The error of reading the process environment (`ProcessEnv`), if it fails.
-    pub env_error: Option<DriverFault>,
+    pub env_error: Option<OsFault>,
     /// The value of `PATH`, if it is set.
     pub path: Option<Text>,
     /// The value of `USER`, if it is set.
@@ -38,20 +38,21 @@ impl<R: ResultStore + Drop> ScriptedResultsHost<R> {
         }
     }
 
-    /// Logs a call, and fails if the log's allocation fails for the first time.
-    fn note(&mut self, word: &str, file: &str) -> Result<(), NoMemory> {
-        let was_refused = self.calls.so_far().is_err();
+    /// Logs the call `word` with the file name `file`, and fails if the log's allocation fails for
+    /// the first time.
+    fn log_host_call(&mut self, word: &str, file: &str) -> Result<(), NoMemory> {
+        let was_refused = self.calls.text_so_far().is_err();
         self.calls.separate(", ");
         write!(self.calls, "{word}{file}");
         if !was_refused {
-            self.calls.so_far()?;
+            self.calls.text_so_far()?;
         }
         Ok(())
     }
 
     /// Returns the process environment: the working directory `/here`, and the variables `PATH` and
     /// `USER`.
-    fn around(&self) -> Result<ProcessEnv, NoMemory> {
+    fn create_process_env(&self) -> Result<ProcessEnv, NoMemory> {
         let here = Text::from_str(self.calls.alloc, "/here")?;
         let path = self.path.as_ref().map(Text::copy).transpose()?;
         let user = self.user.as_ref().map(Text::copy).transpose()?;
@@ -66,7 +67,7 @@ impl<R: ResultStore + Drop> ResultsHost for ScriptedResultsHost<R> {
     ghost provides = { λ _ _ _. Unit {0} };
 
     fn open(&mut self, file: &Text, _access: Access) -> Result<R, StoreFault> {
-        self.note("open ", file.as_str())?;
+        self.log_host_call("open ", file.as_str())?;
         match self.open_error {
             Some(fault) => Err(fault),
             None => self.results.take().ok_or(StoreFault::UnknownSchema),
@@ -75,16 +76,16 @@ impl<R: ResultStore + Drop> ResultsHost for ScriptedResultsHost<R> {
 
     fn close(&mut self, results: R) -> Result<(), StoreFault> {
         self.results = Some(results);
-        self.note("close", "")?;
+        self.log_host_call("close", "")?;
         self.close_error.map_or(Ok(()), Err)
     }
 
-    fn process_env(&mut self) -> Result<ProcessEnv, DriverFault> {
-        self.note("surroundings", "")
-            .map_err(DriverFault::NoMemory)?;
+    fn process_env(&mut self) -> Result<ProcessEnv, OsFault> {
+        self.log_host_call("surroundings", "")
+            .map_err(OsFault::Memory)?;
         match self.env_error {
             Some(fault) => Err(fault),
-            None => self.around().map_err(DriverFault::NoMemory),
+            None => self.create_process_env().map_err(OsFault::Memory),
         }
     }
 }

@@ -1,10 +1,11 @@
-use crate::played::CommandsRun;
-use crate::refusing_store::RefusingStore;
+use crate::commands_run::CommandsRun;
+use crate::failing_store::FailingStore;
 use crate::scripted_results_host::ScriptedResultsHost;
 use kt_dbfile::RunsFile;
-use kt_doubles::{PartwiseStore, Scene, push_call};
+use kt_doubles::{Scene, SplitReadStore, push_call};
 use kt_examples::{
-    Example, ExampleFault, ExampleLine, ExampleOutput, Result, asked, content_at, is_entry_line,
+    Example, ExampleFault, ExampleLine, ExampleOutput, Result, convert_error, entry_lines_at,
+    is_entry_line,
 };
 use kt_store::{ResultStore, Results};
 use sqlite::{Alter, Connection};
@@ -23,7 +24,7 @@ enum Store<S: Alter + Drop> {
 
 /// Detaches the results tables of a database, and returns its connection. A store that is used
 /// through its trees can't be detached.
-fn detached<S: Alter + Drop>(store: Store<S>) -> Result<Connection<S>> {
+fn detach_store<S: Alter + Drop>(store: Store<S>) -> Result<Connection<S>> {
     match store {
         Store::Open(connection) => Ok(connection),
         Store::Attached(results) => Ok(results.detach()),
@@ -39,7 +40,8 @@ fn into_runs_file<S: Alter + Drop>(results: Results<S>) -> Result<RunsFile<S>> {
     }
 }
 
-/// Attaches the results tables of a database, and appends `attached` or the error.
+/// Attaches the results tables of a database, and appends `attached` or the error. If `is_by_trees`
+/// is set, the returned store is used through its trees.
 fn attach<S: Alter + Drop>(
     out: &mut ExampleOutput,
     connection: Connection<S>,
@@ -63,8 +65,8 @@ fn attach<S: Alter + Drop>(
     }
 }
 
-/// Executes a store call, or a command line over the store, and appends its output. Returns the
-/// store.
+/// Executes the store call or the command line in `line` over the store `results`, and appends its
+/// output. `content` are the lines of the entry that a call `put` stores. Returns the store.
 fn ask<R: ResultStore + Drop>(
     out: &mut ExampleOutput,
     mut results: R,
@@ -73,18 +75,22 @@ fn ask<R: ResultStore + Drop>(
 ) -> Result<R> {
     if line.word != "do" {
         let (store, alloc) = (&mut results, out.alloc);
-        push_call(out, &mut PartwiseStore { store, alloc }, line, content)?;
+        push_call(out, &mut SplitReadStore { store, alloc }, line, content)?;
         return Ok(results);
     }
-    let mut played = CommandsRun::new(out.alloc, ScriptedResultsHost::new(out.alloc, results));
-    played.play(&[*line], &Scene::new(out.alloc))?;
-    played.push_result(out)?;
-    played.into_results()
+    let mut commands_run = CommandsRun::new(
+        out.alloc,
+        ScriptedResultsHost::new(out.alloc, results),
+    );
+    commands_run.execute_lines(&[*line], &Scene::new(out.alloc))?;
+    commands_run.push_result(out)?;
+    commands_run.into_results()
 }
 
-/// Executes a store call by SQL, and appends its output. A command line uses the store through its
-/// trees, and so do the lines after it.
-fn ask_by_sql<S: Alter + Drop>(
+/// Executes the store call in `line` by SQL, and appends its output. `content` are the lines of the
+/// entry that a call `put` stores. A command line uses the store through its trees, and so do the
+/// lines after it.
+fn execute_by_sql<S: Alter + Drop>(
     out: &mut ExampleOutput,
     mut results: Results<S>,
     line: &ExampleLine<'_>,
@@ -98,8 +104,10 @@ fn ask_by_sql<S: Alter + Drop>(
     Ok(Store::Attached(results))
 }
 
-/// Executes a line of an example over a database, and appends its output.
-fn step<S: Alter + Drop>(
+/// Executes the line `line` of an example over a database, and appends its output. `content` are
+/// the lines of the entry that a call `put` stores. If `is_by_trees` is set, an attached store is
+/// used through its trees.
+fn execute_store_line<S: Alter + Drop>(
     out: &mut ExampleOutput,
     store: Store<S>,
     is_by_trees: bool,
@@ -108,9 +116,9 @@ fn step<S: Alter + Drop>(
 ) -> Result<Store<S>> {
     out.separate("\n");
     match line.word {
-        "attach" => attach(out, detached(store)?, is_by_trees),
+        "attach" => attach(out, detach_store(store)?, is_by_trees),
         "sql" => {
-            let mut connection = detached(store)?;
+            let mut connection = detach_store(store)?;
             if connection.execute(line.text, &[]).is_err() {
                 return Err(ExampleFault::InvalidExample("the statement fails"));
             }
@@ -119,43 +127,55 @@ fn step<S: Alter + Drop>(
         }
         _ => match store {
             Store::Open(_) => Err(ExampleFault::InvalidExample("no tables were taken")),
-            Store::Attached(results) => ask_by_sql(out, results, line, content),
+            Store::Attached(results) => execute_by_sql(out, results, line, content),
             Store::ByTrees(file) => Ok(Store::ByTrees(ask(out, file, line, content)?)),
         },
     }
 }
 
-/// Returns the outputs of lines over a new database in memory, used by SQL or through its trees.
-fn over(alloc: Global, lines: &[ExampleLine<'_>], is_by_trees: bool) -> Result<String> {
+/// Executes lines over a new database in memory, by SQL or through its trees, and returns their
+/// outputs.
+fn execute_on_database(
+    alloc: Global,
+    lines: &[ExampleLine<'_>],
+    is_by_trees: bool,
+) -> Result<String> {
     let mut out = ExampleOutput::new(alloc);
     let mut store = Store::Open(Connection::open_in_memory(alloc)?);
     for (place, line) in lines.iter().enumerate() {
         if !is_entry_line(line) {
-            store = step(&mut out, store, is_by_trees, line, content_at(lines, place))?;
+            store = execute_store_line(
+                &mut out,
+                store,
+                is_by_trees,
+                line,
+                entry_lines_at(lines, place),
+            )?;
         }
     }
-    asked(out.end())
+    convert_error(out.end())
 }
 
-/// Returns `true` if lines use the connection after the first `attach`. A store that is used
-/// through its trees can't return it.
-fn is_reattached(lines: &[ExampleLine<'_>]) -> bool {
+/// Returns `true` if one of `lines` after the first `attach` uses the connection. A store that is
+/// used through its trees can't return the connection.
+fn uses_connection_again(lines: &[ExampleLine<'_>]) -> bool {
     let mut later = lines.iter().skip_while(|line| line.word != "attach");
     later.next();
     later.any(|line| line.word == "attach" || line.word == "sql")
 }
 
 /// Returns `true` if an output contains the error of a failed allocation.
-fn is_short(answer: &str) -> bool {
+fn has_memory_error(answer: &str) -> bool {
     answer.contains("NoMemory") || answer.contains("out of memory")
 }
 
-/// Appends the common output of both ways, or both outputs if they differ. If one output reports a
-/// failed allocation, only that output is appended, because the other way didn't have that failure.
-fn push_both(out: &mut ExampleOutput, by_sql: &str, of_trees: &str) {
-    if by_sql == of_trees || is_short(by_sql) {
+/// Appends `by_sql`, the output of the execution by SQL, and also `of_trees`, the output of the
+/// execution through trees, if it differs. If one output reports a failed allocation, only that
+/// output is appended, because the other execution didn't have that failure.
+fn push_common_output(out: &mut ExampleOutput, by_sql: &str, of_trees: &str) {
+    if by_sql == of_trees || has_memory_error(by_sql) {
         out.push(by_sql);
-    } else if is_short(of_trees) {
+    } else if has_memory_error(of_trees) {
         out.push(of_trees);
     } else {
         out.push(by_sql);
@@ -168,12 +188,12 @@ fn push_both(out: &mut ExampleOutput, by_sql: &str, of_trees: &str) {
 fn run_in_memory(
     out: &mut ExampleOutput,
     lines: &[ExampleLine<'_>],
-    mut runs: RefusingStore,
+    mut runs: FailingStore,
 ) -> Result<()> {
     for (place, line) in lines.iter().enumerate() {
         if !is_entry_line(line) {
             out.separate("\n");
-            runs = ask(out, runs, line, content_at(lines, place))?;
+            runs = ask(out, runs, line, entry_lines_at(lines, place))?;
         }
     }
     Ok(())
@@ -190,15 +210,15 @@ pub fn answer(out: &mut ExampleOutput, row: &Example<'_>) -> Result<()> {
     let lines = row.entries.as_slice();
     if let Some((first, calls)) = lines.split_first() {
         if first.word == "memory" {
-            return run_in_memory(out, calls, RefusingStore::of(out.alloc, row)?);
+            return run_in_memory(out, calls, FailingStore::of(out.alloc, row)?);
         }
     }
-    let by_sql = over(out.alloc, lines, false)?;
-    if is_reattached(lines) {
+    let by_sql = execute_on_database(out.alloc, lines, false)?;
+    if uses_connection_again(lines) {
         out.push(by_sql.as_str());
         return Ok(());
     }
-    let of_trees = over(out.alloc, lines, true)?;
-    push_both(out, by_sql.as_str(), of_trees.as_str());
+    let of_trees = execute_on_database(out.alloc, lines, true)?;
+    push_common_output(out, by_sql.as_str(), of_trees.as_str());
     Ok(())
 }

@@ -1,6 +1,9 @@
 use kt_args::{CaseOptions, Command, CommandFault, ReportOptions, read_command};
 use kt_base::Text;
-use kt_examples::{Example, ExampleOutput, Result, asked, due, halves, number, push_made, text_of};
+use kt_examples::{
+    Example, ExampleOutput, Result, convert_error, due, number, push_or_fail, split_required,
+    unescape_text,
+};
 use std::alloc::Global;
 use std::slice;
 
@@ -10,10 +13,13 @@ use std::slice;
 ///
 /// - `InvalidExample`: an escape is invalid, or an argument isn't UTF-8.
 /// - `NoMemory`: an allocation failed.
-pub fn args_of_line(alloc: Global, line: &str) -> Result<Vec<String>> {
+pub fn split_command_line(alloc: Global, line: &str) -> Result<Vec<String>> {
     let mut words = Vec::new(alloc);
     for word in line.split_whitespace() {
-        push_made(&mut words, text_of(alloc, word).map(Text::into_string))?;
+        push_or_fail(
+            &mut words,
+            unescape_text(alloc, word).map(Text::into_string),
+        )?;
     }
     Ok(words)
 }
@@ -24,8 +30,8 @@ pub fn args_of_line(alloc: Global, line: &str) -> Result<Vec<String>> {
 ///
 /// - `InvalidExample`: an escape is invalid, or an argument isn't UTF-8.
 /// - `NoMemory`: an allocation outside `read_command` failed.
-pub fn read_line(alloc: Global, line: &str) -> Result<Result<Command, CommandFault>> {
-    let words = args_of_line(alloc, line)?;
+pub fn parse_command_line(alloc: Global, line: &str) -> Result<Result<Command, CommandFault>> {
+    let words = split_command_line(alloc, line)?;
     Ok(read_command(alloc, words.as_slice()))
 }
 
@@ -94,11 +100,11 @@ fn push_fault(out: &mut ExampleOutput, fault: &CommandFault) {
 /// Returns the arguments of the line `line WORDS`, and then N times the argument of `times N WORD`.
 fn example_args(alloc: Global, row: &Example<'_>) -> Result<Vec<String>> {
     let line = due(row.text("line"), "the row has no command line")?;
-    let mut words = args_of_line(alloc, line)?;
+    let mut words = split_command_line(alloc, line)?;
     let times = row.text("times").unwrap_or("0 ");
-    let (count, word) = halves(times, " ", "a number and a word are due")?;
+    let (count, word) = split_required(times, " ", "a number and a word are due")?;
     for _ in 0..number(count)? {
-        push_made(&mut words, asked(String::from_str(alloc, word)))?;
+        push_or_fail(&mut words, convert_error(String::from_str(alloc, word)))?;
     }
     Ok(words)
 }

@@ -1,5 +1,5 @@
 -- The chosen step is the first that applies, its consequences hold, and no other step is next.
-use Rattle.kt_sched.proofs.Common.{slice_get, Option, Some, None, drop, filter, is_some, nat_lt, ◌==◌, MatchOption, ◌⊎◌, if◌then◌else◌, ◌≡◌, ℕ, ◌+◌, ◌<◌, Bool, true, false, List, [], ◌∷◌, ◌++◌, length, refl, sym, ◌∙◌, ap, subst, arith, inl, inr, drop_of_length-le, false_from_ne_true, ⊤, nat_tests, slice_get_within, Body, Cleanup, Job, Next, Case, Trace, active, turns, next_to_start, IsBusy, recorded, Fed, has_failed, IsNext, IsChosen, HasNoTurn, MayBegin, SchedState, Stands, IsSettled, positions, opened, is_open, is_decided, is_undecided, is_none, IsPlan, body_starts, map, ◌≢◌, ◌≤◌, Role, Stage, Waiting, Owing, Taken, BodyStarted, end_kind, kind_of_event, of, history, is_whole, has_whole_history, Follows, WereOpen, IsStage, IsAsked, option_to_list, HasExclusive, CanLend}
+use Rattle.kt_sched.proofs.Common.{slice_get, Option, Some, None, drop, filter, is_some, nat_lt, ◌==◌, MatchOption, ◌⊎◌, if◌then◌else◌, ◌≡◌, ℕ, ◌+◌, ◌<◌, Bool, true, false, List, [], ◌∷◌, ◌++◌, length, refl, sym, ◌∙◌, ap, subst, arith, inl, inr, drop_of_length-le, false_from_ne_true, ⊤, nat_tests, slice_get_within, Body, Cleanup, Job, Next, Case, Trace, active, turns, next_to_start, IsBusy, recorded, Responses, has_failed, IsNext, IsChosen, HasNoTurn, MayStartBody, SchedState, RepresentsRun, IsSettled, positions, allowed_puts, is_put_allowed, is_decided, is_undecided, is_none, IsPlan, body_starts, map, ◌≢◌, ◌≤◌, Role, Stage, Waiting, PendingCleanup, Taken, BodyStarted, end_kind, kind_of_event, of, history, is_whole, has_whole_history, Follows, WerePutsAllowed, IsStage, HasRequested, option_to_list, HasExclusiveFlag, IsNotTaken}
 use Rattle.kt_sched.specs.declared.next.Next.TheVariants as next
 use Rattle.kt_sched.proofs.Lists.{filter_none, get_drop, slice_get-drop, within_some, filter_in, list_all_from}
 use Rattle.kt_sched.proofs.Decided.{first_open, room_in}
@@ -12,7 +12,7 @@ use Rattle.std.proofs.lemmas.Option.{same_Some}
 abbrev pub Held : List Job → Trace → Option Job → Type 0
 Held plan T o = MatchOption o ⊤ (λ job. (job.exclusive ≡ true) × (0 < active plan T))
 
-module _ {plan : List Job} {n : ℕ} {fed : Fed} {b : SchedState} (h : Stands plan n fed b) where
+module _ {plan : List Job} {n : ℕ} {fed : Responses} {b : SchedState} (h : RepresentsRun plan n fed b) where
   pub busy_where_held : has_failed fed ≡ false → HasNoTurn b → IsBusy plan n fed.trace
   busy_where_held f (inl e) = absurd (cc (h.puts.failed))
   busy_where_held f (inr (inl e)) =
@@ -33,8 +33,8 @@ module _ {plan : List Job} {n : ℕ} {fed : Fed} {b : SchedState} (h : Stands pl
   not_failed i e = false_from_ne_true b.failed (λ f. cc (h.puts.stopped f, e))
 
   -- If no decided case can be put, no decided case is open from the turn on.
-  pub nothing_opened : b.ready ≡ None → IsSettled b → has_failed fed ≡ false → opened plan n fed.trace b.turn ≡ []
-  nothing_opened r s f = filter_none (is_open plan n fed.trace) (drop b.turn (turns plan)) (λ j x g. false_from_ne_true _ (λ e.
+  pub nothing_opened : b.ready ≡ None → IsSettled b → has_failed fed ≡ false → allowed_puts plan n fed.trace b.turn ≡ []
+  nothing_opened r s f = filter_none (is_put_allowed plan n fed.trace) (drop b.turn (turns plan)) (λ j x g. false_from_ne_true _ (λ e.
       let xs = turns plan in
       let y = sym (get_drop xs b.turn j) ∙ g in
       let w = within_some xs b.turn (omega (arith, slice_get_within xs (b.turn + j) x y)) in
@@ -43,7 +43,7 @@ module _ {plan : List Job} {n : ℕ} {fed : Fed} {b : SchedState} (h : Stands pl
     where
       has_room : (job : Job) (c : Case) → slice_get b.cases job.position ≡ Some c → c.job ≡ job → (x : Bool) → job.exclusive ≡ x
           → (if x then active plan fed.trace == 0 else nat_lt (active plan fed.trace) n) ≡ true
-          → (b.active < b.width) × (b.active ≡ 0 ⊎ HasExclusive b.cases job.position false)
+          → (b.active < b.width) × (b.active ≡ 0 ⊎ HasExclusiveFlag b.cases job.position false)
       has_room job c k e true y m =
           let z : active plan fed.trace ≡ 0 = grind (arith, nat_tests, m) in
           let u : b.active ≡ 0 = omega (arith, z, active_is h) in
@@ -61,7 +61,7 @@ module _ {plan : List Job} {n : ℕ} {fed : Fed} {b : SchedState} (h : Stands pl
           absurd (cc (ap is_some (ap (λ (j : Job). j.decided) (same_Some job u.0.job (sym g ∙ u.0.turn)) ∙ u.3), d))
 
   -- The next put is the put of the ready case, or else of the first open case.
-  puts_scheduled_at : (rest : List ℕ) → has_failed fed ≡ false → option_to_list b.ready ++ positions (opened plan n fed.trace b.turn) ≡ rest
+  puts_scheduled_at : (rest : List ℕ) → has_failed fed ≡ false → option_to_list b.ready ++ positions (allowed_puts plan n fed.trace b.turn) ≡ rest
       → slice_get (recorded plan n fed.trace) fed.stored ≡ slice_get rest 0
   puts_scheduled_at rest f e = slice_get-drop (recorded plan n fed.trace) fed.stored ∙ ap (λ (xs : List ℕ). slice_get xs 0) (h.puts.ready f ∙ e)
 
@@ -71,12 +71,12 @@ module _ {plan : List Job} {n : ℕ} {fed : Fed} {b : SchedState} (h : Stands pl
   pub is_next : (q : Next) → IsSettled b → IsChosen b q → IsNext plan n fed q
   is_next (next.Put i) s c =
       let f : has_failed fed ≡ false = sym h.puts.failed ∙ not_failed i c in
-      (f, puts_scheduled_at (i ∷ positions (opened plan n fed.trace b.turn)) f (rw c refl))
+      (f, puts_scheduled_at (i ∷ positions (allowed_puts plan n fed.trace b.turn)) f (rw c refl))
   is_next (next.Start i Cleanup) s c = (none_put c.0 s, sym h.cases.pending_is ∙ c.1)
   is_next (next.Start i Body) s c =
       let f : has_failed fed ≡ false = sym h.puts.failed ∙ c.2.0 in
       let t = upcoming h i c.0 s c.2 in
-      let may : MayBegin plan n fed.trace i = record {
+      let may : MayStartBody plan n fed.trace i = record {
         job = t.0.job;
         next = next_at h t.0.job t.0.turn t.3;
         place = t.0.at;
@@ -92,9 +92,9 @@ module _ {plan : List Job} {n : ℕ} {fed : Fed} {b : SchedState} (h : Stands pl
   job_is i c g t = let l = located h i c.job c.stage g in l.place ∙ ap Some (sym (l.kept t))
 
   -- A case that is to be started isn't taken.
-  pub untaken_start : (i : ℕ) (r : Role) → IsSettled b → IsChosen b (next.Start i r) → CanLend b.cases i
+  pub untaken_start : (i : ℕ) (r : Role) → IsSettled b → IsChosen b (next.Start i r) → IsNotTaken b.cases i
   untaken_start i Body s c = let u = upcoming h i c.0 s c.2 in (u.0.case, u.0.found, λ x. absurd (cc (u.1, x)))
-  untaken_start i Cleanup s c = let w = owes h i c.1 in (record { job = w.0; stage = Owing w.1 }, w.2, λ t. absurd (cc))
+  untaken_start i Cleanup s c = let w = owes h i c.1 in (record { job = w.0; stage = PendingCleanup w.1 }, w.2, λ t. absurd (cc))
 
   -- If no case is active, each case has no event or a whole history.
   part_whole : b.active ≡ 0 → (i : ℕ) (job : Job) → slice_get plan i ≡ Some job → (of i fed.trace ≡ []) ⊎ (has_whole_history fed.trace job ≡ true)
@@ -121,7 +121,7 @@ module _ {plan : List Job} {n : ℕ} {fed : Fed} {b : SchedState} (h : Stands pl
       let m : c.0 < b.turn = omega (arith, slice_get_within (turns plan) c.0 job c.1) in
       (says_at h i job g).whole ∙ over_stage s.case.stage ((h.turn.met c.0 i s.case c.2 s.found).1 m) (inactive h i s.case a s.found)
 
-  were_open : has_failed fed ≡ false → length (turns plan) ≤ b.turn → WereOpen plan n fed.trace
+  were_open : has_failed fed ≡ false → length (turns plan) ≤ b.turn → WerePutsAllowed plan n fed.trace
   were_open f l i job g d =
       let c = covers h i job g in (h.puts.gone f).gone c.0 job (omega (arith, l, slice_get_within (turns plan) c.0 job c.1)) c.1 d
 
@@ -134,7 +134,7 @@ module _ {plan : List Job} {n : ℕ} {fed : Fed} {b : SchedState} (h : Stands pl
       (record { job = u.0.job; place = u.0.place; unfinished = ap (is_whole u.0.job) e ∙ ap is_some u.3; exclusive = exclusive_body h i c.2.1 c.2.3 }, e)
   follows (next.Start i Cleanup) s c =
       let w = owes h i c.1 in
-      let l = located h i w.0 (Owing w.1) w.2 in (
+      let l = located h i w.0 (PendingCleanup w.1) w.2 in (
         record { job = l.job; place = l.place; unfinished = l.says.whole; exclusive = exclusive_cleanup h i (sym h.cases.pending_is ∙ c.1) },
         ap (map kind_of_event) l.stands.1 ∙ ap (λ (r : Role). BodyStarted ∷ end_kind r ∷ []) l.stands.2,
       )
@@ -146,7 +146,7 @@ module _ {plan : List Job} {n : ℕ} {fed : Fed} {b : SchedState} (h : Stands pl
   follows next.Done s c =
       (part_whole c.2, λ f. let l = past c.2 c.3 f in (list_all_from (has_whole_history fed.trace) plan (whole_each c.2 l), were_open f l))
 
-  asked_for : (q : Next) → IsSettled b → IsChosen b q → IsAsked (record b { asked = q }) q
+  asked_for : (q : Next) → IsSettled b → IsChosen b q → HasRequested (record b { asked = q }) q
   asked_for (next.Put i) s c = (not_failed i c, c)
   asked_for (next.Start i Cleanup) s c = (c.0, c.1, s)
   asked_for next.Done s c = tt
@@ -158,12 +158,12 @@ module _ {plan : List Job} {n : ℕ} {fed : Fed} {b : SchedState} (h : Stands pl
 
   -- The state with the chosen step as the last requested step represents the same plan, width and
   -- responses.
-  pub stands_asked : (q : Next) → IsSettled b → IsChosen b q → Stands plan n fed (record b { asked = q })
+  pub stands_asked : (q : Next) → IsSettled b → IsChosen b q → RepresentsRun plan n fed (record b { asked = q })
   stands_asked q s c =
       record { cases = h.cases; turn = h.turn; puts = h.puts; has_record = λ i e d. absurd (not_done q i c e d); asked = asked_for q s c }
 
 -- If a body may begin, the run isn't busy.
-busy_not : (plan : List Job) (n : ℕ) (T : Trace) (i : ℕ) → IsPlan plan → MayBegin plan n T i → IsBusy plan n T → ⊥
+busy_not : (plan : List Job) (n : ℕ) (T : Trace) (i : ℕ) → IsPlan plan → MayStartBody plan n T i → IsBusy plan n T → ⊥
 busy_not plan n T i p m (inl e) = absurd (omega (arith, e, m.room))
 busy_not plan n T i p m (inr h) =
     let w = subst (λ (o : Option Job). MatchOption o ⊤ (λ job. (job.exclusive ≡ true) × (0 < active plan T))) m.next h in
@@ -171,7 +171,7 @@ busy_not plan n T i p m (inr h) =
     let q = m.exclusive.quiet m.job (ap (slice_get plan) (sym m.place) ∙ turn_inside plan p.placed t.0 m.job t.1) w.0 refl in
     absurd (omega (arith, w.1, q.0))
 
-pub only_next : (plan : List Job) (n : ℕ) (fed : Fed) (a b : Next) → IsPlan plan → IsNext plan n fed a → IsNext plan n fed b → a ≡ b
+pub only_next : (plan : List Job) (n : ℕ) (fed : Responses) (a b : Next) → IsPlan plan → IsNext plan n fed a → IsNext plan n fed b → a ≡ b
 only_next plan n fed (next.Put i) (next.Put j) p x y = ap next.Put (same_Some i j (sym x.1 ∙ y.1))
 only_next plan n fed (next.Put i) (next.Start j Body) p x y = absurd (cc (x.1, y.1))
 only_next plan n fed (next.Put i) b p x y = absurd (cc (x.1, y.0 x.0))

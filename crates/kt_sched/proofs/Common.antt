@@ -15,19 +15,19 @@ pub use Rattle.std.specs.List.{list_all, list_any}
 pub use Rattle.std.specs.Option.{option_map, option_to_list}
 pub use Rattle.std.specs.Prelude.{⊤}
 pub use Rattle.kt_base.specs.Moments.{IsMoment, IsStorable}
-pub use Rattle.kt_sched.specs.Types.{Answer, Body, CaseRecord, Cleaning, Cleanup, Decided, Ended, EndedBody, Entry, Finished, Judged, Owing, Running, SinkFault, Stage, StartAnswer, Taken, Totals, Waiting}
+pub use Rattle.kt_sched.specs.Types.{Answer, Body, CaseRecord, Cleaning, Cleanup, Decided, Ended, EndedBody, Entry, Finished, VerdictValue, PendingCleanup, Running, SinkFault, Stage, StartAnswer, Taken, Totals, Waiting}
 pub use Rattle.kt_sched.specs.Common.{Case, IsPlan, Job, Next, Role}
-pub use Rattle.kt_sched.specs.Children.{Child, IsEvidence, IsIdle, MayStart, child_of, pending_after_end, pending_after_start, running_after_end, running_after_start, same_role, with_cleanup_declared}
-pub use Rattle.kt_sched.specs.EntryOf.{AreEntries, Gains, IsEntry, IsEntryOf, cleaned, decided, ended, no_output, refused, uncleaned}
-pub use Rattle.kt_sched.specs.Fed.{Fed, IsAnswerTo, has_failed, no_responses, role_runs, runs}
+pub use Rattle.kt_sched.specs.Children.{Child, IsEvidence, IsIdle, MayStart, child_of, pending_after_end, pending_after_start, running_after_end, running_after_start, is_same_role, has_declared_cleanup}
+pub use Rattle.kt_sched.specs.EntryOf.{AreEntries, PutsInOrder, IsEntry, IsEntryOf, cleaned, decided, ended, empty_output, refused, uncleaned}
+pub use Rattle.kt_sched.specs.Responses.{Responses, IsAnswerTo, has_failed, no_responses, role_runs, runs}
 pub use Rattle.kt_sched.specs.History.{BodyEnded, BodyRefused, BodyStarted, CleanupEnded, CleanupRefused, CleanupStarted, EventKind, active, end_kind, has_whole_history, history, is_active, is_body_started, is_whole, kind_of_event}
 pub use Rattle.kt_sched.specs.Inner.Answers.{CanCount, responses_after_put, counted}
-pub use Rattle.kt_sched.specs.Inner.Cases.{IsAfter, Replaced, TakesEntry, can_start, first_case, first_stage, is_over, owing_at, positions_where, ready_at, record_of, stage_runs}
-pub use Rattle.kt_sched.specs.Inner.Choice.{IsChosen, HasNoTurn, IsTurn}
-pub use Rattle.kt_sched.specs.Next.{AreWhole, Follows, IsNext, IsUpToDate, MayBegin, MayStartNow, WereOpen}
-pub use Rattle.kt_sched.specs.RecordOrder.{Due, ahead, dues, finished_by, is_begun, is_open, puts_scheduled_at, recorded, was_open}
-pub use Rattle.kt_sched.specs.Run.{Counts, FailedPut, FitsAt, NamesEachOnce, Ran}
-pub use Rattle.kt_sched.specs.SchedState.{HaveBeenOpen, CanLend, RepresentsCase, RepresentCases, HasDecided, HasExclusive, HasRecord, HasTurn, Implies, IsAsked, IsSettled, IsStage, IsReachable, RepresentPuts, SchedState, Stands, RecordsEvent, RepresentsTurn, decided_record, ended_body, entry_with, is_active_stage, is_decided, is_decided_stage, is_waiting_stage, is_owed, is_owing_stage, is_undecided, opened, positions, record_in, stage_work, work}
-pub use Rattle.kt_sched.specs.ScheduleRules.{KeepsExclusive, IsExclusiveAtStart, WaitsWhenBusy, Each, IsBusy, IsQuiet, Order, StartsOwedCleanup, KeepsWidth, declares, owed}
+pub use Rattle.kt_sched.specs.Inner.Cases.{ChangesStage, ReplacesStage, TakesEntry, can_start, initial_case, initial_stage, is_over, pending_at, positions_where, ready_at, record_after_cleanup, stage_runs}
+pub use Rattle.kt_sched.specs.Inner.Choice.{IsChosen, HasNoTurn, IsStartableCase}
+pub use Rattle.kt_sched.specs.Next.{AreWhole, Follows, IsNext, IsUpToDate, MayStartBody, MayStartNow, WerePutsAllowed}
+pub use Rattle.kt_sched.specs.RecordOrder.{ScheduledPut, jobs_before, scheduled_puts, jobs_finished_by, is_begun, is_put_allowed, puts_scheduled_at, recorded, was_put_allowed}
+pub use Rattle.kt_sched.specs.Run.{Counts, HasFailedPut, FitsAt, NamesEachOnce, RunsPlan}
+pub use Rattle.kt_sched.specs.SchedState.{TracksAllowedPuts, IsNotTaken, RepresentsCase, RepresentCases, HasDecidedFlag, HasExclusiveFlag, HasRecord, HasTurn, HoldsForEachRun, HasRequested, IsSettled, IsStage, IsReachable, RepresentPuts, SchedState, RepresentsRun, RecordsEvent, RepresentsTurn, unstarted_record, ended_body, entry_with, is_active_stage, is_decided, is_decided_stage, is_waiting_stage, is_pending_case, is_pending_stage, is_undecided, allowed_puts, positions, record_in, stage_work, work}
+pub use Rattle.kt_sched.specs.ScheduleRules.{KeepsExclusive, IsExclusiveAtStart, WaitsWhenBusy, HoldsAtEachEvent, IsBusy, IsQuiet, Order, StartsPendingCleanup, KeepsWidth, case_declares_cleanup, pending_cleanup}
 pub use Rattle.kt_sched.specs.Trace.{End, Event, HasMoment, Leads, NoEvent, Start, Then, Trace, event_count, first, of, position_of}
 pub use Rattle.kt_sched.specs.TurnOrder.{body_start_of, body_starts, next_to_start, turns, undecided_turns}

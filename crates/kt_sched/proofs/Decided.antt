@@ -1,12 +1,12 @@
 -- Decided cases: those open from a turn on, and those that an event opens.
-use Rattle.kt_sched.proofs.Common.{ne_eqb, slice_get, filter, take, drop, Some, not, nat_lt, ◌==◌, ◌&&◌, ◌||◌, if◌then◌else◌, ◌≡◌, ◌≢◌, ℕ, zero, suc, ◌+◌, ◌-◌, ◌<◌, ◌≤◌, ◌⊎◌, Bool, true, false, List, [], ◌∷◌, refl, sym, ◌∙◌, ap, arith, inl, inr, and-true, or-false, and_from, and_parts, list_all, list_any, nat_tests, take-append-drop, filter-append, cases_eq, cases_lt, Job, Event, Trace, Then, active, turns, body_starts, is_open, was_open, is_begun, ahead, IsPlan, HaveBeenOpen, opened, positions, is_decided, is_undecided}
+use Rattle.kt_sched.proofs.Common.{ne_eqb, slice_get, filter, take, drop, Some, not, nat_lt, ◌==◌, ◌&&◌, ◌||◌, if◌then◌else◌, ◌≡◌, ◌≢◌, ℕ, zero, suc, ◌+◌, ◌-◌, ◌<◌, ◌≤◌, ◌⊎◌, Bool, true, false, List, [], ◌∷◌, refl, sym, ◌∙◌, ap, arith, inl, inr, and-true, or-false, and_from, and_parts, list_all, list_any, nat_tests, take-append-drop, filter-append, cases_eq, cases_lt, Job, Event, Trace, Then, active, turns, body_starts, is_put_allowed, was_put_allowed, is_begun, jobs_before, IsPlan, TracksAllowedPuts, allowed_puts, positions, is_decided, is_undecided}
 use Rattle.kt_sched.proofs.Lists.{any_none, filter_alike, filter_in, filter_none, get_drop, get_take, list_all_at, list_all_from, mapped_at, none_passes, take_within}
 use Rattle.kt_sched.proofs.Turns.{opens_now, turn_distinct, turn_sorted}
 use Rattle.std.proofs.lemmas.Option.{same_Some}
 use Rattle.kt_base.proofs.Lists.{same_number}
 
 ahead_is : (xs : List Job) (k : ℕ) (job : Job) → ((j : ℕ) (x : Job) → j < k → slice_get xs j ≡ Some x → x.position ≢ job.position) → slice_get xs k ≡ Some job
-    → ahead job.position xs ≡ take k xs
+    → jobs_before job.position xs ≡ take k xs
 ahead_is [] k job d g = absurd (cc)
 ahead_is (y ∷ ys) zero job d g = let e : y ≡ job = cc in rw (e, same_number job.position) refl
 ahead_is (y ∷ ys) (suc k) job d g =
@@ -52,7 +52,7 @@ module _ {plan : List Job} (T : Trace) (p : ℕ) (h : IsPlan plan) (s : body_sta
           absurd (omega (arith, z, l))
 
   all_ahead : (k : ℕ) (job : Job) → slice_get (turns plan) k ≡ Some job
-      → list_all (is_begun T) (ahead job.position (turns plan)) ≡ list_all (is_begun T) (take k (turns plan))
+      → list_all (is_begun T) (jobs_before job.position (turns plan)) ≡ list_all (is_begun T) (take k (turns plan))
   all_ahead k job g = ap (list_all (is_begun T)) (ahead_is (turns plan) k job apart g)
     where
       apart : (j : ℕ) (x : Job) → j < k → slice_get (turns plan) j ≡ Some x → x.position ≢ job.position
@@ -60,7 +60,7 @@ module _ {plan : List Job} (T : Trace) (p : ℕ) (h : IsPlan plan) (s : body_sta
 
   -- A decided case at the turn is open if there is a free slot for it.
   pub open_here : (n : ℕ) (job : Job) → slice_get (turns plan) p ≡ Some job → is_decided job ≡ true → room_in (active plan T) n job ≡ true
-      → is_open plan n T job ≡ true
+      → is_put_allowed plan n T job ≡ true
   open_here n job g d r =
       let xs = turns plan in
       let begun = list_all_from (is_begun T) (take p xs) (λ j x y. let l = take_within xs p j x y in begun_before j x l (sym (get_take xs p j l) ∙ y)) in
@@ -68,10 +68,10 @@ module _ {plan : List Job} (T : Trace) (p : ℕ) (h : IsPlan plan) (s : body_sta
 
   -- If a later case is open, the case at the turn is decided and has a free slot.
   pub first_open : {n : ℕ} (k : ℕ) (job x : Job) → 0 < n → p ≤ k → slice_get (turns plan) p ≡ Some job → slice_get (turns plan) k ≡ Some x
-      → is_open plan n T x ≡ true → (is_decided job ≡ true) × (room_in (active plan T) n job ≡ true)
+      → is_put_allowed plan n T x ≡ true → (is_decided job ≡ true) × (room_in (active plan T) n job ≡ true)
   first_open {n} k job x z l g y e =
-      let outer = and_parts (is_decided x && list_all (is_begun T) (ahead x.position (turns plan))) (room_in (active plan T) n x) e in
-      let inner = and_parts (is_decided x) (list_all (is_begun T) (ahead x.position (turns plan))) outer.0 in (
+      let outer = and_parts (is_decided x && list_all (is_begun T) (jobs_before x.position (turns plan))) (room_in (active plan T) n x) e in
+      let inner = and_parts (is_decided x) (list_all (is_begun T) (jobs_before x.position (turns plan))) outer.0 in (
         decided (cases_eq p k) inner.0 (sym (all_ahead k x y) ∙ inner.1),
         room_falls (active plan T) n job.exclusive x.exclusive z (turn_sorted plan p k job x g y l) outer.1,
       )
@@ -86,34 +86,34 @@ abbrev pub GoesOver : List Job → ℕ → ℕ → Type 0
 GoesOver plan p q = (p ≤ q) × ((k : ℕ) (job : Job) → p ≤ k → k < q → slice_get (turns plan) k ≡ Some job → is_decided job ≡ false)
 
 -- For one more event `e`, after events `T` that leave no decided case to be put.
-module _ {plan : List Job} {n : ℕ} {T : Trace} (e : Event) {p q : ℕ} (over : GoesOver plan p q) (gone : HaveBeenOpen plan n T p)
-    (none : opened plan n T p ≡ []) where
-  closed_before : (k : ℕ) (job : Job) → p ≤ k → slice_get (turns plan) k ≡ Some job → was_open plan n T job ≡ false
+module _ {plan : List Job} {n : ℕ} {T : Trace} (e : Event) {p q : ℕ} (over : GoesOver plan p q) (gone : TracksAllowedPuts plan n T p)
+    (none : allowed_puts plan n T p ≡ []) where
+  closed_before : (k : ℕ) (job : Job) → p ≤ k → slice_get (turns plan) k ≡ Some job → was_put_allowed plan n T job ≡ false
   closed_before k job l g =
       let r : p + (k - p) ≡ k = omega (arith, l) in
       let at = get_drop (turns plan) p (k - p) ∙ (ap (slice_get (turns plan)) r ∙ g) in
-      gone.due k job l g ∙ none_passes (is_open plan n T) (drop p (turns plan)) none (k - p) job at
+      gone.due k job l g ∙ none_passes (is_put_allowed plan n T) (drop p (turns plan)) none (k - p) job at
 
   -- A decided case before the turn was open before.
-  passed : (k : ℕ) (job : Job) → k < q → slice_get (turns plan) k ≡ Some job → is_decided job ≡ true → was_open plan n T job ≡ true
+  passed : (k : ℕ) (job : Job) → k < q → slice_get (turns plan) k ≡ Some job → is_decided job ≡ true → was_put_allowed plan n T job ≡ true
   passed k job l g d = elim (cases_lt k p) [ inl x ↦ gone.gone k job x g d | inr x ↦ absurd (cc (over.1 k job x l g, d)) ]
 
   not_now : (k : ℕ) (job : Job) → k < q → slice_get (turns plan) k ≡ Some job → opens_now plan n T e job ≡ false
   not_now k job l g = grind (arith, passed k job l g)
 
   -- An event opens the decided cases that are open from the turn on.
-  pub newly_open : filter (opens_now plan n T e) (turns plan) ≡ opened plan n (Then T e) q
+  pub newly_open : filter (opens_now plan n T e) (turns plan) ≡ allowed_puts plan n (Then T e) q
   newly_open =
       let f = opens_now plan n T e in
       let xs = turns plan in
       let none = filter_none f (take q xs) (λ k job g. let l = take_within xs q k job g in not_now k job l (sym (get_take xs q k l) ∙ g)) in
-      let alike = filter_alike f (is_open plan n (Then T e)) (drop q xs)
-      (λ k job g. ap (λ b. is_open plan n (Then T e) job && not b) (closed_before (q + k) job (omega (arith, over.0)) (sym (get_drop xs q k) ∙ g))
-      ∙ and-true (is_open plan n (Then T e) job)) in
+      let alike = filter_alike f (is_put_allowed plan n (Then T e)) (drop q xs)
+      (λ k job g. ap (λ b. is_put_allowed plan n (Then T e) job && not b) (closed_before (q + k) job (omega (arith, over.0)) (sym (get_drop xs q k) ∙ g))
+      ∙ and-true (is_put_allowed plan n (Then T e) job)) in
       ap (filter f) (sym (take-append-drop q xs)) ∙ (filter-append f (take q xs) (drop q xs) ∙ (rw none alike))
 
   -- After the event, each decided case before the turn was open.
-  pub gone_after : HaveBeenOpen plan n (Then T e) q
+  pub gone_after : TracksAllowedPuts plan n (Then T e) q
   gone_after = record {
     gone = λ k job l g d. rw (passed k job l g d) refl;
     due = λ k job l g. rw (closed_before k job (omega (arith, l, over.0)) g) refl;

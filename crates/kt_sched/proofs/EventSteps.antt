@@ -1,6 +1,6 @@
 -- The state after an event represents the responses with that event.
 use Rattle.kt_sched.specs.declared.next.Next.TheVariants as next
-use Rattle.kt_sched.proofs.Common.{ne_eqb, Taken, filter, slice_get, count_by, Option, Some, None, ◌≡◌, ◌≢◌, ℕ, ◌+◌, ◌<◌, ◌≤◌, ◌⊎◌, true, false, cond, List, [], ◌∷◌, ◌++◌, length, drop, take, is_none, is_some, refl, sym, ◌∙◌, ap, subst, arith, slice_set, inl, inr, length-append, append-nil, drop-append-le, length-set, map-append, slice_get_within, cases_lt, cases_eq, Job, Stage, Finished, Case, Event, Then, position_of, of, turns, body_starts, body_start_of, recorded, Fed, has_failed, SchedState, Stands, RepresentCases, RepresentsTurn, RepresentPuts, IsStage, IsAfter, Replaced, IsSettled, HasTurn, is_active_stage, is_owing_stage, is_over, Owing, is_owed, is_waiting_stage, is_undecided, HasRecord, owing_at, ready_at, record_in, positions, opened, stage_work, work, Trace, option_to_list}
+use Rattle.kt_sched.proofs.Common.{ne_eqb, Taken, filter, slice_get, count_by, Option, Some, None, ◌≡◌, ◌≢◌, ℕ, ◌+◌, ◌<◌, ◌≤◌, ◌⊎◌, true, false, cond, List, [], ◌∷◌, ◌++◌, length, drop, take, is_none, is_some, refl, sym, ◌∙◌, ap, subst, arith, slice_set, inl, inr, length-append, append-nil, drop-append-le, length-set, map-append, slice_get_within, cases_lt, cases_eq, Job, Stage, Finished, Case, Event, Then, position_of, of, turns, body_starts, body_start_of, recorded, Responses, has_failed, SchedState, RepresentsRun, RepresentCases, RepresentsTurn, RepresentPuts, IsStage, ChangesStage, ReplacesStage, IsSettled, HasTurn, is_active_stage, is_pending_stage, is_over, PendingCleanup, is_pending_case, is_waiting_stage, is_undecided, HasRecord, pending_at, ready_at, record_in, positions, allowed_puts, stage_work, work, Trace, option_to_list}
 use Rattle.kt_sched.proofs.Lists.{cond_le, cond_one, cond_zero, pick, count_by-set, counted_one, sum_by-set, take_filter}
 use Rattle.kt_sched.proofs.Turns.{of_same, of_other, opens_now, recorded_more, finished_is}
 use Rattle.kt_sched.proofs.Stages.{fresh_inactive, says, undecided_stage, Moves, moves, owed_moves, stage_moves}
@@ -23,7 +23,7 @@ pub record Turning (plan : List Job) (T : Trace) (b : SchedState) (i : ℕ) (e :
 
 -- `OwedBy i o`: `o` is `None` or `Some i`, so no case other than `i` owes its cleanup.
 abbrev pub OwedBy : ℕ → Option ℕ → Type 0
-OwedBy i o = (k : ℕ) → k ≢ i → is_owed o k ≡ false
+OwedBy i o = (k : ℕ) → k ≢ i → is_pending_case o k ≡ false
 
 -- `AskedFor b e`: the state `b` requested a step whose response is the event `e`.
 pub record AskedFor (b : SchedState) (e : Event) : Type 0 where
@@ -36,10 +36,10 @@ pub record AskedFor (b : SchedState) (e : Event) : Type 0 where
 -- run of `plan` with the width `n`, the event `e` changes the cases to `cs`. It moves its case,
 -- whose job is `job`, from the stage `was` to `now`, the turn to `t`, and the number of active
 -- cases to `a`.
-pub record EventStep (plan : List Job) (n : ℕ) (fed : Fed) (b : SchedState) (e : Event) (cs : List Case) (job : Job) (was now : Stage) (t a : ℕ) : Type 0 where
+pub record EventStep (plan : List Job) (n : ℕ) (fed : Responses) (b : SchedState) (e : Event) (cs : List Case) (job : Job) (was now : Stage) (t a : ℕ) : Type 0 where
   pub place : slice_get plan (position_of e) ≡ Some job
-  pub moved : Replaced b.cases cs (position_of e) now was
-  pub after : IsAfter job.cleanup was e now
+  pub moved : ReplacesStage b.cases cs (position_of e) now was
+  pub after : ChangesStage job.cleanup was e now
   pub turn : t ≡ b.turn + length (body_start_of e)
   pub active : a + cond (is_active_stage was) 1 0 ≡ b.active + cond (is_active_stage now) 1 0
   pub asked : AskedFor b e
@@ -51,20 +51,20 @@ after_event b cases turn active pending ready = record b { cases = cases; turn =
 
 -- `After plan n fed b e later`: in the run of `plan` with the width `n`, the state `later`
 -- represents the responses `fed` and the event `e`. It has less work left than the state `b`.
-pub record After (plan : List Job) (n : ℕ) (fed : Fed) (b : SchedState) (e : Event) (later : SchedState) : Type 0 where
-  pub stands : Stands plan n (record fed { trace = Then fed.trace e }) later
+pub record After (plan : List Job) (n : ℕ) (fed : Responses) (b : SchedState) (e : Event) (later : SchedState) : Type 0 where
+  pub stands : RepresentsRun plan n (record fed { trace = Then fed.trace e }) later
   pub less : work later.cases < work b.cases
 
-owing_is : (stage : Stage) (i : ℕ) → is_owing_stage stage ≡ is_owed (owing_at stage i) i
-owing_is (Owing o) i = sym (same_number i)
+owing_is : (stage : Stage) (i : ℕ) → is_pending_stage stage ≡ is_pending_case (pending_at stage i) i
+owing_is (PendingCleanup o) i = sym (same_number i)
 owing_is stage i = refl
 
-owing_by : (stage : Stage) (i : ℕ) → OwedBy i (owing_at stage i)
-owing_by (Owing o) i k d = ne_eqb k i d
+owing_by : (stage : Stage) (i : ℕ) → OwedBy i (pending_at stage i)
+owing_by (PendingCleanup o) i k d = ne_eqb k i d
 owing_by stage i k d = refl
 
-module _ {plan : List Job} {n : ℕ} {fed : Fed} {b : SchedState} {e : Event} {cs : List Case} {job : Job} {was now : Stage} {t a : ℕ}
-    (h : Stands plan n fed b) (s : EventStep plan n fed b e cs job was now t a) where
+module _ {plan : List Job} {n : ℕ} {fed : Responses} {b : SchedState} {e : Event} {cs : List Case} {job : Job} {was now : Stage} {t a : ℕ}
+    (h : RepresentsRun plan n fed b) (s : EventStep plan n fed b e cs job was now t a) where
   abbrev i : ℕ
   i = position_of e
 
@@ -122,15 +122,15 @@ module _ {plan : List Job} {n : ℕ} {fed : Fed} {b : SchedState} {e : Event} {c
         ]
       ]
 
-  owing : (k : ℕ) (c : Case) → Which b.cases i new k c → is_owing_stage c.stage ≡ is_owed (owing_at now i) k
-  owing k c (inl w) = ap (λ (d : Case). is_owing_stage d.stage) w.1 ∙ (owing_is now i ∙ ap (is_owed (owing_at now i)) (sym w.0))
+  owing : (k : ℕ) (c : Case) → Which b.cases i new k c → is_pending_stage c.stage ≡ is_pending_case (pending_at now i) k
+  owing k c (inl w) = ap (λ (d : Case). is_pending_stage d.stage) w.1 ∙ (owing_is now i ∙ ap (is_pending_case (pending_at now i)) (sym w.0))
   owing k c (inr w) = h.cases.owing k c w.1 ∙ (s.asked.owing k w.0 ∙ sym (owing_by now i k w.0))
 
-  owed_within : (k : ℕ) → owing_at now i ≡ Some k → (k ≡ i) ⊎ (k ≢ i) → k < length later
+  owed_within : (k : ℕ) → pending_at now i ≡ Some k → (k ≡ i) ⊎ (k ≢ i) → k < length later
   owed_within k q (inl w) = omega (arith, w, length-set b.cases i new, slice_get_within b.cases i _ s.moved.found)
-  owed_within k q (inr d) = absurd (cc (owing_by now i k d, ap (λ (o : Option ℕ). is_owed o k) q, same_number k))
+  owed_within k q (inr d) = absurd (cc (owing_by now i k d, ap (λ (o : Option ℕ). is_pending_case o k) q, same_number k))
 
-  cases_step : RepresentCases plan n (Then fed.trace e) later a b.width (owing_at now i)
+  cases_step : RepresentCases plan n (Then fed.trace e) later a b.width (pending_at now i)
   cases_step = record {
     is_plan = h.cases.is_plan;
     room = h.cases.room;
@@ -201,7 +201,7 @@ module _ {plan : List Job} {n : ℕ} {fed : Fed} {b : SchedState} {e : Event} {c
     ];
   }
 
-  none : has_failed fed ≡ false → opened plan n fed.trace b.turn ≡ []
+  none : has_failed fed ≡ false → allowed_puts plan n fed.trace b.turn ≡ []
   none = nothing_opened h s.asked.empty s.asked.settled
 
   -- The event adds the finished case and the opened cases to the record order.
@@ -238,7 +238,7 @@ module _ {plan : List Job} {n : ℕ} {fed : Fed} {b : SchedState} {e : Event} {c
       own f = grind (arith, f)
 
       ready : has_failed fed ≡ false → drop fed.stored (recorded plan n (Then fed.trace e))
-          ≡ option_to_list (ready_at now b.failed i) ++ positions (opened plan n (Then fed.trace e) t)
+          ≡ option_to_list (ready_at now b.failed i) ++ positions (allowed_puts plan n (Then fed.trace e) t)
       ready f =
           let xs = recorded plan n fed.trace in
           let ys = positions (filter (opens_now plan n fed.trace e) (turns plan)) in
@@ -248,8 +248,8 @@ module _ {plan : List Job} {n : ℕ} {fed : Fed} {b : SchedState} {e : Event} {c
           ∙ rw (nothing, own (h.puts.failed ∙ f))
           (ap (λ (jobs : List Job). option_to_list (ready_at now b.failed i) ++ positions jobs) (newly_open e turning.over (h.puts.gone f) (none f))))
 
-  pub event_taken : After plan n fed b e (after_event b cs t a (owing_at now i) (ready_at now b.failed i))
-  event_taken = subst (λ (xs : List Case). After plan n fed b e (after_event b xs t a (owing_at now i) (ready_at now b.failed i)))
+  pub event_taken : After plan n fed b e (after_event b cs t a (pending_at now i) (ready_at now b.failed i))
+  event_taken = subst (λ (xs : List Case). After plan n fed b e (after_event b xs t a (pending_at now i) (ready_at now b.failed i)))
       (sym s.moved.changed) (record {
         stands = record {
           cases = cases_step;

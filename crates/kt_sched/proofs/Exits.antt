@@ -1,5 +1,5 @@
 -- The exits of a run.
-use Rattle.kt_sched.proofs.Common.{Result, Option, Some, None, is_some, Ok, Err, ◌≡◌, ℕ, List, [], refl, append-nil, take, sym, ◌∙◌, ap, subst, arith, Job, SinkFault, Totals, Implies, IsPlan, AreEntries, Each, WaitsWhenBusy, Trace, recorded, body_starts, Fed, IsNext, Follows, Ran, NoEvent, SchedState}
+use Rattle.kt_sched.proofs.Common.{Result, Option, Some, None, is_some, Ok, Err, ◌≡◌, ℕ, List, [], refl, append-nil, take, sym, ◌∙◌, ap, subst, arith, Job, SinkFault, Totals, HoldsForEachRun, IsPlan, AreEntries, HoldsAtEachEvent, WaitsWhenBusy, Trace, recorded, body_starts, Responses, IsNext, Follows, RunsPlan, NoEvent, SchedState}
 use Rattle.kt_sched.specs.Run.{EndsAs}
 use Rattle.kt_sched.specs.Types.{NoMemory, RunFault, SinkFailed}
 use Rattle.kt_base.specs.declared.no_memory.NoMemory.{NoMemory as Refusal}
@@ -15,7 +15,7 @@ use Rattle.kt_sched.proofs.Loop.{Loop, fits}
 
 module _ {L S : Type 0} (l : launcher.Ghosts L) (s : sink.Ghosts S) (plan : List Job) (n : ℕ) (old : L) (before : S) (p : IsPlan plan) where
   -- A run whose first allocation failed has started and put nothing.
-  pub ran_not : (refusal : Refusal) → Ran l s plan n old old before before (Err (NoMemory refusal))
+  pub ran_not : (refusal : Refusal) → RunsPlan l s plan n old old before before (Err (NoMemory refusal))
   ran_not refusal = record {
     trace = NoEvent;
     leads = refl;
@@ -30,8 +30,8 @@ module _ {L S : Type 0} (l : launcher.Ghosts L) (s : sink.Ghosts S) (plan : List
 
 module _ {L S : Type 0} {l : launcher.Ghosts L} {s : sink.Ghosts S} {plan : List Job} {n : ℕ} {old : L} {before : S} {sched : SchedState} {mid : L} {after : S}
     {totals : Totals} {fault : Option SinkFault} (p : IsPlan plan) (k : Loop l s plan n old before sched mid after totals fault)
-    (done : Implies sched (λ plan n fed. IsNext plan n fed next.Done)) (after_done : Implies sched (λ plan n fed. Follows plan n fed next.Done)) where
-  abbrev fed : Fed
+    (done : HoldsForEachRun sched (λ plan n fed. IsNext plan n fed next.Done)) (after_done : HoldsForEachRun sched (λ plan n fed. Follows plan n fed next.Done)) where
+  abbrev fed : Responses
   fed = k.fed
 
   abbrev T : Trace
@@ -43,9 +43,9 @@ module _ {L S : Type 0} {l : launcher.Ghosts L} {s : sink.Ghosts S} {plan : List
   f : Follows plan n fed next.Done
   f = after_done plan n fed k.stands
 
-  -- If `EndsAs` holds of the entries that the sink gained, `Ran` holds.
+  -- If `EndsAs` holds of the entries that the sink gained, `RunsPlan` holds.
   ran : {fault : Option SinkFault} (g : Gained s plan n fed totals fault before after) (result : Result Totals RunFault)
-      → EndsAs s.puts plan n T g.gained before after result → Ran l s plan n old mid before after result
+      → EndsAs s.puts plan n T g.gained before after result → RunsPlan l s plan n old mid before after result
   ran g result ends = record {
     trace = T;
     leads = k.going.leads;
@@ -59,7 +59,7 @@ module _ {L S : Type 0} {l : launcher.Ghosts L} {s : sink.Ghosts S} {plan : List
   }
 
   -- A run without a failed put returns its totals.
-  pub ran_well : fault ≡ None → Ran l s plan n old mid before after (Ok totals)
+  pub ran_well : fault ≡ None → RunsPlan l s plan n old mid before after (Ok totals)
   ran_well e =
       let g = subst (λ (o : Option SinkFault). Gained s plan n fed totals o before after) e k.gained in
       let w = f.1 (ap is_some g.gains.0) in
@@ -72,7 +72,7 @@ module _ {L S : Type 0} {l : launcher.Ghosts L} {s : sink.Ghosts S} {plan : List
           width = each_of T (λ U e y. y.width) k.going.rules;
           exclusive = each_of T (λ U e y. y.exclusive) k.going.rules;
           prompt = each_of T (λ U e y. y.prompt) k.going.rules;
-          busy = subst (λ (y : Option ℕ). Each (WaitsWhenBusy plan n) (up_to y T)) g.gains.0 k.until.busy;
+          busy = subst (λ (y : Option ℕ). HoldsAtEachEvent (WaitsWhenBusy plan n) (up_to y T)) g.gains.0 k.until.busy;
         };
         once = once;
         all = omega (arith, g.count, k.stands.puts.stored, stored, once.all);
@@ -81,7 +81,7 @@ module _ {L S : Type 0} {l : launcher.Ghosts L} {s : sink.Ghosts S} {plan : List
       })
 
   -- A run with a failed put returns the error of that put.
-  pub ran_short : (cause : SinkFault) → fault ≡ Some cause → Ran l s plan n old mid before after (Err (SinkFailed cause))
+  pub ran_short : (cause : SinkFault) → fault ≡ Some cause → RunsPlan l s plan n old mid before after (Err (SinkFailed cause))
   ran_short cause e =
       let g = subst (λ (o : Option SinkFault). Gained s plan n fed totals o before after) e k.gained in
       ran g (Err (SinkFailed cause)) (record {
@@ -93,6 +93,6 @@ module _ {L S : Type 0} {l : launcher.Ghosts L} {s : sink.Ghosts S} {plan : List
           width = each_of T (λ U e y. y.width) k.going.rules;
           exclusive = each_of T (λ U e y. y.exclusive) k.going.rules;
           prompt = each_of T (λ U e y. y.prompt) k.going.rules;
-          busy = subst (λ (y : Option ℕ). Each (WaitsWhenBusy plan n) (up_to y T)) g.gains.1 k.until.busy;
+          busy = subst (λ (y : Option ℕ). HoldsAtEachEvent (WaitsWhenBusy plan n) (up_to y T)) g.gains.1 k.until.busy;
         };
       })

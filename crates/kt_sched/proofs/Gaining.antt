@@ -2,7 +2,7 @@
 use Rattle.kt_base.specs.Kinds.{good as is_good}
 use Rattle.kt_sched.specs.declared.sink.Sink as sink
 use Rattle.kt_sched.specs.EntryOf as recorded
-use Rattle.kt_sched.proofs.Common.{slice_get, filter, Option, Some, None, map, Result, Ok, is_some, not, ◌≡◌, ◌≢◌, ℕ, ◌≤◌, ◌⊎◌, false, List, [], ◌∷◌, ◌++◌, length, take, refl, sym, ◌∙◌, ap, subst, arith, length-append, inl, inr, length-map, map-append, take-append-le, cases_eq, slice_get_within, Entry, Job, SinkFault, Totals, Event, Trace, Then, position_of, event_count, kind_of_event, history, is_whole, turns, Due, dues, puts_scheduled_at, finished_by, recorded, IsEntry, Gains, IsEntryOf, AreEntries, IsPlan, Fed, has_failed, IsUpToDate, counted, FailedPut, Counts, if◌then◌else◌, true, cases_lt, of, EventKind, BodyStarted, BodyRefused, BodyEnded, CleanupStarted, CleanupRefused, CleanupEnded, has_whole_history, AreWhole, WereOpen, NamesEachOnce, list_all, ◌==◌, Bool, ⊤, Start, End, NoEvent, Each, IsMoment, IsStorable, HasMoment, FitsAt}
+use Rattle.kt_sched.proofs.Common.{slice_get, filter, Option, Some, None, map, Result, Ok, is_some, not, ◌≡◌, ◌≢◌, ℕ, ◌≤◌, ◌⊎◌, false, List, [], ◌∷◌, ◌++◌, length, take, refl, sym, ◌∙◌, ap, subst, arith, length-append, inl, inr, length-map, map-append, take-append-le, cases_eq, slice_get_within, Entry, Job, SinkFault, Totals, Event, Trace, Then, position_of, event_count, kind_of_event, history, is_whole, turns, ScheduledPut, scheduled_puts, puts_scheduled_at, jobs_finished_by, recorded, IsEntry, PutsInOrder, IsEntryOf, AreEntries, IsPlan, Responses, has_failed, IsUpToDate, counted, HasFailedPut, Counts, if◌then◌else◌, true, cases_lt, of, EventKind, BodyStarted, BodyRefused, BodyEnded, CleanupStarted, CleanupRefused, CleanupEnded, has_whole_history, AreWhole, WerePutsAllowed, NamesEachOnce, list_all, ◌==◌, Bool, ⊤, Start, End, NoEvent, HoldsAtEachEvent, IsMoment, IsStorable, HasMoment, FitsAt}
 use Rattle.kt_sched.proofs.Lists.{in_append, append_left, count-cons, count_by-append, mapped_at, none_past, list_all_at, within_some}
 use Rattle.kt_sched.proofs.Turns.{of_other, opens_now}
 use Rattle.kt_sched.proofs.Once.{NotWhole, Recorded, recorded_event, is_done, names_once}
@@ -14,7 +14,7 @@ entries_more plan T (q ∷ ps) (f ∷ es) p e h x = (h.0, entries_more plan T ps
 entries_more plan T ps es p e h x = absurd h
 
 pub gains_more : {S : Type 0} (puts : S → Entry → Result (Unit {0}) SinkFault → S → Type 0) (es : List Entry) (e : Entry) (first last new : S)
-    → Gains puts es first last → puts last e (Ok tt) new → Gains puts (es ++ e ∷ []) first new
+    → PutsInOrder puts es first last → puts last e (Ok tt) new → PutsInOrder puts (es ++ e ∷ []) first new
 gains_more puts [] e first last new h x = (new, subst (λ s. puts s e (Ok tt) new) h x, refl)
 gains_more puts (f ∷ es) e first last new h x = (h.0, h.1, gains_more puts es e h.0 last new h.2 x)
 
@@ -28,17 +28,17 @@ counts_more es e t h =
       bad = omega (arith, h.bad, count_by-append q es (e ∷ []), count-cons q e []);
     }
 
-abbrev due_of : ℕ → Job → Due
+abbrev due_of : ℕ → Job → ScheduledPut
 due_of k job = record { position = job.position; after = k }
 
 -- Each put that is scheduled after `k` events has `k` as its number of events.
-pub due_put : (k : ℕ) (jobs : List Job) (j : ℕ) (p : Due) → slice_get (puts_scheduled_at k jobs) j ≡ Some p → p.after ≡ k
-due_put k jobs j p g = ap (λ (q : Due). q.after) (sym (mapped_at (due_of k) jobs j p g).2)
+pub due_put : (k : ℕ) (jobs : List Job) (j : ℕ) (p : ScheduledPut) → slice_get (puts_scheduled_at k jobs) j ≡ Some p → p.after ≡ k
+due_put k jobs j p g = ap (λ (q : ScheduledPut). q.after) (sym (mapped_at (due_of k) jobs j p g).2)
 
 -- `added plan n T e`: the puts that the event `e` after the events `T` schedules, in the run of
 -- `plan` with the width `n`.
-abbrev added : List Job → ℕ → Trace → Event → List Due
-added plan n T e = puts_scheduled_at (event_count (Then T e)) (finished_by plan T e) ++ puts_scheduled_at (event_count (Then T e)) (filter (opens_now plan n T e) (turns plan))
+abbrev added : List Job → ℕ → Trace → Event → List ScheduledPut
+added plan n T e = puts_scheduled_at (event_count (Then T e)) (jobs_finished_by plan T e) ++ puts_scheduled_at (event_count (Then T e)) (filter (opens_now plan n T e) (turns plan))
 
 -- Lemmas for an event `e` of a case whose history isn't whole.
 module _ (plan : List Job) (T : Trace) (e : Event) (h : NotWhole plan T (position_of e)) where
@@ -60,23 +60,23 @@ module _ (plan : List Job) (T : Trace) (e : Event) (h : NotWhole plan T (positio
 
 -- `AreDue plan n fed`: in the run of `plan` with the width `n`, each put that isn't stored yet is
 -- scheduled after the last event of the responses `fed`.
-abbrev pub AreDue : List Job → ℕ → Fed → Type 0
-AreDue plan n fed = (j : ℕ) (p : Due) → fed.stored ≤ j → slice_get (dues plan n fed.trace) j ≡ Some p → p.after ≡ event_count fed.trace
+abbrev pub AreDue : List Job → ℕ → Responses → Type 0
+AreDue plan n fed = (j : ℕ) (p : ScheduledPut) → fed.stored ≤ j → slice_get (scheduled_puts plan n fed.trace) j ≡ Some p → p.after ≡ event_count fed.trace
 
 -- `GainsUpTo puts plan n fed gained fault before after`: in the run of `plan` with the width `n`,
 -- the puts among the responses `fed` lead the sink from `before` to `after`. They are the puts of
 -- the entries `gained` and the put that failed with `fault`, if any. `puts` is the relation of a
 -- put.
-abbrev pub GainsUpTo : {S : Type 0} → (S → Entry → Result (Unit {0}) SinkFault → S → Type 0) → List Job → ℕ → Fed → List Entry → Option SinkFault → S → S
+abbrev pub GainsUpTo : {S : Type 0} → (S → Entry → Result (Unit {0}) SinkFault → S → Type 0) → List Job → ℕ → Responses → List Entry → Option SinkFault → S → S
     → Type 0
-GainsUpTo puts plan n fed gained None before after = (fed.stopped ≡ None) × Gains puts gained before after × AreDue plan n fed
-GainsUpTo puts plan n fed gained (Some fault) before after = (f : FailedPut puts plan n fed.trace gained fault before after) × (fed.stopped ≡ Some f.next.after)
+GainsUpTo puts plan n fed gained None before after = (fed.stopped ≡ None) × PutsInOrder puts gained before after × AreDue plan n fed
+GainsUpTo puts plan n fed gained (Some fault) before after = (f : HasFailedPut puts plan n fed.trace gained fault before after) × (fed.stopped ≡ Some f.next.after)
 
 -- `Gained s plan n fed totals fault before after`: in the run of `plan` with the width `n`, the
 -- puts among the responses `fed` lead the sink from `before` to `after`. `totals` counts the gained
 -- entries, and `fault` is the error of the last put, if it failed. `s` are the relations of the
 -- sink.
-pub record Gained {S : Type 0} (s : sink.Ghosts S) (plan : List Job) (n : ℕ) (fed : Fed) (totals : Totals) (fault : Option SinkFault)
+pub record Gained {S : Type 0} (s : sink.Ghosts S) (plan : List Job) (n : ℕ) (fed : Responses) (totals : Totals) (fault : Option SinkFault)
     (before after : S) : Type 0 where
   pub gained : List Entry
   pub count : length gained ≡ fed.stored
@@ -86,7 +86,7 @@ pub record Gained {S : Type 0} (s : sink.Ghosts S) (plan : List Job) (n : ℕ) (
   pub counts : Counts gained totals
   pub recorded : Recorded plan n fed.trace
 
-module _ {S : Type 0} {s : sink.Ghosts S} {plan : List Job} {n : ℕ} {fed : Fed} {totals : Totals} {fault : Option SinkFault} {before mid : S}
+module _ {S : Type 0} {s : sink.Ghosts S} {plan : List Job} {n : ℕ} {fed : Responses} {totals : Totals} {fault : Option SinkFault} {before mid : S}
     (g : Gained s plan n fed totals fault before mid) where
   -- The gained entries remain after an event, if all earlier puts were stored.
   pub gained_event : (ev : Event) → IsPlan plan → fed.stored ≤ length (recorded plan n fed.trace) → (has_failed fed ≡ false → IsUpToDate plan n fed)
@@ -94,7 +94,7 @@ module _ {S : Type 0} {s : sink.Ghosts S} {plan : List Job} {n : ℕ} {fed : Fed
   gained_event ev p within z h =
       let T = fed.trace in
       let xs = recorded plan n T in
-      let m : recorded plan n (Then T ev) ≡ xs ++ map (λ (p : Due). p.position) (added plan n T ev) = map-append (λ (p : Due). p.position) (dues plan n T)
+      let m : recorded plan n (Then T ev) ≡ xs ++ map (λ (p : ScheduledPut). p.position) (added plan n T ev) = map-append (λ (p : ScheduledPut). p.position) (scheduled_puts plan n T)
       (added plan n T ev) in
       let e : take fed.stored (recorded plan n (Then T ev)) ≡ take fed.stored xs = ap (take fed.stored) m ∙ take-append-le fed.stored xs _ within in
       record {
@@ -111,22 +111,22 @@ module _ {S : Type 0} {s : sink.Ghosts S} {plan : List Job} {n : ℕ} {fed : Fed
           → GainsUpTo s.puts plan n (record fed { trace = Then fed.trace ev }) g.gained fault before mid
       by None w =
           let k = event_count (Then fed.trace ev) in
-          let xs = finished_by plan fed.trace ev in
+          let xs = jobs_finished_by plan fed.trace ev in
           let ys = filter (opens_now plan n fed.trace ev) (turns plan) in
           let late = none_past (recorded plan n fed.trace) fed.stored (z (ap is_some w.0)) in
-          let same = length-map (dues plan n fed.trace) (λ (p : Due). p.position) in (
+          let same = length-map (scheduled_puts plan n fed.trace) (λ (p : ScheduledPut). p.position) in (
             w.0,
             w.1,
-            λ j p l x. elim (in_append (dues plan n fed.trace) (added plan n fed.trace ev) j p x) [
-              | inl u ↦ absurd (omega (arith, l, late, same, slice_get_within (dues plan n fed.trace) j p u))
-              | inr u ↦ due_put k (xs ++ ys) u.0 p (ap (λ (ps : List Due). slice_get ps u.0) (map-append (due_of k) xs ys) ∙ u.2)
+            λ j p l x. elim (in_append (scheduled_puts plan n fed.trace) (added plan n fed.trace ev) j p x) [
+              | inl u ↦ absurd (omega (arith, l, late, same, slice_get_within (scheduled_puts plan n fed.trace) j p u))
+              | inr u ↦ due_put k (xs ++ ys) u.0 p (ap (λ (ps : List ScheduledPut). slice_get ps u.0) (map-append (due_of k) xs ys) ∙ u.2)
             ],
           )
       by (Some fault) w =
           let f = w.0 in
-          let one : FailedPut s.puts plan n (Then fed.trace ev) g.gained fault before mid = record {
+          let one : HasFailedPut s.puts plan n (Then fed.trace ev) g.gained fault before mid = record {
             next = f.next;
-            is_next = append_left (dues plan n fed.trace) (added plan n fed.trace ev) (length g.gained) f.next f.is_next;
+            is_next = append_left (scheduled_puts plan n fed.trace) (added plan n fed.trace ev) (length g.gained) f.next f.is_next;
             refused = f.refused;
             refused_is = entry_stays plan fed.trace ev h f.next.position f.refused f.refused_is (cases_eq f.next.position (position_of ev));
             mid = f.mid;
@@ -158,7 +158,7 @@ four_calls plan T p h b i = elim (cases_lt i (length plan)) [
 ]
 
 -- If every history is whole and every decided case was open, the record order has each case once.
-pub named_once : {plan : List Job} (n : ℕ) (T : Trace) → IsPlan plan → list_all (has_whole_history T) plan ≡ true → WereOpen plan n T → Recorded plan n T
+pub named_once : {plan : List Job} (n : ℕ) (T : Trace) → IsPlan plan → list_all (has_whole_history T) plan ≡ true → WerePutsAllowed plan n T → Recorded plan n T
     → NamesEachOnce plan (recorded plan n T)
 named_once {plan} n T p w o r = names_once n T p r done
   where
@@ -181,7 +181,7 @@ good_moment : (plan : List Job) (T : Trace) (e : Event) → FitsAt plan T e → 
 good_moment plan T (Start i role answer) f = f
 good_moment plan T (End ended) f = f.0
 
-timely_of : (plan : List Job) (i : ℕ) (T : Trace) → Each (FitsAt plan) T → AreTimely (of i T)
+timely_of : (plan : List Job) (i : ℕ) (T : Trace) → HoldsAtEachEvent (FitsAt plan) T → AreTimely (of i T)
 timely_of plan i NoEvent h = tt
 timely_of plan i (Then T e) h = by (position_of e == i) (timely_of plan i T h.0)
   where
@@ -197,5 +197,5 @@ storable job _ _ (recorded.uncleaned i m e j cause body v w x) t = record { star
 storable job _ _ (recorded.cleaned i m e j k f body v w x) t = record { started = t.0; millis = omega (arith, t.1.1.1.0) }
 
 -- An entry is storable if the timestamps of its trace are in the range.
-pub storable_entry : (plan : List Job) (T : Trace) (i : ℕ) (entry : Entry) → Each (FitsAt plan) T → IsEntryOf plan T i entry → IsStorable entry
+pub storable_entry : (plan : List Job) (T : Trace) (i : ℕ) (entry : Entry) → HoldsAtEachEvent (FitsAt plan) T → IsEntryOf plan T i entry → IsStorable entry
 storable_entry plan T i entry f w = storable w.job (of i T) entry w.entry_is (timely_of plan i T f)

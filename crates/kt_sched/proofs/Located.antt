@@ -1,5 +1,5 @@
 -- The facts that a state implies for one case.
-use Rattle.kt_sched.proofs.Common.{Bool, is_waiting_stage, is_decided_stage, HasExclusive, HasDecided, slice_get, Option, Some, None, map, ◌≡◌, ◌≢◌, ℕ, ◌<◌, ◌⊎◌, true, false, List, [], length, refl, sym, ◌∙◌, ap, subst, arith, slice_set, inl, inr, false_from_ne_true, cases_eq, cases_lt, length-map, ◌≤◌, slice_get-map, slice_get_read, slice_get_within, get_or, Role, Body, Cleanup, Job, Next, Stage, Owing, Taken, EndedBody, Case, Event, Trace, of, kind_of_event, history, is_active, active, turns, Fed, role_runs, runs, stage_runs, SchedState, Stands, RepresentsCase, IsStage, IsAsked, is_active_stage, is_owing_stage, is_owed}
+use Rattle.kt_sched.proofs.Common.{Bool, is_waiting_stage, is_decided_stage, HasExclusiveFlag, HasDecidedFlag, slice_get, Option, Some, None, map, ◌≡◌, ◌≢◌, ℕ, ◌<◌, ◌⊎◌, true, false, List, [], length, refl, sym, ◌∙◌, ap, subst, arith, slice_set, inl, inr, false_from_ne_true, cases_eq, cases_lt, length-map, ◌≤◌, slice_get-map, slice_get_read, slice_get_within, get_or, Role, Body, Cleanup, Job, Next, Stage, PendingCleanup, Taken, EndedBody, Case, Event, Trace, of, kind_of_event, history, is_active, active, turns, Responses, role_runs, runs, stage_runs, SchedState, RepresentsRun, RepresentsCase, IsStage, HasRequested, is_active_stage, is_pending_stage, is_pending_case}
 use Rattle.kt_sched.specs.declared.next.Next.TheVariants as next
 use Rattle.kt_sched.proofs.Lists.{within_some, mapped_at, slice_get-set_other, slice_get-set_same, counted_some, counted_one, counted_none, count_alike}
 use Rattle.kt_sched.proofs.Turns.{turn_inside, turn_distinct}
@@ -10,7 +10,7 @@ use Rattle.kt_base.proofs.Lists.{same_number}
 
 -- `AtTurn plan fed b i`: in the state `b` after the responses `fed`, case `i` of `plan` is at the
 -- turn, and is not begun.
-pub record AtTurn (plan : List Job) (fed : Fed) (b : SchedState) (i : ℕ) : Type 0 where
+pub record AtTurn (plan : List Job) (fed : Responses) (b : SchedState) (i : ℕ) : Type 0 where
   pub job : Job
   pub turn : slice_get (turns plan) b.turn ≡ Some job
   pub at : job.position ≡ i
@@ -58,15 +58,15 @@ module _ (xs : List Case) (i : ℕ) (old new : Case) (g : slice_get xs i ≡ Som
   ]
 
 -- Facts of the case at the turn.
-module _ {plan : List Job} {fed : Fed} {b : SchedState} {i : ℕ} {flag : Bool} (a : AtTurn plan fed b i) where
-  pub exclusive_is : HasExclusive b.cases i flag → a.job.exclusive ≡ flag
+module _ {plan : List Job} {fed : Responses} {b : SchedState} {i : ℕ} {flag : Bool} (a : AtTurn plan fed b i) where
+  pub exclusive_is : HasExclusiveFlag b.cases i flag → a.job.exclusive ≡ flag
   exclusive_is x =
       ap (λ (j : Job). j.exclusive) (sym a.kept) ∙ (ap (λ (c : Case). c.job.exclusive) (same_Some a.case x.0 (sym a.found ∙ x.1)) ∙ x.2)
 
-  pub decided_is : HasDecided b.cases i flag → is_decided_stage a.case.stage ≡ flag
+  pub decided_is : HasDecidedFlag b.cases i flag → is_decided_stage a.case.stage ≡ flag
   decided_is x = ap (λ (c : Case). is_decided_stage c.stage) (same_Some a.case x.0 (sym a.found ∙ x.1)) ∙ x.2
 
-module _ {plan : List Job} {n : ℕ} {fed : Fed} {b : SchedState} (h : Stands plan n fed b) where
+module _ {plan : List Job} {n : ℕ} {fed : Responses} {b : SchedState} (h : RepresentsRun plan n fed b) where
   -- The stage of a case represents the events of that case.
   pub at_place : (i : ℕ) (job had : Job) (was : Stage) → slice_get plan i ≡ Some job → slice_get b.cases i ≡ Some (record { job = had; stage = was })
       → IsStage i job was (of i fed.trace) × (was ≢ Taken → had ≡ job)
@@ -149,22 +149,22 @@ module _ {plan : List Job} {n : ℕ} {fed : Fed} {b : SchedState} (h : Stands pl
 
   -- The step asked fits the state.
 
-  pub asked_as : (q : Next) → b.asked ≡ q → IsAsked b q
-  asked_as q e = subst (IsAsked b) e h.asked
+  pub asked_as : (q : Next) → b.asked ≡ q → HasRequested b q
+  asked_as q e = subst (HasRequested b) e h.asked
 
   pub asked_within : (i : ℕ) (role : Role) → b.asked ≡ next.Start i role → i < length b.cases
   asked_within i Body q = start_within b.turn i (asked_as (next.Start i Body) q).2.1
   asked_within i Cleanup q = h.cases.owed_within i (asked_as (next.Start i Cleanup) q).1
 
   -- The pending case owes its cleanup.
-  pub owes : (i : ℕ) → b.pending ≡ Some i → (had : Job) × (o : EndedBody) × (slice_get b.cases i ≡ Some (record { job = had; stage = Owing o }))
+  pub owes : (i : ℕ) → b.pending ≡ Some i → (had : Job) × (o : EndedBody) × (slice_get b.cases i ≡ Some (record { job = had; stage = PendingCleanup o }))
   owes i q =
       let c = within_some b.cases i (h.cases.owed_within i q) in
-      let e = owing_stage c.0.stage (h.cases.owing i c.0 c.1 ∙ (ap (λ (o : Option ℕ). is_owed o i) q ∙ same_number i)) in
+      let e = owing_stage c.0.stage (h.cases.owing i c.0 c.1 ∙ (ap (λ (o : Option ℕ). is_pending_case o i) q ∙ same_number i)) in
       (c.0.job, e.0, subst (λ (s : Stage). slice_get b.cases i ≡ Some (record { job = c.0.job; stage = s })) e.1 c.1)
 
-  pub none_owing : b.pending ≡ None → (k : ℕ) (c : Case) → slice_get b.cases k ≡ Some c → is_owing_stage c.stage ≡ false
-  none_owing p k c g = h.cases.owing k c g ∙ ap (λ (o : Option ℕ). is_owed o k) p
+  pub none_owing : b.pending ≡ None → (k : ℕ) (c : Case) → slice_get b.cases k ≡ Some c → is_pending_stage c.stage ≡ false
+  none_owing p k c g = h.cases.owing k c g ∙ ap (λ (o : Option ℕ). is_pending_case o k) p
 
   -- Running children.
 

@@ -1,6 +1,6 @@
 -- The run loop: its invariant, and how each response keeps it.
 use Rattle.kt_base.specs.Kinds.{good as is_good}
-use Rattle.kt_sched.proofs.Common.{Bool, option_map, Option, Some, None, is_some, not, Ok, Err, ◌^◌, ◌≡◌, ◌<◌, ℕ, ◌+◌, ◌-◌, true, false, if◌then◌else◌, ◌==◌, List, [], ◌∷◌, ◌++◌, refl, append-nil, append_assoc, length-append, count_by-le-length, false_from_ne_true, filter, take, length, slice_get, slice_get_within, sym, ◌∙◌, ap, subst, arith, Role, Body, Cleanup, Entry, Job, StartAnswer, Ended, SinkFault, Totals, Child, IsEvidence, IsIdle, IsMoment, HasMoment, MayStart, IsPlan, IsEntryOf, AreEntries, IsStorable, Start, End, Each, FitsAt, Trace, event_count, owed, is_owed, history, is_whole, runs, turns, recorded, Due, dues, is_open, running_after_start, running_after_end, pending_after_start, pending_after_end, child_of, CanCount, counted, FailedPut, Fed, responses_after_put, no_responses, IsNext, Follows, NoEvent, Case, Implies, SchedState, Stands, RecordsEvent, stage_runs, Then}
+use Rattle.kt_sched.proofs.Common.{Bool, option_map, Option, Some, None, is_some, not, Ok, Err, ◌^◌, ◌≡◌, ◌<◌, ℕ, ◌+◌, ◌-◌, true, false, if◌then◌else◌, ◌==◌, List, [], ◌∷◌, ◌++◌, refl, append-nil, append_assoc, length-append, count_by-le-length, false_from_ne_true, filter, take, length, slice_get, slice_get_within, sym, ◌∙◌, ap, subst, arith, Role, Body, Cleanup, Entry, Job, StartAnswer, Ended, SinkFault, Totals, Child, IsEvidence, IsIdle, IsMoment, HasMoment, MayStart, IsPlan, IsEntryOf, AreEntries, IsStorable, Start, End, HoldsAtEachEvent, FitsAt, Trace, event_count, pending_cleanup, is_pending_case, history, is_whole, runs, turns, recorded, ScheduledPut, scheduled_puts, is_put_allowed, running_after_start, running_after_end, pending_after_start, pending_after_end, child_of, CanCount, counted, HasFailedPut, Responses, responses_after_put, no_responses, IsNext, Follows, NoEvent, Case, HoldsForEachRun, SchedState, RepresentsRun, RecordsEvent, stage_runs, Then}
 use Rattle.kt_sched.specs.declared.next.Next.TheVariants as next
 use Rattle.kt_sched.specs.declared.launcher.Launcher as launcher
 use Rattle.kt_sched.specs.declared.sink.Sink as sink
@@ -19,15 +19,15 @@ use Rattle.kt_base.proofs.Lists.{same_number}
 -- that were put, and `fault` is the error of the failed put, if any.
 pub record Loop {L S : Type 0} (l : launcher.Ghosts L) (s : sink.Ghosts S) (plan : List Job) (n : ℕ) (old : L) (before : S) (sched : SchedState) (new : L)
     (after : S) (totals : Totals) (fault : Option SinkFault) : Type 0 where
-  pub fed : Fed
-  pub stands : Stands plan n fed sched
+  pub fed : Responses
+  pub stands : RepresentsRun plan n fed sched
   pub going : Going l plan n fed.trace old new
   pub until : Until plan n fed.stopped fed.trace
   pub gained : Gained s plan n fed totals fault before after
   pub asked : sched.asked ≡ next.Done
 
 module _ {L S : Type 0} (l : launcher.Ghosts L) (s : sink.Ghosts S) (plan : List Job) (n : ℕ) (old : L) (before : S) where
-  pub loop_first : (sched : SchedState) (totals : Totals) → Stands plan n no_responses sched → sched.asked ≡ next.Done → IsIdle (l.running old) (l.pending old)
+  pub loop_first : (sched : SchedState) (totals : Totals) → RepresentsRun plan n no_responses sched → sched.asked ≡ next.Done → IsIdle (l.running old) (l.pending old)
       → totals ≡ record { total = 0; good = 0; bad = 0 } → Loop l s plan n old before sched old before totals None
   loop_first sched totals h a i t = record {
     fed = no_responses;
@@ -39,7 +39,7 @@ module _ {L S : Type 0} (l : launcher.Ghosts L) (s : sink.Ghosts S) (plan : List
       count = refl;
       are = tt;
       kept = λ put h. subst (s.entries before) (sym (append-nil put)) h;
-      gains = (refl, refl, λ j p l g. due_put 0 (filter (is_open plan n NoEvent) (turns plan)) j p g);
+      gains = (refl, refl, λ j p l g. due_put 0 (filter (is_put_allowed plan n NoEvent) (turns plan)) j p g);
       counts = record { total = rw t refl; good = rw t refl; bad = rw t refl };
       recorded = recorded_first plan n;
     };
@@ -52,17 +52,17 @@ module _ {L S : Type 0} (l : launcher.Ghosts L) (s : sink.Ghosts S) (plan : List
 
 module _ {L S : Type 0} {l : launcher.Ghosts L} {s : sink.Ghosts S} {plan : List Job} {n : ℕ} {old : L} {before : S} {sched : SchedState} {mid : L} {after : S}
     {totals : Totals} {fault : Option SinkFault} (p : IsPlan plan) (k : Loop l s plan n old before sched mid after totals fault) where
-  abbrev fed : Fed
+  abbrev fed : Responses
   fed = k.fed
 
   abbrev T : Trace
   T = k.fed.trace
 
-  pub fits : Each (FitsAt plan) T
+  pub fits : HoldsAtEachEvent (FitsAt plan) T
   fits = each_of T (λ U e y. y.fits) k.going.rules
 
-  pub owes : {o : Option ℕ} → owed plan T ≡ o → (j : ℕ) → l.pending mid j ≡ is_owed o j
-  owes e j = k.going.owes j ∙ ap (λ (o : Option ℕ). is_owed o j) e
+  pub owes : {o : Option ℕ} → pending_cleanup plan T ≡ o → (j : ℕ) → l.pending mid j ≡ is_pending_case o j
+  owes e j = k.going.owes j ∙ ap (λ (o : Option ℕ). is_pending_case o j) e
 
   -- The launcher may start the job of the next step.
 
@@ -87,9 +87,9 @@ module _ {L S : Type 0} {l : launcher.Ghosts L} {s : sink.Ghosts S} {plan : List
     due = x.0;
   }
 
-  module _ (i : ℕ) (role : Role) (x : Implies sched (λ plan n fed. IsNext plan n fed (next.Start i role)))
-      (f : Implies sched (λ plan n fed. Follows plan n fed (next.Start i role)))
-      (b : SchedState) (y : Implies sched (λ plan n fed. Stands plan n fed b)) (job : Job) (g : Implies b (λ plan n fed. slice_get plan i ≡ Some job)) where
+  module _ (i : ℕ) (role : Role) (x : HoldsForEachRun sched (λ plan n fed. IsNext plan n fed (next.Start i role)))
+      (f : HoldsForEachRun sched (λ plan n fed. Follows plan n fed (next.Start i role)))
+      (b : SchedState) (y : HoldsForEachRun sched (λ plan n fed. RepresentsRun plan n fed b)) (job : Job) (g : HoldsForEachRun b (λ plan n fed. slice_get plan i ≡ Some job)) where
     place : slice_get plan i ≡ Some job
     place = g plan n fed (y plan n fed k.stands)
 
@@ -120,14 +120,14 @@ module _ {L S : Type 0} {l : launcher.Ghosts L} {s : sink.Ghosts S} {plan : List
 
   -- If the next step is a wait, a child runs.
 
-  pub loop_may_wait : Implies sched (λ plan n fed. Follows plan n fed next.Wait) → (i : ℕ) × (role : Role) × (child : Child) × (l.running mid i role ≡ Some child)
+  pub loop_may_wait : HoldsForEachRun sched (λ plan n fed. Follows plan n fed next.Wait) → (i : ℕ) × (role : Role) × (child : Child) × (l.running mid i role ≡ Some child)
   loop_may_wait f =
       let w = f plan n fed k.stands in
       let shown = ap (λ (b : Bool). if b then child_at plan w.0 else None) w.3 ∙ ap (option_map child_of) w.4 in
       (w.0, w.1, child_of w.2, k.going.runs w.0 w.1 ∙ shown)
 
   module _ (e : Ended) (w : (child : Child) × (l.running mid e.position e.role ≡ Some child) × IsEvidence child.interface e.role e.evidence) (b : SchedState)
-      (y : Implies sched (λ plan n fed. Stands plan n fed b)) where
+      (y : HoldsForEachRun sched (λ plan n fed. RepresentsRun plan n fed b)) where
     -- The child that ended is a child of the plan.
     one : (runs e.position e.role T ≡ true) × ((job : Job) × (slice_get plan e.position ≡ Some job) × (w.0 ≡ child_of job))
     one = runs_true plan T e.position e.role w.0 (sym (k.going.runs e.position e.role) ∙ w.1)
@@ -135,7 +135,7 @@ module _ {L S : Type 0} {l : launcher.Ghosts L} {s : sink.Ghosts S} {plan : List
     pub loop_runs : (c : Case) × (slice_get b.cases e.position ≡ Some c) × (stage_runs e.role c.stage ≡ true)
     loop_runs = runs_stage (y plan n fed k.stands) e.position e.role one.0
 
-    pub loop_end : (new : L) (later : SchedState) → Implies sched (λ plan n fed. IsNext plan n fed next.Wait) → l.waits mid e new → IsMoment e.moment
+    pub loop_end : (new : L) (later : SchedState) → HoldsForEachRun sched (λ plan n fed. IsNext plan n fed next.Wait) → l.waits mid e new → IsMoment e.moment
         → ((k : ℕ) (r : Role) → l.running new k r ≡ running_after_end (l.running mid) e k r)
         → ((k : ℕ) → l.pending new k ≡ pending_after_end (l.running mid) (l.pending mid) e k)
         → RecordsEvent b (End e) later → Loop l s plan n old before later new after totals fault
@@ -158,7 +158,7 @@ module _ {L S : Type 0} {l : launcher.Ghosts L} {s : sink.Ghosts S} {plan : List
 
   -- The put of an entry that was taken.
 
-  module _ (i : ℕ) (put_next : Implies sched (λ plan n fed. IsNext plan n fed (next.Put i))) where
+  module _ (i : ℕ) (put_next : HoldsForEachRun sched (λ plan n fed. IsNext plan n fed (next.Put i))) where
     x : IsNext plan n fed (next.Put i)
     x = put_next plan n fed k.stands
 
@@ -169,21 +169,21 @@ module _ {L S : Type 0} {l : launcher.Ghosts L} {s : sink.Ghosts S} {plan : List
       bad = omega (arith, g.counts.total, g.counts.bad, count_by-le-length (λ (e : Entry). not (is_good e.verdict.kind)) g.gained);
     }
 
-    module _ (b : SchedState) (y : Implies sched (λ plan n fed. Stands plan n fed b)) (e : Entry) (v : Implies b (λ plan n fed. IsEntryOf plan fed.trace i e)) where
+    module _ (b : SchedState) (y : HoldsForEachRun sched (λ plan n fed. RepresentsRun plan n fed b)) (e : Entry) (v : HoldsForEachRun b (λ plan n fed. IsEntryOf plan fed.trace i e)) where
       w : IsEntryOf plan T i e
       w = v plan n fed (y plan n fed k.stands)
 
       pub loop_storable : IsStorable e
       loop_storable = storable_entry plan T i e fits w
 
-      module _ (c later : SchedState) (taken : Implies b (λ plan n fed. Stands plan n fed c)) (d : later.asked ≡ next.Done)
+      module _ (c later : SchedState) (taken : HoldsForEachRun b (λ plan n fed. RepresentsRun plan n fed c)) (d : later.asked ≡ next.Done)
           (new : S) where
-        now : Stands plan n fed c
+        now : RepresentsRun plan n fed c
         now = taken plan n fed (y plan n fed k.stands)
 
         pub loop_put : (more : Totals) → more ≡ counted totals e.verdict.kind → s.puts after e (Ok tt) new
             → ((put : List Entry) → s.entries after put → s.entries new (put ++ e ∷ []))
-            → Implies c (λ plan n fed. Stands plan n (responses_after_put fed false) later) → Loop l s plan n old before later mid new more fault
+            → HoldsForEachRun c (λ plan n fed. RepresentsRun plan n (responses_after_put fed false) later) → Loop l s plan n old before later mid new more fault
         loop_put more m u o z = let g = k.gained in record {
           fed = responses_after_put fed false;
           stands = z plan n fed now;
@@ -209,7 +209,7 @@ module _ {L S : Type 0} {l : launcher.Ghosts L} {s : sink.Ghosts S} {plan : List
 
         -- The invariant holds after a put that failed.
         pub loop_failed : (cause : SinkFault) → s.puts after e (Err cause) new → ((put : List Entry) → s.entries after put → s.entries new put)
-            → Implies c (λ plan n fed. Stands plan n (responses_after_put fed true) later)
+            → HoldsForEachRun c (λ plan n fed. RepresentsRun plan n (responses_after_put fed true) later)
             → Loop l s plan n old before later mid new totals (Some cause)
         loop_failed cause u o z = let g = k.gained in record {
           fed = responses_after_put fed true;
@@ -231,10 +231,10 @@ module _ {L S : Type 0} {l : launcher.Ghosts L} {s : sink.Ghosts S} {plan : List
             by : (fault : Option SinkFault) → GainsUpTo s.puts plan n fed k.gained.gained fault before after
                 → GainsUpTo s.puts plan n (record fed { stopped = Some (event_count T) }) k.gained.gained (Some cause) before new
             by None y =
-                let m = mapped_at (λ (q : Due). q.position) (dues plan n T) fed.stored i x.1 in
-                let one : FailedPut s.puts plan n T k.gained.gained cause before new = record {
+                let m = mapped_at (λ (q : ScheduledPut). q.position) (scheduled_puts plan n T) fed.stored i x.1 in
+                let one : HasFailedPut s.puts plan n T k.gained.gained cause before new = record {
                   next = m.0;
-                  is_next = ap (slice_get (dues plan n T)) k.gained.count ∙ m.1;
+                  is_next = ap (slice_get (scheduled_puts plan n T)) k.gained.count ∙ m.1;
                   refused = e;
                   refused_is = subst (λ (k : ℕ). IsEntryOf plan T k e) (sym m.2) w;
                   mid = after;

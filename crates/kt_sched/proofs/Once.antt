@@ -1,5 +1,5 @@
 -- Each position is in the record order once.
-use Rattle.kt_sched.proofs.Common.{ne_eqb, slice_get, filter, count_by, Some, ◌==◌, ◌&&◌, if◌then◌else◌, ◌≡◌, ◌≢◌, ℕ, suc, ◌+◌, ◌≤◌, Bool, true, false, cond, List, [], ◌∷◌, ◌++◌, length, refl, sym, ◌∙◌, ap, arith, inl, inr, and_from, nat_tests, cases_lt, length-filter, count_by-le-length, slice_get_within, Job, Event, Trace, NoEvent, Then, position_of, history, is_whole, has_whole_history, turns, finished_by, is_open, was_open, recorded, IsPlan, is_decided, positions, NamesEachOnce}
+use Rattle.kt_sched.proofs.Common.{ne_eqb, slice_get, filter, count_by, Some, ◌==◌, ◌&&◌, if◌then◌else◌, ◌≡◌, ◌≢◌, ℕ, suc, ◌+◌, ◌≤◌, Bool, true, false, cond, List, [], ◌∷◌, ◌++◌, length, refl, sym, ◌∙◌, ap, arith, inl, inr, and_from, nat_tests, cases_lt, length-filter, count_by-le-length, slice_get_within, Job, Event, Trace, NoEvent, Then, position_of, history, is_whole, has_whole_history, turns, jobs_finished_by, is_put_allowed, was_put_allowed, recorded, IsPlan, is_decided, positions, NamesEachOnce}
 use Rattle.kt_sched.proofs.Lists.{counted_one, counted_only, count-cons, count_alike, count_by-append, filter_none, within_some}
 use Rattle.kt_sched.proofs.Turns.{count_turns, history_other, put_at_positions, recorded_more, finishes, opens_now}
 use Rattle.std.proofs.lemmas.Option.{same_Some}
@@ -8,7 +8,7 @@ use Rattle.kt_base.proofs.Lists.{same_number}
 -- `is_done plan n T job`: in the run of `plan` with the width `n`, the events `T` schedule the put
 -- of the entry of `job`.
 abbrev pub is_done : List Job → ℕ → Trace → Job → Bool
-is_done plan n T job = if is_decided job then was_open plan n T job else has_whole_history T job
+is_done plan n T job = if is_decided job then was_put_allowed plan n T job else has_whole_history T job
 
 -- `NotWhole plan T i`: the history of case `i` of `plan` in the trace `T` isn't whole.
 abbrev pub NotWhole : List Job → Trace → ℕ → Type 0
@@ -57,7 +57,7 @@ module _ (plan : List Job) (n : ℕ) (T : Trace) (e : Event) (p : IsPlan plan) (
 
   pub recorded_event : Recorded plan n T → Recorded plan n (Then T e)
   recorded_event r q =
-      let xs = positions (finished_by plan T e) in
+      let xs = positions (jobs_finished_by plan T e) in
       let ys = positions (filter (opens_now plan n T e) (turns plan)) in
       let all = ap (count_by q) (recorded_more plan n T e)
       ∙ (count_by-append q (recorded plan n T) (xs ++ ys) ∙ ap (λ k. count_by q (recorded plan n T) + k) (count_by-append q xs ys)) in
@@ -70,14 +70,14 @@ module _ (plan : List Job) (n : ℕ) (T : Trace) (e : Event) (p : IsPlan plan) (
 
 pub recorded_first : (plan : List Job) (n : ℕ) → Recorded plan n NoEvent
 recorded_first plan n q =
-    ap (count_by q) (put_at_positions 0 (filter (is_open plan n NoEvent) (turns plan)))
-    ∙ (count_positions q (is_open plan n NoEvent) (turns plan)
-    ∙ (count_turns (λ job. q job.position && is_open plan n NoEvent job) plan
-    ∙ count_alike (λ job. q job.position && is_open plan n NoEvent job) (λ job. q job.position && is_done plan n NoEvent job) plan plan refl
+    ap (count_by q) (put_at_positions 0 (filter (is_put_allowed plan n NoEvent) (turns plan)))
+    ∙ (count_positions q (is_put_allowed plan n NoEvent) (turns plan)
+    ∙ (count_turns (λ job. q job.position && is_put_allowed plan n NoEvent job) plan
+    ∙ count_alike (λ job. q job.position && is_put_allowed plan n NoEvent job) (λ job. q job.position && is_done plan n NoEvent job) plan plan refl
     (λ i x y g k. ap (λ b. q x.position && b) (at_first x)
     ∙ ap (λ (job : Job). q job.position && is_done plan n NoEvent job) (same_Some x y (sym g ∙ k)))))
   where
-    at_first : (job : Job) → is_open plan n NoEvent job ≡ is_done plan n NoEvent job
+    at_first : (job : Job) → is_put_allowed plan n NoEvent job ≡ is_done plan n NoEvent job
     at_first job = grind arith
 
 count_all : {X : Type 0} (xs : List X) → count_by (λ (x : X). true) xs ≡ length xs

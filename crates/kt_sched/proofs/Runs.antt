@@ -1,5 +1,5 @@
 -- The running children and the owed cleanups after a trace, and the rules that a trace keeps.
-use Rattle.kt_sched.proofs.Common.{is_some, IfSome, append-nil, ◌≤◌, arith, nat_tests, MayStart, HasMoment, NoEvent, Leads, first, event_count, body_starts, body_start_of, Each, KeepsWidth, KeepsExclusive, StartsOwedCleanup, WaitsWhenBusy, Fed, FitsAt, has_failed, IsUpToDate, MayStartNow, pending_after_start, slice_get, Option, Some, None, if◌then◌else◌, ◌&&◌, ◌≡◌, ◌≢◌, ℕ, ◌==◌, Bool, true, false, List, [], ◌∷◌, ◌++◌, refl, sym, ◌∙◌, ap, subst, option_map, Role, Body, Cleanup, Job, StartAnswer, Ended, Child, child_of, same_role, running_after_start, running_after_end, pending_after_end, with_cleanup_declared, Event, Start, End, Trace, Then, position_of, EventKind, BodyStarted, BodyEnded, CleanupStarted, kind_of_event, end_kind, history, owed, declares, is_owed, role_runs, runs}
+use Rattle.kt_sched.proofs.Common.{is_some, IfSome, append-nil, ◌≤◌, arith, nat_tests, MayStart, HasMoment, NoEvent, Leads, first, event_count, body_starts, body_start_of, HoldsAtEachEvent, KeepsWidth, KeepsExclusive, StartsPendingCleanup, WaitsWhenBusy, Responses, FitsAt, has_failed, IsUpToDate, MayStartNow, pending_after_start, slice_get, Option, Some, None, if◌then◌else◌, ◌&&◌, ◌≡◌, ◌≢◌, ℕ, ◌==◌, Bool, true, false, List, [], ◌∷◌, ◌++◌, refl, sym, ◌∙◌, ap, subst, option_map, Role, Body, Cleanup, Job, StartAnswer, Ended, Child, child_of, is_same_role, running_after_start, running_after_end, pending_after_end, has_declared_cleanup, Event, Start, End, Trace, Then, position_of, EventKind, BodyStarted, BodyEnded, CleanupStarted, kind_of_event, end_kind, history, pending_cleanup, case_declares_cleanup, is_pending_case, role_runs, runs}
 use Rattle.kt_sched.specs.declared.job.StartAnswer.TheVariants as start
 use Rattle.kt_sched.specs.declared.launcher.Launcher as launcher
 use Rattle.kt_sched.proofs.Turns.{history_same, history_other}
@@ -46,19 +46,19 @@ runs_now plan T i r w d = ap (runs_by plan i r) d
 module _ (plan : List Job) (T : Trace) (running : ℕ → Role → Option Child) (h : (j : ℕ) (s : Role) → running j s ≡ running_of plan T j s) where
   -- An event changes the running child of its case and role, and no other.
   changed : (e : Event) (role r : Role) (k : ℕ) (x : Option Child)
-      → (if same_role r role then x else running (position_of e) r) ≡ running_of plan (Then T e) (position_of e) r
-      → (if k == position_of e && same_role r role then x else running k r) ≡ running_of plan (Then T e) k r
+      → (if is_same_role r role then x else running (position_of e) r) ≡ running_of plan (Then T e) (position_of e) r
+      → (if k == position_of e && is_same_role r role then x else running k r) ≡ running_of plan (Then T e) k r
   changed e role r k x y = grind (arith, nat_tests, y, h k r, runs_other plan T e k r)
 
   module _ (i : ℕ) (job : Job) (role r : Role) (g : slice_get plan i ≡ Some job) (p : job.position ≡ i) (w : history i T ≡ history_before role) where
     pub start_runs : (a : StartAnswer) (k : ℕ) → running_after_start running job role a k r ≡ running_of plan (Then T (Start i role a)) k r
     start_runs (start.Started m) k =
-        ap (λ j. if k == j && same_role r role then Some (child_of job) else running k r) p
+        ap (λ j. if k == j && is_same_role r role then Some (child_of job) else running k r) p
         ∙ changed (Start i role (start.Started m)) role r k (Some (child_of job)) (starts role r (h i r ∙ runs_now plan T i r (history_before role) w)
         ∙ sym (runs_same plan T (Start i role (start.Started m)) r (history_before role) w))
       where
         starts : (role r : Role) → running i r ≡ runs_by plan i r (history_before role)
-            → (if same_role r role then Some (child_of job) else running i r) ≡ runs_by plan i r (history_before role ++ kind_of_event (Start i role (start.Started m)) ∷ [])
+            → (if is_same_role r role then Some (child_of job) else running i r) ≡ runs_by plan i r (history_before role ++ kind_of_event (Start i role (start.Started m)) ∷ [])
         starts Body Body e = sym (ap (option_map child_of) g)
         starts Cleanup Cleanup e = sym (ap (option_map child_of) g)
         starts role r e = e
@@ -82,28 +82,28 @@ module _ (plan : List Job) (T : Trace) (running : ℕ → Role → Option Child)
         ∙ sym (runs_same plan T (End e) r (history_while e.role) w))
       where
         ends : (role r : Role) → running e.position r ≡ runs_by plan e.position r (history_while role)
-            → (if same_role r role then None else running e.position r) ≡ runs_by plan e.position r (history_while role ++ end_kind role ∷ [])
+            → (if is_same_role r role then None else running e.position r) ≡ runs_by plan e.position r (history_while role ++ end_kind role ∷ [])
         ends Body Body e = refl
         ends Cleanup Cleanup e = refl
         ends role r e = e
 
-    pub end_owes : (pending : ℕ → Bool) → pending k ≡ false → pending_after_end running pending e k ≡ is_owed (owed plan (Then T (End e))) k
+    pub end_owes : (pending : ℕ → Bool) → pending k ≡ false → pending_after_end running pending e k ≡ is_pending_case (pending_cleanup plan (Then T (End e))) k
     end_owes pending p =
         rw p (ap (λ b. if k == e.position && b then true else false) (declared e.role refl)
-        ∙ owed_by (same_role e.role Body && declares plan e.position))
+        ∙ owed_by (is_same_role e.role Body && case_declares_cleanup plan e.position))
       where
-        declared_is : (o : Option Job) → with_cleanup_declared (option_map child_of o) ≡ (elim o as (λ _. Bool) [ None ↦ false | Some job ↦ job.cleanup ])
+        declared_is : (o : Option Job) → has_declared_cleanup (option_map child_of o) ≡ (elim o as (λ _. Bool) [ None ↦ false | Some job ↦ job.cleanup ])
         declared_is None = refl
         declared_is (Some job) = refl
 
         declared : (role : Role) → e.role ≡ role
-            → (same_role e.role Body && with_cleanup_declared (running e.position Body)) ≡ (same_role e.role Body && declares plan e.position)
+            → (is_same_role e.role Body && has_declared_cleanup (running e.position Body)) ≡ (is_same_role e.role Body && case_declares_cleanup plan e.position)
         declared Body q =
             let x = h e.position Body ∙ runs_now plan T e.position Body (history_while Body) (w ∙ ap history_while q) in
-            ap (λ b. same_role e.role Body && b) (ap with_cleanup_declared x ∙ declared_is (slice_get plan e.position))
+            ap (λ b. is_same_role e.role Body && b) (ap has_declared_cleanup x ∙ declared_is (slice_get plan e.position))
         declared Cleanup q = rw q refl
 
-        owed_by : (d : Bool) → (if k == e.position && d then true else false) ≡ is_owed (if d then Some e.position else None) k
+        owed_by : (d : Bool) → (if k == e.position && d then true else false) ≡ is_pending_case (if d then Some e.position else None) k
         owed_by d = grind (arith, nat_tests)
 
 pub cleared : (i k : ℕ) → (if k == i then false else k == i) ≡ false
@@ -131,9 +131,9 @@ pub record Fair (plan : List Job) (n : ℕ) (T : Trace) (e : Event) : Type 0 whe
   pub fits : FitsAt plan T e
   pub width : KeepsWidth plan n T e
   pub exclusive : KeepsExclusive plan T e
-  pub prompt : StartsOwedCleanup plan T e
+  pub prompt : StartsPendingCleanup plan T e
 
-pub each_of : {P Q : Trace → Event → Type 0} (T : Trace) → ((U : Trace) (e : Event) → P U e → Q U e) → Each P T → Each Q T
+pub each_of : {P Q : Trace → Event → Type 0} (T : Trace) → ((U : Trace) (e : Event) → P U e → Q U e) → HoldsAtEachEvent P T → HoldsAtEachEvent Q T
 each_of NoEvent f h = tt
 each_of (Then T e) f h = (each_of T f h.0, f T e h.1)
 
@@ -141,7 +141,7 @@ each_of (Then T e) f h = (each_of T f h.0, f T e h.1)
 -- keeps up to a failed put. `stopped` is the number of events before that put, if any. No body
 -- starts after it.
 pub record Until (plan : List Job) (n : ℕ) (stopped : Option ℕ) (T : Trace) : Type 0 where
-  pub busy : Each (WaitsWhenBusy plan n) (up_to stopped T)
+  pub busy : HoldsAtEachEvent (WaitsWhenBusy plan n) (up_to stopped T)
   pub begun : body_starts T ≡ body_starts (up_to stopped T)
   pub passed : IfSome stopped (λ k. k ≤ event_count T)
 
@@ -159,14 +159,14 @@ module _ (plan : List Job) (n : ℕ) where
   until_more (Some k) T e u f g =
       let x = sym (first_past k T e u.passed) in
       record {
-        busy = subst (Each (WaitsWhenBusy plan n)) x u.busy;
+        busy = subst (HoldsAtEachEvent (WaitsWhenBusy plan n)) x u.busy;
         begun = ap (λ xs. body_starts T ++ xs) (g refl) ∙ (append-nil (body_starts T) ∙ (u.begun ∙ ap body_starts x));
         passed = omega (arith, u.passed);
       }
 
   pub until_now : (o : Option ℕ) (T : Trace) → is_some o ≡ false → Until plan n o T → Until plan n (Some (event_count T)) T
   until_now None T f u =
-      record { busy = subst (Each (WaitsWhenBusy plan n)) (sym (first_all T)) u.busy; begun = ap body_starts (sym (first_all T)); passed = omega arith }
+      record { busy = subst (HoldsAtEachEvent (WaitsWhenBusy plan n)) (sym (first_all T)) u.busy; begun = ap body_starts (sym (first_all T)); passed = omega arith }
   until_now (Some k) T f u = absurd (cc)
 
 -- `Going l plan n T old new`: the events `T` lead the launcher `l` from `old` to `new`. They keep
@@ -174,14 +174,14 @@ module _ (plan : List Job) (n : ℕ) where
 pub record Going {L : Type 0} (l : launcher.Ghosts L) (plan : List Job) (n : ℕ) (T : Trace) (old new : L) : Type 0 where
   pub leads : Leads l.starts l.waits plan T old new
   pub runs : (k : ℕ) (r : Role) → l.running new k r ≡ running_of plan T k r
-  pub owes : (k : ℕ) → l.pending new k ≡ is_owed (owed plan T) k
-  pub rules : Each (Fair plan n) T
+  pub owes : (k : ℕ) → l.pending new k ≡ is_pending_case (pending_cleanup plan T) k
+  pub rules : HoldsAtEachEvent (Fair plan n) T
 
 -- `Startable running pending plan n fed i role`: the next step after the responses `fed`, in the
 -- run of `plan` with the width `n`, may be the start of case `i` in the role `role`. It meets the
 -- rules of the schedule, and the launcher's conditions for the running children `running` and the
 -- pending cleanups `pending`.
-pub record Startable (running : ℕ → Role → Option Child) (pending : ℕ → Bool) (plan : List Job) (n : ℕ) (fed : Fed) (i : ℕ) (role : Role) : Type 0 where
+pub record Startable (running : ℕ → Role → Option Child) (pending : ℕ → Bool) (plan : List Job) (n : ℕ) (fed : Responses) (i : ℕ) (role : Role) : Type 0 where
   pub may : MayStart running pending i role
   pub now : MayStartNow plan fed.trace i role
   pub history_is : history i fed.trace ≡ history_before role

@@ -1,5 +1,5 @@
 -- The turn order, which has each case once and exclusive cases last, and one more event.
-use Rattle.kt_sched.proofs.Common.{ne_eqb, nat_tests, ◌⊎◌, slice_get, count_by, filter, Some, not, ◌==◌, ◌≡◌, ◌≢◌, ℕ, ◌+◌, ◌<◌, ◌≤◌, Bool, true, false, cond, List, length, refl, ◌∙◌, ap, arith, inl, inr, false_from_ne_true, sum_by-filter_both, cases_eq, slice_get_within, Job, turns, None, is_none, map, ◌&&◌, [], ◌∷◌, ◌++◌, sym, map-append, Event, Trace, Then, position_of, of, event_count, kind_of_event, history, is_whole, has_whole_history, Due, dues, puts_scheduled_at, finished_by, is_open, was_open, recorded, IsPlan, positions}
+use Rattle.kt_sched.proofs.Common.{ne_eqb, nat_tests, ◌⊎◌, slice_get, count_by, filter, Some, not, ◌==◌, ◌≡◌, ◌≢◌, ℕ, ◌+◌, ◌<◌, ◌≤◌, Bool, true, false, cond, List, length, refl, ◌∙◌, ap, arith, inl, inr, false_from_ne_true, sum_by-filter_both, cases_eq, slice_get_within, Job, turns, None, is_none, map, ◌&&◌, [], ◌∷◌, ◌++◌, sym, map-append, Event, Trace, Then, position_of, of, event_count, kind_of_event, history, is_whole, has_whole_history, ScheduledPut, scheduled_puts, puts_scheduled_at, jobs_finished_by, is_put_allowed, was_put_allowed, recorded, IsPlan, positions}
 use Rattle.kt_sched.proofs.Lists.{counted_one, counted_some, count_by-append, counted_only, counted_two, filter_in, in_append, pick, filter_only}
 use Rattle.kt_base.proofs.Lists.{same_number}
 
@@ -76,14 +76,14 @@ history_same i T e h = ap (map kind_of_event) (of_same i T e h) ∙ map-append k
 pub history_other : (i k : ℕ) (T : Trace) (e : Event) → position_of e ≡ i → k ≢ i → history k (Then T e) ≡ history k T
 history_other i k T e h n = ap (map kind_of_event) (of_other i k T e h n)
 
-pub put_at_positions : (k : ℕ) (jobs : List Job) → map (λ (p : Due). p.position) (puts_scheduled_at k jobs) ≡ positions jobs
+pub put_at_positions : (k : ℕ) (jobs : List Job) → map (λ (p : ScheduledPut). p.position) (puts_scheduled_at k jobs) ≡ positions jobs
 put_at_positions k [] = refl
 put_at_positions k (job ∷ jobs) = ap (λ xs. job.position ∷ xs) (put_at_positions k jobs)
 
 -- `opens_now plan n T e job`: in the run of `plan` with the width `n`, the event `e` after the
 -- events `T` opens the decided case of `job`: its entry may be put now.
 abbrev pub opens_now : List Job → ℕ → Trace → Event → Job → Bool
-opens_now plan n T e job = is_open plan n (Then T e) job && not (was_open plan n T job)
+opens_now plan n T e job = is_put_allowed plan n (Then T e) job && not (was_put_allowed plan n T job)
 
 -- `finishes T e job`: the event `e` after the events `T` finishes the undecided case of `job`.
 abbrev pub finishes : Trace → Event → Job → Bool
@@ -91,13 +91,13 @@ finishes T e job = job.position == position_of e && (is_none job.decided && (has
 
 -- An event adds the finished case and the opened cases to the record order.
 pub recorded_more : (plan : List Job) (n : ℕ) (T : Trace) (e : Event)
-    → recorded plan n (Then T e) ≡ recorded plan n T ++ (positions (finished_by plan T e) ++ positions (filter (opens_now plan n T e) (turns plan)))
+    → recorded plan n (Then T e) ≡ recorded plan n T ++ (positions (jobs_finished_by plan T e) ++ positions (filter (opens_now plan n T e) (turns plan)))
 recorded_more plan n T e =
     let k = event_count (Then T e) in
-    let xs = finished_by plan T e in
+    let xs = jobs_finished_by plan T e in
     let ys = filter (opens_now plan n T e) (turns plan) in
-    let f = λ (p : Due). p.position in
-    map-append f (dues plan n T) (puts_scheduled_at k xs ++ puts_scheduled_at k ys)
+    let f = λ (p : ScheduledPut). p.position in
+    map-append f (scheduled_puts plan n T) (puts_scheduled_at k xs ++ puts_scheduled_at k ys)
     ∙ ap (λ zs. recorded plan n T ++ zs) (map-append f (puts_scheduled_at k xs) (puts_scheduled_at k ys)
     ∙ (ap (λ zs. zs ++ map f (puts_scheduled_at k ys)) (put_at_positions k xs) ∙ ap (λ zs. positions xs ++ zs) (put_at_positions k ys)))
 
@@ -105,7 +105,7 @@ recorded_more plan n T e =
 pub finished_is : {plan : List Job} (T : Trace) (e : Event) {job : Job} (b : Bool) → IsPlan plan → job.decided ≡ None
     → slice_get plan (position_of e) ≡ Some job
     → is_whole job (history (position_of e) T) ≡ false → is_whole job (history (position_of e) (Then T e)) ≡ b
-    → positions (finished_by plan T e) ≡ pick b (position_of e) []
+    → positions (jobs_finished_by plan T e) ≡ pick b (position_of e) []
 finished_is {plan} T e {job} b h d g w v =
     ap positions (filter_only (finishes T e) plan i job g (λ k j q n. rw (h.placed k j q, ne_eqb k i n) refl) ∙ ap (λ c. pick c job []) does)
     ∙ placed b

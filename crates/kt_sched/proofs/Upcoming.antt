@@ -1,12 +1,12 @@
 -- The case at the turn, the next body in turn order, and exclusive cases, which run alone.
-use Rattle.kt_sched.proofs.Common.{slice_get, Some, None, take, drop, filter, is_none, ◌≡◌, ℕ, ◌+◌, true, List, [], ◌++◌, length, refl, sym, ◌∙◌, ap, subst, arith, take-append_seam, drop-append_seam, length-map, take-append-drop, filter-append, Job, Stage, Waiting, Case, of, turns, body_starts, undecided_turns, next_to_start, Fed, SchedState, Stands, IsStage, HasTurn, IsSettled, Order, positions, is_undecided, ◌||◌, ◌<◌, ◌⊎◌, false, inl, inr, cases_Bool, or_left, or_right, cases_lt, cases_eq, Body, Cleanup, has_whole_history, owed, IsQuiet, IsExclusiveAtStart, is_active_stage, HasExclusive}
+use Rattle.kt_sched.proofs.Common.{slice_get, Some, None, take, drop, filter, is_none, ◌≡◌, ℕ, ◌+◌, true, List, [], ◌++◌, length, refl, sym, ◌∙◌, ap, subst, arith, take-append_seam, drop-append_seam, length-map, take-append-drop, filter-append, Job, Stage, Waiting, Case, of, turns, body_starts, undecided_turns, next_to_start, Responses, SchedState, RepresentsRun, IsStage, HasTurn, IsSettled, Order, positions, is_undecided, ◌||◌, ◌<◌, ◌⊎◌, false, inl, inr, cases_Bool, or_left, or_right, cases_lt, cases_eq, Body, Cleanup, has_whole_history, pending_cleanup, IsQuiet, IsExclusiveAtStart, is_active_stage, HasExclusiveFlag}
 use Rattle.kt_sched.proofs.Lists.{drop_at, filter_in, get_drop, slice_get-drop, counted_two, list_all_from}
 use Rattle.kt_sched.proofs.Stages.{waiting_stage, fresh_inactive, over_stage}
 use Rattle.kt_sched.proofs.Located.{AtTurn, decided_is, exclusive_is, has_turn, at_turn, active_is, inactive, owes, says_at}
 use Rattle.kt_sched.proofs.Turns.{turn_covers, turn_sorted}
 use Rattle.std.proofs.lemmas.Option.{same_Some}
 
-module _ {plan : List Job} {n : ℕ} {fed : Fed} {b : SchedState} (h : Stands plan n fed b) where
+module _ {plan : List Job} {n : ℕ} {fed : Responses} {b : SchedState} (h : RepresentsRun plan n fed b) where
   abbrev begun : List Job
   begun = filter is_undecided (take b.turn (turns plan))
 
@@ -85,11 +85,11 @@ module _ {plan : List Job} {n : ℕ} {fed : Fed} {b : SchedState} (h : Stands pl
     )
 
     -- A job that may start while other cases are active is ordinary.
-    turn_ordinary : HasExclusive b.cases i false → job.exclusive ≡ false
+    turn_ordinary : HasExclusiveFlag b.cases i false → job.exclusive ≡ false
     turn_ordinary x = ap (λ (j : Job). j.exclusive) (sym same) ∙ exclusive_is (has_turn h i o) x
 
     -- If a body may start, no exclusive case is active.
-    pub no_exclusive_active : (b.active ≡ 0 ⊎ HasExclusive b.cases i false) → (k : ℕ) (j : Job) (c : Case)
+    pub no_exclusive_active : (b.active ≡ 0 ⊎ HasExclusiveFlag b.cases i false) → (k : ℕ) (j : Job) (c : Case)
         → slice_get plan k ≡ Some j → slice_get b.cases k ≡ Some c → j.exclusive ≡ true → is_active_stage c.stage ≡ true → ⊥
     no_exclusive_active (inl a) k j c x y e v = absurd (cc (inactive h k c a y, v))
     no_exclusive_active (inr w) k j c x y e v =
@@ -98,11 +98,11 @@ module _ {plan : List Job} {n : ℕ} {fed : Fed} {b : SchedState} (h : Stands pl
         absurd (cc (fresh_inactive c.stage ((h.turn.met u.0 k c u.2 y).0 (omega (arith, r))), v))
 
     -- If an exclusive body may start, no case is active.
-    pub exclusive_needs_none : (b.active ≡ 0 ⊎ HasExclusive b.cases i false) → job.exclusive ≡ true → b.active ≡ 0
+    pub exclusive_needs_none : (b.active ≡ 0 ⊎ HasExclusiveFlag b.cases i false) → job.exclusive ≡ true → b.active ≡ 0
     exclusive_needs_none (inl a) e = a
     exclusive_needs_none (inr w) e = absurd (cc (turn_ordinary w, e))
 
-  pub exclusive_body : (i : ℕ) → slice_get b.order b.turn ≡ Some i → (b.active ≡ 0 ⊎ HasExclusive b.cases i false) → IsExclusiveAtStart plan fed.trace i Body
+  pub exclusive_body : (i : ℕ) → slice_get b.order b.turn ≡ Some i → (b.active ≡ 0 ⊎ HasExclusiveFlag b.cases i false) → IsExclusiveAtStart plan fed.trace i Body
   exclusive_body i o w = record {
     quiet = λ job g e r. quiet_start o g e (exclusive_needs_none o g w e);
     own = λ job k g e a.
@@ -110,7 +110,7 @@ module _ {plan : List Job} {n : ℕ} {fed : Fed} {b : SchedState} (h : Stands pl
         absurd (no_exclusive_active o (has_turn h i o).place w k job s.case g s.found e (sym (says_at h k job g).active ∙ a));
   }
 
-  pub exclusive_cleanup : (i : ℕ) → owed plan fed.trace ≡ Some i → IsExclusiveAtStart plan fed.trace i Cleanup
+  pub exclusive_cleanup : (i : ℕ) → pending_cleanup plan fed.trace ≡ Some i → IsExclusiveAtStart plan fed.trace i Cleanup
   exclusive_cleanup i o = record {
     quiet = λ job g e r. absurd (cc (r));
     own = λ job k g e a.

@@ -12,7 +12,7 @@ pub record Child : Type 0 where
   pub interface : Interface
   pub cleanup : Bool
 
--- `child_of job`: the running child of `job`: the interface of its program, and whether its case
+-- `child_of job`: a running child of `job`: the interface of its program, and whether its case
 -- declares a cleanup.
 abbrev pub child_of : Job → Child
 child_of job = record { interface = job.interface; cleanup = job.cleanup }
@@ -26,24 +26,24 @@ IsEvidence interface.Plain Body evidence.Plain = ⊤
 IsEvidence kind Cleanup evidence.Plain = ⊤
 IsEvidence kind role other = ⊥
 
--- `same_role role other`: `role` and `other` are equal.
-abbrev pub same_role : Role → Role → Bool
-same_role Body Body = true
-same_role Cleanup Cleanup = true
-same_role one other = false
+-- `is_same_role role other`: `role` and `other` are equal.
+abbrev pub is_same_role : Role → Role → Bool
+is_same_role Body Body = true
+is_same_role Cleanup Cleanup = true
+is_same_role one other = false
 
 -- `MayStart running pending i role`: given the running children `running` and the pending cleanups
 -- `pending`, case `i` may start in the role `role`. A body may start if no child of its case runs
--- or is pending. A cleanup may start if it is pending.
+-- and no cleanup of its case is pending. A cleanup may start if it is pending.
 abbrev pub MayStart : (ℕ → Role → Option Child) → (ℕ → Bool) → ℕ → Role → Type 0
 MayStart running pending i Body = (running i Body ≡ None) × (running i Cleanup ≡ None) × (pending i ≡ false)
 MayStart running pending i Cleanup = pending i ≡ true
 
--- `running_after_start running job role answer k r`: the child of case `k` in the role `r` that
--- runs after the response `answer` to the start of `job` in the role `role`, or `None`. `running`
--- are the running children before the start.
+-- `running_after_start running job role answer k r`: the running child of case `k` in the role `r`,
+-- if any, after `job` was started in the role `role` with the response `answer`. `running` are the
+-- running children before the start.
 abbrev pub running_after_start : (ℕ → Role → Option Child) → Job → Role → StartAnswer → ℕ → Role → Option Child
-running_after_start running job role (Started moment) k r = if k == job.position && same_role r role then Some (child_of job) else running k r
+running_after_start running job role (Started moment) k r = if k == job.position && is_same_role r role then Some (child_of job) else running k r
 running_after_start running job role (Refused cause) k r = running k r
 
 -- `pending_after_start pending i role k`: the cleanup of case `k` is pending after a start of case
@@ -53,23 +53,22 @@ abbrev pub pending_after_start : (ℕ → Bool) → ℕ → Role → ℕ → Boo
 pending_after_start pending i Body k = pending k
 pending_after_start pending i Cleanup k = if k == i then false else pending k
 
--- `running_after_end running e k r`: the child of case `k` in the role `r` that runs after the end
--- `e`, or `None`. `running` are the running children before the end. The child that ended doesn't
--- run.
+-- `running_after_end running e k r`: the running child of case `k` in the role `r`, if any, after
+-- the end `e`. `running` are the running children before the end. The child that ended doesn't run.
 abbrev pub running_after_end : (ℕ → Role → Option Child) → Ended → ℕ → Role → Option Child
-running_after_end running e k r = if k == e.position && same_role r e.role then None else running k r
+running_after_end running e k r = if k == e.position && is_same_role r e.role then None else running k r
 
--- `with_cleanup_declared child`: `child` exists, and its case declares a cleanup.
-abbrev pub with_cleanup_declared : Option Child → Bool
-with_cleanup_declared None = false
-with_cleanup_declared (Some child) = child.cleanup
+-- `has_declared_cleanup child`: `child` exists, and its case declares a cleanup.
+abbrev pub has_declared_cleanup : Option Child → Bool
+has_declared_cleanup None = false
+has_declared_cleanup (Some child) = child.cleanup
 
 -- `pending_after_end running pending e k`: the cleanup of case `k` is pending after the end `e`.
 -- `running` and `pending` are the running children and the pending cleanups before the end. The end
 -- of a body makes its declared cleanup pending.
 abbrev pub pending_after_end : (ℕ → Role → Option Child) → (ℕ → Bool) → Ended → ℕ → Bool
 pending_after_end running pending e k =
-    if k == e.position && (same_role e.role Body && with_cleanup_declared (running e.position Body)) then true else pending k
+    if k == e.position && (is_same_role e.role Body && has_declared_cleanup (running e.position Body)) then true else pending k
 
 -- `IsIdle running pending`: `running` has no running child, and `pending` has no pending cleanup.
 pub record IsIdle (running : ℕ → Role → Option Child) (pending : ℕ → Bool) : Type 0 where

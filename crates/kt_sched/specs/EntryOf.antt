@@ -1,20 +1,20 @@
 -- The entry of a case, from its job and its own events.
 use Rattle.std.specs.Prelude.{ℕ, true, List, [], ◌∷◌, ◌≡◌, ◌-◌, Some, Result, Ok, slice_get, ⊤}
-use Rattle.kt_sched.specs.Types.{Body, Cleanup, Ended, Entry, Job, Judged, Output, Refused, SinkFault, Started}
+use Rattle.kt_sched.specs.Types.{Body, Cleanup, Ended, Entry, Job, VerdictValue, Output, Refused, SinkFault, Started}
 use Rattle.kt_base.specs.declared.failed_start.Refused.{Refused as Cause}
 use Rattle.kt_status.specs.declared.cleanup_end.CleanupEnd.TheVariants as cleanup
 use Rattle.kt_status.specs.Tables.{IsVerdict, IsVerdictOfRefusal, IsVerdictAfterCleanup}
 use Rattle.kt_sched.specs.Trace.{Event, Start, End, Trace, of}
 use Rattle.kt_sched.specs.History.{history, is_whole}
 
--- `no_output`: the output of a child that didn't run.
-abbrev pub no_output : Output
-no_output = record { out = []; err = [] }
+-- `empty_output`: the output of a child that didn't run.
+abbrev pub empty_output : Output
+empty_output = record { out = []; err = [] }
 
--- `entry job verdict started millis body cleanup`: the entry of `job` with the verdict `verdict`,
--- the timestamp `started` of its start, the duration `millis` in milliseconds, and the outputs
--- `body` and `cleanup` of its children.
-abbrev pub entry : Job → Judged → ℕ → ℕ → Output → Output → Entry
+-- `entry job verdict started millis body cleanup`: the entry of `job` with the verdict `verdict`
+-- and the outputs `body` and `cleanup`. Its start has the timestamp `started`, and its duration is
+-- `millis` milliseconds.
+abbrev pub entry : Job → VerdictValue → ℕ → ℕ → Output → Output → Entry
 entry job verdict started millis body cleanup = record {
   position = job.position;
   program = job.program;
@@ -30,26 +30,26 @@ entry job verdict started millis body cleanup = record {
 -- `IsEntry job events entry`: `events` are all events of the case of `job`, and `entry` is the
 -- entry of this case.
 pub data IsEntry (job : Job) : List Event → Entry → Type 0 where
-  decided : (v : Judged) → job.decided ≡ Some v → IsEntry job [] (entry job v 0 0 no_output no_output)
-  refused : (i : ℕ) (cause : Cause) (v : Judged) → IsVerdictOfRefusal cause v
-      → IsEntry job (Start i Body (Refused cause) ∷ []) (entry job v 0 0 no_output no_output)
-  ended : (i m : ℕ) (e : Ended) (v : Judged) → IsVerdict e.evidence e.outcome v
-      → IsEntry job (Start i Body (Started m) ∷ End e ∷ []) (entry job v m (e.moment - m) e.output no_output)
-  uncleaned : (i m : ℕ) (e : Ended) (j : ℕ) (cause : Cause) (body v : Judged)
+  decided : (v : VerdictValue) → job.decided ≡ Some v → IsEntry job [] (entry job v 0 0 empty_output empty_output)
+  refused : (i : ℕ) (cause : Cause) (v : VerdictValue) → IsVerdictOfRefusal cause v
+      → IsEntry job (Start i Body (Refused cause) ∷ []) (entry job v 0 0 empty_output empty_output)
+  ended : (i m : ℕ) (e : Ended) (v : VerdictValue) → IsVerdict e.evidence e.outcome v
+      → IsEntry job (Start i Body (Started m) ∷ End e ∷ []) (entry job v m (e.moment - m) e.output empty_output)
+  uncleaned : (i m : ℕ) (e : Ended) (j : ℕ) (cause : Cause) (body v : VerdictValue)
       → IsVerdict e.evidence e.outcome body → IsVerdictAfterCleanup body cleanup.Refused v
-      → IsEntry job (Start i Body (Started m) ∷ End e ∷ Start j Cleanup (Refused cause) ∷ []) (entry job v m (e.moment - m) e.output no_output)
-  cleaned : (i m : ℕ) (e : Ended) (j k : ℕ) (f : Ended) (body v : Judged)
+      → IsEntry job (Start i Body (Started m) ∷ End e ∷ Start j Cleanup (Refused cause) ∷ []) (entry job v m (e.moment - m) e.output empty_output)
+  cleaned : (i m : ℕ) (e : Ended) (j k : ℕ) (f : Ended) (body v : VerdictValue)
       → IsVerdict e.evidence e.outcome body → IsVerdictAfterCleanup body (cleanup.Ended f.outcome) v
       → IsEntry job (Start i Body (Started m) ∷ End e ∷ Start j Cleanup (Started k) ∷ End f ∷ []) (entry job v m (f.moment - m) e.output f.output)
 
--- `Gains puts entries old new`: successful puts of `entries`, in order, lead a sink from the state
--- `old` to the state `new`. `puts` is the relation of a put.
-abbrev pub Gains : {S : Type 0} → (S → Entry → Result (Unit {0}) SinkFault → S → Type 0) → List Entry → S → S → Type 0
-Gains puts [] old new = new ≡ old
-Gains {S} puts (e ∷ es) old new = (mid : S) × puts old e (Ok tt) mid × Gains puts es mid new
+-- `PutsInOrder puts entries old new`: successful puts of `entries`, in order, lead a sink from the
+-- state `old` to the state `new`. `puts` is the relation of a put.
+abbrev pub PutsInOrder : {S : Type 0} → (S → Entry → Result (Unit {0}) SinkFault → S → Type 0) → List Entry → S → S → Type 0
+PutsInOrder puts [] old new = new ≡ old
+PutsInOrder {S} puts (e ∷ es) old new = (mid : S) × puts old e (Ok tt) mid × PutsInOrder puts es mid new
 
--- `IsEntryOf plan T i entry`: `entry` is the entry of case `i` of `plan`, whose history in the
--- trace `T` is whole.
+-- `IsEntryOf plan T i entry`: `entry` is the entry of case `i` of `plan`, and the history of this
+-- case in the trace `T` is whole.
 pub record IsEntryOf (plan : List Job) (T : Trace) (i : ℕ) (entry : Entry) : Type 0 where
   pub job : Job
   pub place : slice_get plan i ≡ Some job

@@ -4,8 +4,8 @@ use Rattle.std.specs.List.{list_any}
 use Rattle.kt_sched.specs.Types.{Body, Cleanup, Job, Refused, Role, Started}
 use Rattle.kt_sched.specs.Trace.{Event, Start, End, Trace, of}
 
--- `EventKind`: the kind of an event of a case: a start, a refused start or an end, of its body or its
--- cleanup.
+-- `EventKind`: the kind of an event of a case: a start, a refused start or an end, of its body or
+-- its cleanup.
 pub data EventKind : Type 0 where
   BodyStarted : EventKind
   BodyRefused : EventKind
@@ -51,7 +51,7 @@ abbrev pub has_whole_history : Trace → Job → Bool
 has_whole_history T job = is_whole job (history job.position T)
 
 -- `is_active T job`: the case of `job` is active after the events `T`: its body was started, and
--- its history isn't whole. An owed or running cleanup keeps the case active.
+-- its history isn't whole. A pending or running cleanup keeps the case active.
 abbrev pub is_active : Trace → Job → Bool
 is_active T job = list_any is_body_started (history job.position T) && not (has_whole_history T job)
 

@@ -7,8 +7,8 @@ pub mod TurnOrder
 pub mod ScheduleRules
 pub mod RecordOrder
 pub mod EntryOf
-pub mod FaultWords
-pub mod Fed
+pub mod FaultMessages
+pub mod Responses
 pub mod Next
 pub mod SchedState
 pub mod Inner

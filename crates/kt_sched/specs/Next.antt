@@ -6,18 +6,18 @@ use Rattle.kt_sched.specs.declared.next.Next.TheVariants as next
 use Rattle.kt_sched.specs.Trace.{Trace, of}
 use Rattle.kt_sched.specs.History.{BodyStarted, BodyEnded, history, is_whole, has_whole_history, active}
 use Rattle.kt_sched.specs.TurnOrder.{next_to_start}
-use Rattle.kt_sched.specs.ScheduleRules.{owed, IsBusy, IsExclusiveAtStart}
-use Rattle.kt_sched.specs.RecordOrder.{recorded, was_open}
-use Rattle.kt_sched.specs.Fed.{Fed, has_failed, runs}
+use Rattle.kt_sched.specs.ScheduleRules.{pending_cleanup, IsBusy, IsExclusiveAtStart}
+use Rattle.kt_sched.specs.RecordOrder.{recorded, was_put_allowed}
+use Rattle.kt_sched.specs.Responses.{Responses, has_failed, runs}
 
--- `IsUpToDate plan n fed`: in the run of `plan` with the width `n`, each put that the events of
--- `fed` schedule is stored.
-abbrev pub IsUpToDate : List Job → ℕ → Fed → Type 0
+-- `IsUpToDate plan n fed`: in the run of `plan` with the width `n`, each put that the events of the
+-- responses `fed` schedule is stored.
+abbrev pub IsUpToDate : List Job → ℕ → Responses → Type 0
 IsUpToDate plan n fed = slice_get (recorded plan n fed.trace) fed.stored ≡ None
 
--- `MayBegin plan n T i`: the body of case `i` may start after the events `T`. It is the next body
--- of `plan` in turn order, and the width `n` and exclusiveness allow its start.
-pub record MayBegin (plan : List Job) (n : ℕ) (T : Trace) (i : ℕ) : Type 0 where
+-- `MayStartBody plan n T i`: the body of case `i` may start after the events `T`. It is the next
+-- body of `plan` in turn order, and the width `n` and exclusiveness allow its start.
+pub record MayStartBody (plan : List Job) (n : ℕ) (T : Trace) (i : ℕ) : Type 0 where
   pub job : Job
   pub next : next_to_start plan T ≡ Some job
   pub place : job.position ≡ i
@@ -26,16 +26,16 @@ pub record MayBegin (plan : List Job) (n : ℕ) (T : Trace) (i : ℕ) : Type 0 w
 
 -- `IsNext plan n fed next`: `next` is the step that must come next after the responses `fed`, in
 -- the run of `plan` with the width `n`. After a failed put, nothing is put and no body is started.
-abbrev pub IsNext : List Job → ℕ → Fed → Next → Type 0
+abbrev pub IsNext : List Job → ℕ → Responses → Next → Type 0
 IsNext plan n fed (next.Put i) = (has_failed fed ≡ false) × (slice_get (recorded plan n fed.trace) fed.stored ≡ Some i)
-IsNext plan n fed (next.Start i Cleanup) = (has_failed fed ≡ false → IsUpToDate plan n fed) × (owed plan fed.trace ≡ Some i)
+IsNext plan n fed (next.Start i Cleanup) = (has_failed fed ≡ false → IsUpToDate plan n fed) × (pending_cleanup plan fed.trace ≡ Some i)
 IsNext plan n fed (next.Start i Body) =
-    (has_failed fed ≡ false) × IsUpToDate plan n fed × (owed plan fed.trace ≡ None) × MayBegin plan n fed.trace i
+    (has_failed fed ≡ false) × IsUpToDate plan n fed × (pending_cleanup plan fed.trace ≡ None) × MayStartBody plan n fed.trace i
 IsNext plan n fed next.Wait =
-    (has_failed fed ≡ false → IsUpToDate plan n fed) × (owed plan fed.trace ≡ None) × (has_failed fed ≡ false → IsBusy plan n fed.trace)
+    (has_failed fed ≡ false → IsUpToDate plan n fed) × (pending_cleanup plan fed.trace ≡ None) × (has_failed fed ≡ false → IsBusy plan n fed.trace)
     × ((i : ℕ) × (role : Role) × (runs i role fed.trace ≡ true))
 IsNext plan n fed next.Done =
-    (has_failed fed ≡ false → IsUpToDate plan n fed) × (owed plan fed.trace ≡ None) × (has_failed fed ≡ false → IsBusy plan n fed.trace)
+    (has_failed fed ≡ false → IsUpToDate plan n fed) × (pending_cleanup plan fed.trace ≡ None) × (has_failed fed ≡ false → IsBusy plan n fed.trace)
     × ((i : ℕ) (role : Role) → runs i role fed.trace ≡ false)
 
 -- `MayStartNow plan T i role`: case `i` of `plan` has no whole history after the events `T`, and
@@ -50,19 +50,19 @@ pub record MayStartNow (plan : List Job) (T : Trace) (i : ℕ) (role : Role) : T
 abbrev pub AreWhole : List Job → Trace → Type 0
 AreWhole plan T = (i : ℕ) (job : Job) → slice_get plan i ≡ Some job → (of i T ≡ []) ⊎ (has_whole_history T job ≡ true)
 
--- `WereOpen plan n T`: `was_open plan n T` holds of each decided case of `plan`: its entry could be
--- put after the events `T`, or after some first events of `T`.
-abbrev pub WereOpen : List Job → ℕ → Trace → Type 0
-WereOpen plan n T = (i : ℕ) (job : Job) → slice_get plan i ≡ Some job → is_some job.decided ≡ true → was_open plan n T job ≡ true
+-- `WerePutsAllowed plan n T`: `was_put_allowed plan n T` holds of each decided case of `plan`: its
+-- entry could be put after the events `T`, or after a prefix of `T`.
+abbrev pub WerePutsAllowed : List Job → ℕ → Trace → Type 0
+WerePutsAllowed plan n T = (i : ℕ) (job : Job) → slice_get plan i ≡ Some job → is_some job.decided ≡ true → was_put_allowed plan n T job ≡ true
 
 -- `Follows plan n fed next`: the facts that hold if `next` is the next step after the responses
 -- `fed`, in the run of `plan` with the width `n`. A start may happen now. A wait has a running
--- child. At the end, each case with an event has a whole history, and if no put failed, every case
--- has.
-abbrev pub Follows : List Job → ℕ → Fed → Next → Type 0
+-- child. At the end, each case with an event has a whole history. If no put failed, each case of
+-- `plan` has one.
+abbrev pub Follows : List Job → ℕ → Responses → Next → Type 0
 Follows plan n fed (next.Put i) = ⊤
 Follows plan n fed (next.Start i Body) = MayStartNow plan fed.trace i Body × (history i fed.trace ≡ [])
 Follows plan n fed (next.Start i Cleanup) = MayStartNow plan fed.trace i Cleanup × (history i fed.trace ≡ BodyStarted ∷ BodyEnded ∷ [])
 Follows plan n fed next.Wait = (i : ℕ) × (role : Role) × (job : Job) × (runs i role fed.trace ≡ true) × (slice_get plan i ≡ Some job)
 Follows plan n fed next.Done =
-    AreWhole plan fed.trace × (has_failed fed ≡ false → (list_all (has_whole_history fed.trace) plan ≡ true) × WereOpen plan n fed.trace)
+    AreWhole plan fed.trace × (has_failed fed ≡ false → (list_all (has_whole_history fed.trace) plan ≡ true) × WerePutsAllowed plan n fed.trace)

@@ -6,9 +6,9 @@ use Rattle.kt_sched.specs.Trace.{Event, Trace, NoEvent, Then, position_of, event
 use Rattle.kt_sched.specs.History.{has_whole_history, active}
 use Rattle.kt_sched.specs.TurnOrder.{body_starts, turns}
 
--- `Due`: a scheduled put: the position of its case, and the number of events after which it is
--- scheduled.
-pub record Due : Type 0 where
+-- `ScheduledPut`: a scheduled put: the position of its case, and the number of events after which
+-- the put is scheduled.
+pub record ScheduledPut : Type 0 where
   pub position : ℕ
   pub after : ℕ
 
@@ -17,43 +17,44 @@ pub record Due : Type 0 where
 abbrev pub is_begun : Trace → Job → Bool
 is_begun T job = is_some job.decided || list_any (λ i. i == job.position) (body_starts T)
 
--- `ahead i jobs`: the jobs among `jobs` before the job at position `i`.
-abbrev pub ahead : ℕ → List Job → List Job
-ahead i [] = []
-ahead i (job ∷ jobs) = if job.position == i then [] else job ∷ ahead i jobs
+-- `jobs_before i jobs`: the jobs among `jobs` before the job at position `i`.
+abbrev pub jobs_before : ℕ → List Job → List Job
+jobs_before i [] = []
+jobs_before i (job ∷ jobs) = if job.position == i then [] else job ∷ jobs_before i jobs
 
--- `is_open plan n T job`: `job` is decided, and its entry may be put after the events `T`: each
--- case of `plan` before it in turn order is begun, and there is a free slot at the width `n`.
-abbrev pub is_open : List Job → ℕ → Trace → Job → Bool
-is_open plan n T job =
-    is_some job.decided && list_all (is_begun T) (ahead job.position (turns plan))
+-- `is_put_allowed plan n T job`: `job` is decided, and its entry may be put after the events `T`:
+-- each case of `plan` before it in turn order is begun, and there is a free slot at the width `n`.
+abbrev pub is_put_allowed : List Job → ℕ → Trace → Job → Bool
+is_put_allowed plan n T job =
+    is_some job.decided && list_all (is_begun T) (jobs_before job.position (turns plan))
     && (if job.exclusive then active plan T == 0 else nat_lt (active plan T) n)
 
--- `was_open plan n T job`: `is_open plan n` holds of `job` after the events `T`, or after some
--- first events of `T`.
-abbrev pub was_open : List Job → ℕ → Trace → Job → Bool
-was_open plan n NoEvent job = is_open plan n NoEvent job
-was_open plan n (Then T e) job = was_open plan n T job || is_open plan n (Then T e) job
+-- `was_put_allowed plan n T job`: `is_put_allowed plan n` holds of `job` after the events `T`, or
+-- after a prefix of `T`.
+abbrev pub was_put_allowed : List Job → ℕ → Trace → Job → Bool
+was_put_allowed plan n NoEvent job = is_put_allowed plan n NoEvent job
+was_put_allowed plan n (Then T e) job = was_put_allowed plan n T job || is_put_allowed plan n (Then T e) job
 
--- `finished_by plan T e`: a list of the undecided job of `plan` whose history the event `e` makes
--- whole after the events `T`, or an empty list.
-abbrev pub finished_by : List Job → Trace → Event → List Job
-finished_by plan T e =
+-- `jobs_finished_by plan T e`: the undecided job of `plan` whose history the event `e` makes whole after
+-- the events `T`, as a list of at most one job.
+abbrev pub jobs_finished_by : List Job → Trace → Event → List Job
+jobs_finished_by plan T e =
     filter (λ job. job.position == position_of e && (is_none job.decided && (has_whole_history (Then T e) job && not (has_whole_history T job)))) plan
 
--- `puts_scheduled_at k jobs`: the puts of the entries of `jobs`, scheduled after `k` events.
-abbrev pub puts_scheduled_at : ℕ → List Job → List Due
+-- `puts_scheduled_at k jobs`: the puts of the entries of `jobs`, all scheduled after `k` events.
+abbrev pub puts_scheduled_at : ℕ → List Job → List ScheduledPut
 puts_scheduled_at k jobs = map (λ job. record { position = job.position; after = k }) jobs
 
--- `dues plan n T`: the puts that the events `T` schedule in the run of `plan` with the width `n`,
--- in order. Each event schedules the case that it finished, then decided cases in turn order.
-abbrev pub dues : List Job → ℕ → Trace → List Due
-dues plan n NoEvent = puts_scheduled_at 0 (filter (is_open plan n NoEvent) (turns plan))
-dues plan n (Then T e) =
-    dues plan n T ++ (puts_scheduled_at (event_count (Then T e)) (finished_by plan T e)
-    ++ puts_scheduled_at (event_count (Then T e)) (filter (λ job. is_open plan n (Then T e) job && not (was_open plan n T job)) (turns plan)))
+-- `scheduled_puts plan n T`: the puts that the events `T` schedule in the run of `plan` with the
+-- width `n`, in order. Each event schedules the case that it finished, then decided cases in turn
+-- order.
+abbrev pub scheduled_puts : List Job → ℕ → Trace → List ScheduledPut
+scheduled_puts plan n NoEvent = puts_scheduled_at 0 (filter (is_put_allowed plan n NoEvent) (turns plan))
+scheduled_puts plan n (Then T e) =
+    scheduled_puts plan n T ++ (puts_scheduled_at (event_count (Then T e)) (jobs_finished_by plan T e)
+    ++ puts_scheduled_at (event_count (Then T e)) (filter (λ job. is_put_allowed plan n (Then T e) job && not (was_put_allowed plan n T job)) (turns plan)))
 
 -- `recorded plan n T`: the record order of the run of `plan` with the width `n`, after the events
--- `T`: the positions of `dues plan n T`.
+-- `T`: the positions of `scheduled_puts plan n T`.
 abbrev pub recorded : List Job → ℕ → Trace → List ℕ
-recorded plan n T = map (λ due. due.position) (dues plan n T)
+recorded plan n T = map (λ due. due.position) (scheduled_puts plan n T)

@@ -5,21 +5,21 @@ use Rattle.kt_base.specs.Kinds.{good as is_good}
 use Rattle.kt_sched.specs.declared.launcher.Launcher as launcher
 use Rattle.kt_sched.specs.declared.sink.Sink as sink
 use Rattle.kt_sched.specs.Trace.{Event, Start, End, HasMoment, Trace, NoEvent, Leads, of}
-use Rattle.kt_sched.specs.ScheduleRules.{Each, Legal, Stopped}
-use Rattle.kt_sched.specs.RecordOrder.{Due, dues, recorded}
-use Rattle.kt_sched.specs.EntryOf.{Gains, IsEntryOf, AreEntries}
+use Rattle.kt_sched.specs.ScheduleRules.{HoldsAtEachEvent, Legal, Stopped}
+use Rattle.kt_sched.specs.RecordOrder.{ScheduledPut, scheduled_puts, recorded}
+use Rattle.kt_sched.specs.EntryOf.{PutsInOrder, IsEntryOf, AreEntries}
 use Rattle.kt_sched.specs.Children.{IsEvidence}
 use Rattle.kt_base.specs.Moments.{IsMoment}
 
--- `FitsAt plan T event`: the timestamp of `event` is in the range, and its evidence fits the
--- interface of its job in `plan`. The rule doesn't depend on the events `T` before it.
+-- `FitsAt plan T event`: the timestamp of `event` is in the range of timestamps, and its evidence
+-- fits the interface of its job in `plan`. The rule doesn't depend on the events `T` before it.
 abbrev pub FitsAt : List Job → Trace → Event → Type 0
 FitsAt plan T (Start i role answer) = HasMoment answer
 FitsAt plan T (End ended) =
     IsMoment ended.moment × ((job : Job) × (slice_get plan ended.position ≡ Some job) × IsEvidence job.interface ended.role ended.evidence)
 
--- `Counts entries totals`: `totals` has the number of all `entries`, of the good ones and of the
--- bad ones.
+-- `Counts entries t`: the totals `t` are the number of all `entries`, of those with a good verdict,
+-- and of the others. A verdict is good if it is passed, skipped or expected_failure.
 pub record Counts (entries : List Entry) (t : Totals) : Type 0 where
   pub total : t.total ≡ length entries
   pub good : t.good ≡ count_by (λ (e : Entry). is_good e.verdict.kind) entries
@@ -39,16 +39,16 @@ pub record StartsNothing {S : Type 0} (T : Trace) (gained : List Entry) (before 
   pub same : after ≡ before
 
 module _ {S : Type 0} (puts : S → Entry → Result (Unit {0}) SinkFault → S → Type 0) where
-  -- `FailedPut plan n T gained fault before after`: in the run of `plan` with the width `n` and the
+  -- `HasFailedPut plan n T gained fault before after`: in the run of `plan` with the width `n` and the
   -- trace `T`, the puts of the entries `gained` succeeded. The put of the next entry in record
   -- order failed with `fault`. These puts lead the sink from `before` to `after`.
-  pub record FailedPut (plan : List Job) (n : ℕ) (T : Trace) (gained : List Entry) (fault : SinkFault) (before after : S) : Type 0 where
-    pub next : Due
-    pub is_next : slice_get (dues plan n T) (length gained) ≡ Some next
+  pub record HasFailedPut (plan : List Job) (n : ℕ) (T : Trace) (gained : List Entry) (fault : SinkFault) (before after : S) : Type 0 where
+    pub next : ScheduledPut
+    pub is_next : slice_get (scheduled_puts plan n T) (length gained) ≡ Some next
     pub refused : Entry
     pub refused_is : IsEntryOf plan T next.position refused
     pub mid : S
-    pub gains : Gains puts gained before mid
+    pub gains : PutsInOrder puts gained before mid
     pub fails : puts mid refused (Err fault) after
 
   -- `CompletesRun plan n T gained before after totals`: no put of the run of `plan` with the width
@@ -58,14 +58,14 @@ module _ {S : Type 0} (puts : S → Entry → Result (Unit {0}) SinkFault → S 
     pub legal : Legal plan n T
     pub once : NamesEachOnce plan (recorded plan n T)
     pub all : length gained ≡ length plan
-    pub gains : Gains puts gained before after
+    pub gains : PutsInOrder puts gained before after
     pub counts : Counts gained totals
 
   -- `FailsAtPut plan n T gained before after fault`: in the run of `plan` with the width `n` and
   -- the trace `T`, the put after those of the entries `gained` failed with `fault`. The puts lead
   -- the sink from `before` to `after`, and no body is started after the failed put.
   pub record FailsAtPut (plan : List Job) (n : ℕ) (T : Trace) (gained : List Entry) (before after : S) (fault : SinkFault) : Type 0 where
-    pub failed : FailedPut plan n T gained fault before after
+    pub failed : HasFailedPut plan n T gained fault before after
     pub stopped : Stopped plan n T failed.next.after
 
   -- `EndsAs plan n T gained before after result`: the run of `plan` with the width `n` and the
@@ -78,14 +78,14 @@ module _ {S : Type 0} (puts : S → Entry → Result (Unit {0}) SinkFault → S 
   EndsAs plan n T gained before after (Err (NoMemory refusal)) = StartsNothing T gained before after
 
 module _ {L S : Type 0} (l : launcher.Ghosts L) (s : sink.Ghosts S) where
-  -- `Ran plan n old new before after result`: the run of `plan` with the width `n` returns
+  -- `RunsPlan plan n old new before after result`: the run of `plan` with the width `n` returns
   -- `result`. A trace of responses leads the launcher from `old` to `new`. From `before` to
   -- `after`, the sink gains the entries of the first cases in record order. `l` and `s` are the
   -- relations of the launcher and the sink.
-  pub record Ran (plan : List Job) (n : ℕ) (old new : L) (before after : S) (result : Result Totals RunFault) : Type 0 where
+  pub record RunsPlan (plan : List Job) (n : ℕ) (old new : L) (before after : S) (result : Result Totals RunFault) : Type 0 where
     pub trace : Trace
     pub leads : Leads l.starts l.waits plan trace old new
-    pub fits : Each (FitsAt plan) trace
+    pub fits : HoldsAtEachEvent (FitsAt plan) trace
     pub calls : (i : ℕ) → length (of i trace) ≤ 4
     pub once : (i : ℕ) → count_by (λ p. p == i) (recorded plan n trace) ≤ 1
     pub gained : List Entry

@@ -1,17 +1,17 @@
 -- The scheduler's state, and its relation to the responses so far.
 use Rattle.std.specs.Prelude.{ℕ, Bool, true, false, List, [], ◌∷◌, ◌++◌, ◌==◌, ◌≡◌, ◌≢◌, ◌<◌, ◌≤◌, ◌⊎◌, Option, Some, None, map, take, drop, filter, count_by, sum_by, length, slice_get, is_some, is_none, ⊤}
 use Rattle.std.specs.Option.{option_map, option_to_list}
-use Rattle.kt_sched.specs.Types.{Answer, Body, Case, CaseRecord, Cleaning, Cleanup, Decided, Ended, EndedBody, Entry, Finished, Job, Judged, Next, Owing, Running, Stage, Started, Taken, Waiting}
+use Rattle.kt_sched.specs.Types.{Answer, Body, Case, CaseRecord, Cleaning, Cleanup, Decided, Ended, EndedBody, Entry, Finished, Job, VerdictValue, Next, PendingCleanup, Running, Stage, Started, Taken, Waiting}
 use Rattle.kt_sched.specs.declared.next.Next.TheVariants as next
 use Rattle.kt_status.specs.Tables.{IsVerdict}
 use Rattle.kt_sched.specs.Trace.{Event, Start, End, Trace, Then, of}
 use Rattle.kt_sched.specs.History.{kind_of_event, is_whole}
 use Rattle.kt_sched.specs.TurnOrder.{body_starts, turns}
-use Rattle.kt_sched.specs.ScheduleRules.{owed}
-use Rattle.kt_sched.specs.RecordOrder.{is_open, was_open, recorded}
-use Rattle.kt_sched.specs.EntryOf.{entry, IsEntry, no_output}
+use Rattle.kt_sched.specs.ScheduleRules.{pending_cleanup}
+use Rattle.kt_sched.specs.RecordOrder.{is_put_allowed, was_put_allowed, recorded}
+use Rattle.kt_sched.specs.EntryOf.{entry, IsEntry, empty_output}
 use Rattle.kt_sched.specs.Plan.{IsPlan}
-use Rattle.kt_sched.specs.Fed.{Fed, has_failed, IsAnswerTo}
+use Rattle.kt_sched.specs.Responses.{Responses, has_failed, IsAnswerTo}
 
 -- `SchedState`: a state of the scheduler, with the fields of `Sched`.
 pub record SchedState : Type 0 where
@@ -34,7 +34,7 @@ is_waiting_stage _ = false
 -- `is_active_stage stage`: a case in the stage `stage` is active.
 abbrev pub is_active_stage : Stage → Bool
 is_active_stage (Running m) = true
-is_active_stage (Owing b) = true
+is_active_stage (PendingCleanup b) = true
 is_active_stage (Cleaning b) = true
 is_active_stage _ = false
 
@@ -43,7 +43,7 @@ abbrev pub stage_work : Stage → ℕ
 stage_work Waiting = 5
 stage_work Decided = 1
 stage_work (Running m) = 4
-stage_work (Owing b) = 3
+stage_work (PendingCleanup b) = 3
 stage_work (Cleaning b) = 2
 stage_work (Finished t) = 1
 stage_work Taken = 0
@@ -60,24 +60,24 @@ ReducesWork (next.Start i role) old new = new < old
 ReducesWork next.Wait old new = new < old
 ReducesWork next.Done old new = ⊤
 
--- `decided_record verdict`: the record of a case with the verdict `verdict` that was not started.
-abbrev pub decided_record : Judged → CaseRecord
-decided_record verdict = record { verdict = verdict; started = 0; millis = 0; body = no_output; cleanup = no_output }
+-- `unstarted_record verdict`: the record of a case with the verdict `verdict` that was not started.
+abbrev pub unstarted_record : VerdictValue → CaseRecord
+unstarted_record verdict = record { verdict = verdict; started = 0; millis = 0; body = empty_output; cleanup = empty_output }
 
 -- `record_in job stage`: the record of the case of `job` in the stage `stage`, if the stage is
 -- `Finished` or `Decided`, else `None`.
 abbrev pub record_in : Job → Stage → Option CaseRecord
 record_in job (Finished t) = Some t
-record_in job Decided = option_map decided_record job.decided
+record_in job Decided = option_map unstarted_record job.decided
 record_in job _ = None
 
--- `entry_with job record`: the entry of `job` with the record `record`.
+-- `entry_with job t`: the entry of `job` with the record `t`.
 abbrev pub entry_with : Job → CaseRecord → Entry
 entry_with job t = entry job t.verdict t.started t.millis t.body t.cleanup
 
--- `ended_body verdict started e`: the data kept of a body with the verdict `verdict` that started
--- at the timestamp `started` and ended with `e`.
-abbrev pub ended_body : Judged → ℕ → Ended → EndedBody
+-- `ended_body verdict started e`: the data that is kept of a body with the verdict `verdict`. The
+-- body started at the timestamp `started` and ended with `e`.
+abbrev pub ended_body : VerdictValue → ℕ → Ended → EndedBody
 ended_body verdict started e = record { started = started; ended = e.moment; verdict = verdict; output = e.output }
 
 -- `IsStage i job stage events`: `stage` is the stage of case `i`, whose job is `job`, after its
@@ -86,7 +86,7 @@ abbrev pub IsStage : ℕ → Job → Stage → List Event → Type 0
 IsStage i job Waiting es = (es ≡ []) × (job.decided ≡ None)
 IsStage i job Decided es = (es ≡ []) × (is_some job.decided ≡ true)
 IsStage i job (Running m) es = (es ≡ Start i Body (Started m) ∷ []) × (job.decided ≡ None)
-IsStage i job (Owing b) es =
+IsStage i job (PendingCleanup b) es =
     (e : Ended) × (es ≡ Start i Body (Started b.started) ∷ End e ∷ []) × (e.role ≡ Body) × (job.cleanup ≡ true)
     × IsVerdict e.evidence e.outcome b.verdict × (b ≡ ended_body b.verdict b.started e) × (job.decided ≡ None)
 IsStage i job (Cleaning b) es =
@@ -103,9 +103,9 @@ pub record RepresentsCase (T : Trace) (i : ℕ) (job : Job) (cases : List Case) 
   pub stage : IsStage i job case.stage (of i T)
   pub kept : case.stage ≢ Taken → case.job ≡ job
 
--- `HasExclusive cases i flag`: case `i` of `cases` is exclusive if `flag` is true, else ordinary.
-abbrev pub HasExclusive : List Case → ℕ → Bool → Type 0
-HasExclusive cases i flag = (c : Case) × (slice_get cases i ≡ Some c) × (c.job.exclusive ≡ flag)
+-- `HasExclusiveFlag cases i flag`: case `i` of `cases` is exclusive if `flag` is true, else ordinary.
+abbrev pub HasExclusiveFlag : List Case → ℕ → Bool → Type 0
+HasExclusiveFlag cases i flag = (c : Case) × (slice_get cases i ≡ Some c) × (c.job.exclusive ≡ flag)
 
 -- `is_decided_stage stage`: a case in the stage `stage` is decided, and waits for its turn to be
 -- put.
@@ -113,36 +113,37 @@ abbrev pub is_decided_stage : Stage → Bool
 is_decided_stage Decided = true
 is_decided_stage _ = false
 
--- `HasDecided cases i flag`: case `i` of `cases` is in the stage `Decided` if `flag` is true, else
+-- `HasDecidedFlag cases i flag`: case `i` of `cases` is in the stage `Decided` if `flag` is true, else
 -- in another stage.
-abbrev pub HasDecided : List Case → ℕ → Bool → Type 0
-HasDecided cases i flag = (c : Case) × (slice_get cases i ≡ Some c) × (is_decided_stage c.stage ≡ flag)
+abbrev pub HasDecidedFlag : List Case → ℕ → Bool → Type 0
+HasDecidedFlag cases i flag = (c : Case) × (slice_get cases i ≡ Some c) × (is_decided_stage c.stage ≡ flag)
 
--- `HasTurn b i`: in the state `b`, case `i` is at the turn, no put failed, and there is a free
--- slot. Fewer cases are active than the width, and none if case `i` is exclusive.
+-- `HasTurn b i`: in the state `b`, case `i` is next in turn order, no put failed, and there is a
+-- free slot. Fewer cases are active than the width, and none if case `i` is exclusive.
 abbrev pub HasTurn : SchedState → ℕ → Type 0
-HasTurn b i = (b.failed ≡ false) × (slice_get b.order b.turn ≡ Some i) × (b.active < b.width) × (b.active ≡ 0 ⊎ HasExclusive b.cases i false)
+HasTurn b i = (b.failed ≡ false) × (slice_get b.order b.turn ≡ Some i) × (b.active < b.width) × (b.active ≡ 0 ⊎ HasExclusiveFlag b.cases i false)
 
--- `IsSettled b`: if no case is ready in the state `b`, the case at the turn is not a decided case
--- with a free slot.
+-- `IsSettled b`: if no case is ready in the state `b`, the next case in turn order is not a decided
+-- case with a free slot.
 abbrev pub IsSettled : SchedState → Type 0
-IsSettled b = b.ready ≡ None → (i : ℕ) → HasTurn b i → HasDecided b.cases i false
+IsSettled b = b.ready ≡ None → (i : ℕ) → HasTurn b i → HasDecidedFlag b.cases i false
 
--- `IsAsked b next`: the state `b` is a state after the scheduler requested the step `next`.
-abbrev pub IsAsked : SchedState → Next → Type 0
-IsAsked b (next.Start i Body) = (b.ready ≡ None) × (b.pending ≡ None) × HasTurn b i × IsSettled b
-IsAsked b (next.Start i Cleanup) = (b.ready ≡ None) × (b.pending ≡ Some i) × IsSettled b
-IsAsked b next.Wait = (b.ready ≡ None) × (b.pending ≡ None) × (0 < b.active) × IsSettled b
-IsAsked b (next.Put i) = (b.failed ≡ false) × (b.ready ≡ Some i)
-IsAsked b next.Done = ⊤
+-- `HasRequested b next`: the scheduler may be in the state `b` after it requested the step `next`.
+abbrev pub HasRequested : SchedState → Next → Type 0
+HasRequested b (next.Start i Body) = (b.ready ≡ None) × (b.pending ≡ None) × HasTurn b i × IsSettled b
+HasRequested b (next.Start i Cleanup) = (b.ready ≡ None) × (b.pending ≡ Some i) × IsSettled b
+HasRequested b next.Wait = (b.ready ≡ None) × (b.pending ≡ None) × (0 < b.active) × IsSettled b
+HasRequested b (next.Put i) = (b.failed ≡ false) × (b.ready ≡ Some i)
+HasRequested b next.Done = ⊤
 
 -- `HasRecord cases i`: case `i` of `cases` has a record, so its entry can be taken.
 abbrev pub HasRecord : List Case → ℕ → Type 0
 HasRecord cases i = (c : Case) × (t : CaseRecord) × (slice_get cases i ≡ Some c) × (record_in c.job c.stage ≡ Some t)
 
--- `CanLend cases i`: the entry of case `i` of `cases` is not taken yet, so its job can be lent.
-abbrev pub CanLend : List Case → ℕ → Type 0
-CanLend cases i = (c : Case) × (slice_get cases i ≡ Some c) × (c.stage ≢ Taken)
+-- `IsNotTaken cases i`: the entry of case `i` of `cases` is not taken yet, so `Sched::job` may
+-- return its job.
+abbrev pub IsNotTaken : List Case → ℕ → Type 0
+IsNotTaken cases i = (c : Case) × (slice_get cases i ≡ Some c) × (c.stage ≢ Taken)
 
 -- `is_decided job`: the verdict of `job` is decided before the run.
 abbrev pub is_decided : Job → Bool
@@ -152,53 +153,53 @@ is_decided job = is_some job.decided
 abbrev pub is_undecided : Job → Bool
 is_undecided job = is_none job.decided
 
--- `opened plan n T turn`: the decided cases of `plan` from the turn `turn` on whose entries may be
--- put after the events `T`, with the width `n`.
-abbrev pub opened : List Job → ℕ → Trace → ℕ → List Job
-opened plan n T turn = filter (is_open plan n T) (drop turn (turns plan))
+-- `allowed_puts plan n T turn`: the decided jobs of `plan` at the index `turn` or later in turn
+-- order whose entries may be put after the events `T`, with the width `n`.
+abbrev pub allowed_puts : List Job → ℕ → Trace → ℕ → List Job
+allowed_puts plan n T turn = filter (is_put_allowed plan n T) (drop turn (turns plan))
 
 -- `positions jobs`: the positions of `jobs`, in order.
 abbrev pub positions : List Job → List ℕ
 positions jobs = map (λ (job : Job). job.position) jobs
 
--- `HaveBeenOpen plan n T turn`: after the events `T`, `was_open plan n T` holds of each decided
--- case of `plan` before the turn `turn`. From the turn on, it holds only of the cases of which
--- `is_open plan n T` holds now.
-pub record HaveBeenOpen (plan : List Job) (n : ℕ) (T : Trace) (turn : ℕ) : Type 0 where
-  pub gone : (k : ℕ) (job : Job) → k < turn → slice_get (turns plan) k ≡ Some job → is_decided job ≡ true → was_open plan n T job ≡ true
-  pub due : (k : ℕ) (job : Job) → turn ≤ k → slice_get (turns plan) k ≡ Some job → was_open plan n T job ≡ is_open plan n T job
+-- `TracksAllowedPuts plan n T turn`: after the events `T`, `was_put_allowed plan n T` holds of each
+-- decided case of `plan` before the index `turn` in turn order. From this index on, it holds only
+-- of the cases of which `is_put_allowed plan n T` holds now.
+pub record TracksAllowedPuts (plan : List Job) (n : ℕ) (T : Trace) (turn : ℕ) : Type 0 where
+  pub gone : (k : ℕ) (job : Job) → k < turn → slice_get (turns plan) k ≡ Some job → is_decided job ≡ true → was_put_allowed plan n T job ≡ true
+  pub due : (k : ℕ) (job : Job) → turn ≤ k → slice_get (turns plan) k ≡ Some job → was_put_allowed plan n T job ≡ is_put_allowed plan n T job
 
--- `is_owing_stage stage`: a case in the stage `stage` owes its cleanup.
-abbrev pub is_owing_stage : Stage → Bool
-is_owing_stage (Owing b) = true
-is_owing_stage _ = false
+-- `is_pending_stage stage`: the cleanup of a case in the stage `stage` is to be started.
+abbrev pub is_pending_stage : Stage → Bool
+is_pending_stage (PendingCleanup b) = true
+is_pending_stage _ = false
 
--- `is_owed pending k`: case `k` is `pending`, the case that owes its cleanup.
-abbrev pub is_owed : Option ℕ → ℕ → Bool
-is_owed None k = false
-is_owed (Some i) k = k == i
+-- `is_pending_case pending k`: case `k` is `pending`, the case whose cleanup is to be started.
+abbrev pub is_pending_case : Option ℕ → ℕ → Bool
+is_pending_case None k = false
+is_pending_case (Some i) k = k == i
 
 -- `RepresentCases plan n T cases a width pending`: `cases`, `a`, `width` and `pending` are fields
 -- of the state of a scheduler of `plan` with the width `n` after the events `T`. `a` is the number
 -- of active cases, at most the width, and at most 1 if an exclusive case is active. `pending` is
--- the case that owes its cleanup.
+-- the case whose cleanup is to be started.
 pub record RepresentCases (plan : List Job) (n : ℕ) (T : Trace) (cases : List Case) (a width : ℕ) (pending : Option ℕ) : Type 0 where
   pub is_plan : IsPlan plan
   pub room : 0 < n
   pub width_is : width ≡ n
-  pub pending_is : pending ≡ owed plan T
+  pub pending_is : pending ≡ pending_cleanup plan T
   pub count : length cases ≡ length plan
   pub each : (i : ℕ) (job : Job) → slice_get plan i ≡ Some job → RepresentsCase T i job cases
   pub beyond : (i : ℕ) → length plan ≤ i → of i T ≡ []
   pub active : a ≡ count_by (λ c. is_active_stage c.stage) cases
   pub most : a ≤ n
   pub lone : (k : ℕ) (j : Job) (c : Case) → slice_get plan k ≡ Some j → slice_get cases k ≡ Some c → j.exclusive ≡ true → is_active_stage c.stage ≡ true → a ≡ 1
-  pub owing : (k : ℕ) (c : Case) → slice_get cases k ≡ Some c → is_owing_stage c.stage ≡ is_owed pending k
+  pub owing : (k : ℕ) (c : Case) → slice_get cases k ≡ Some c → is_pending_stage c.stage ≡ is_pending_case pending k
   pub owed_within : (k : ℕ) → pending ≡ Some k → k < length cases
 
 -- `RepresentsTurn plan T cases order turn`: `cases`, `order` and `turn` are fields of the state of
--- a scheduler of `plan` after the events `T`. `order` is the turn order. Exactly the undecided
--- cases before the turn were started.
+-- a scheduler of `plan` after the events `T`. `order` is the turn order, and `turn` is the index of
+-- its next case. Exactly the undecided cases before this index were started.
 pub record RepresentsTurn (plan : List Job) (T : Trace) (cases : List Case) (order : List ℕ) (turn : ℕ) : Type 0 where
   pub walk : order ≡ positions (turns plan)
   pub within : turn ≤ length order
@@ -207,41 +208,42 @@ pub record RepresentsTurn (plan : List Job) (T : Trace) (cases : List Case) (ord
       → (turn ≤ k → is_waiting_stage c.stage ≡ true) × (k < turn → c.stage ≢ Waiting)
 
 -- `RepresentPuts plan n fed order turn next stop`: `stop` is true if a put of the responses `fed`
--- failed. Otherwise, the puts left in the run of `plan` with the width `n` are the put of the ready
--- case `next`, if any, and of the open cases from the turn `turn` in `order` on.
-pub record RepresentPuts (plan : List Job) (n : ℕ) (fed : Fed) (order : List ℕ) (turn : ℕ) (next : Option ℕ) (stop : Bool) : Type 0 where
+-- failed. Otherwise, the run of `plan` with the width `n` has these puts left: the put of the ready
+-- case `next`, if any, and then those of `allowed_puts` for the index `turn`. `order` is the turn
+-- order.
+pub record RepresentPuts (plan : List Job) (n : ℕ) (fed : Responses) (order : List ℕ) (turn : ℕ) (next : Option ℕ) (stop : Bool) : Type 0 where
   pub failed : stop ≡ has_failed fed
   pub stopped : stop ≡ true → next ≡ None
   pub stored : fed.stored ≤ length (recorded plan n fed.trace)
-  pub gone : has_failed fed ≡ false → HaveBeenOpen plan n fed.trace turn
-  pub ready : has_failed fed ≡ false → drop fed.stored (recorded plan n fed.trace) ≡ option_to_list next ++ positions (opened plan n fed.trace turn)
+  pub gone : has_failed fed ≡ false → TracksAllowedPuts plan n fed.trace turn
+  pub ready : has_failed fed ≡ false → drop fed.stored (recorded plan n fed.trace) ≡ option_to_list next ++ positions (allowed_puts plan n fed.trace turn)
   pub ripe : (i m : ℕ) → next ≡ Some i → slice_get order m ≡ Some i → m < turn
 
--- `Stands plan n fed b`: `b` is the state of the scheduler of `plan` with the width `n` after the
--- responses `fed`.
-pub record Stands (plan : List Job) (n : ℕ) (fed : Fed) (b : SchedState) : Type 0 where
+-- `RepresentsRun plan n fed b`: `b` is the state of the scheduler of `plan` with the width `n`
+-- after the responses `fed`.
+pub record RepresentsRun (plan : List Job) (n : ℕ) (fed : Responses) (b : SchedState) : Type 0 where
   pub cases : RepresentCases plan n fed.trace b.cases b.active b.width b.pending
   pub turn : RepresentsTurn plan fed.trace b.cases b.order b.turn
   pub puts : RepresentPuts plan n fed b.order b.turn b.ready b.failed
   pub has_record : (i : ℕ) → b.ready ≡ Some i → b.asked ≡ next.Done → HasRecord b.cases i
-  pub asked : IsAsked b b.asked
+  pub asked : HasRequested b b.asked
 
--- `Implies b P`: `P` holds for each plan, width and responses of which `b` is the state.
-abbrev pub Implies : SchedState → (List Job → ℕ → Fed → Type 0) → Type 0
-Implies b P = (plan : List Job) (n : ℕ) (fed : Fed) → Stands plan n fed b → P plan n fed
+-- `HoldsForEachRun b P`: `P` holds for each plan, width and responses of which `b` is the state.
+abbrev pub HoldsForEachRun : SchedState → (List Job → ℕ → Responses → Type 0) → Type 0
+HoldsForEachRun b P = (plan : List Job) (n : ℕ) (fed : Responses) → RepresentsRun plan n fed b → P plan n fed
 
 -- `IsReachable b`: `b` is the state of a scheduler, for some plan, width and responses.
 abbrev pub IsReachable : SchedState → Type 0
-IsReachable b = (plan : List Job) × (n : ℕ) × (fed : Fed) × Stands plan n fed b
+IsReachable b = (plan : List Job) × (n : ℕ) × (fed : Responses) × RepresentsRun plan n fed b
 
 -- `IsAnswer b answer`: `answer` is a possible response to the step that was requested last in the
 -- state `b`.
 abbrev pub IsAnswer : SchedState → Answer → Type 0
-IsAnswer b answer = (plan : List Job) × (n : ℕ) × (fed : Fed) × Stands plan n fed b × IsAnswerTo fed.trace b.asked answer
+IsAnswer b answer = (plan : List Job) × (n : ℕ) × (fed : Responses) × RepresentsRun plan n fed b × IsAnswerTo fed.trace b.asked answer
 
--- `RecordsEvent old event new`: `event` leads the scheduler from the state `old` to the state
+-- `RecordsEvent old e new`: the event `e` leads the scheduler from the state `old` to the state
 -- `new`, which represents one more event and has less work left.
 pub record RecordsEvent (old : SchedState) (e : Event) (new : SchedState) : Type 0 where
-  pub stands : Implies old (λ plan n fed. Stands plan n (record fed { trace = Then fed.trace e }) new)
+  pub stands : HoldsForEachRun old (λ plan n fed. RepresentsRun plan n (record fed { trace = Then fed.trace e }) new)
   pub less : work new.cases < work old.cases
   pub asked : new.asked ≡ next.Done

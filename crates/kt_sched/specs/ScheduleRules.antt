@@ -2,15 +2,16 @@
 use Rattle.std.specs.Prelude.{ℕ, Bool, true, false, List, [], ◌&&◌, ◌||◌, ◌≡◌, ◌<◌, ◌⊎◌, Option, Some, None, map, take, length, slice_get, IfSome, MatchOption, if◌then◌else◌, ⊤}
 use Rattle.std.specs.List.{list_all}
 use Rattle.kt_sched.specs.Types.{Body, Cleanup, Job, Role}
-use Rattle.kt_sched.specs.Children.{same_role}
+use Rattle.kt_sched.specs.Children.{is_same_role}
 use Rattle.kt_sched.specs.Trace.{Event, Start, End, Trace, NoEvent, Then, of, first}
 use Rattle.kt_sched.specs.History.{has_whole_history, is_active, active}
 use Rattle.kt_sched.specs.TurnOrder.{body_starts, undecided_turns, next_to_start}
 
--- `Each P T`: `P U e` holds for each event `e` of `T`, where `U` are the events before `e`.
-abbrev pub Each : (Trace → Event → Type 0) → Trace → Type 0
-Each P NoEvent = ⊤
-Each P (Then T e) = Each P T × P T e
+-- `HoldsAtEachEvent P T`: `P U e` holds for each event `e` of `T`, where `U` are the events before
+-- `e`.
+abbrev pub HoldsAtEachEvent : (Trace → Event → Type 0) → Trace → Type 0
+HoldsAtEachEvent P NoEvent = ⊤
+HoldsAtEachEvent P (Then T e) = HoldsAtEachEvent P T × P T e
 
 -- `Order plan T`: the bodies in the trace `T` start in the turn order of `plan`.
 abbrev pub Order : List Job → Trace → Type 0
@@ -40,26 +41,26 @@ abbrev pub KeepsExclusive : List Job → Trace → Event → Type 0
 KeepsExclusive plan T (Start i role answer) = IsExclusiveAtStart plan T i role
 KeepsExclusive plan T (End ended) = ⊤
 
--- `declares plan i`: case `i` of `plan` declares a cleanup.
-abbrev pub declares : List Job → ℕ → Bool
-declares plan i = elim (slice_get plan i) [ None ↦ false | Some job ↦ job.cleanup ]
+-- `case_declares_cleanup plan i`: case `i` of `plan` declares a cleanup.
+abbrev pub case_declares_cleanup : List Job → ℕ → Bool
+case_declares_cleanup plan i = elim (slice_get plan i) [ None ↦ false | Some job ↦ job.cleanup ]
 
--- `owed plan T`: the position of the case of `plan` with a declared cleanup whose body ended with
--- the last event of `T`, or `None`.
-abbrev pub owed : List Job → Trace → Option ℕ
-owed plan NoEvent = None
-owed plan (Then T (Start i role answer)) = None
-owed plan (Then T (End ended)) = if same_role ended.role Body && declares plan ended.position then Some ended.position else None
+-- `pending_cleanup plan T`: the position of the case of `plan` whose body ended with the last event
+-- of `T`, if the case declares a cleanup. It is `None` if the last event is not such an end.
+abbrev pub pending_cleanup : List Job → Trace → Option ℕ
+pending_cleanup plan NoEvent = None
+pending_cleanup plan (Then T (Start i role answer)) = None
+pending_cleanup plan (Then T (End ended)) = if is_same_role ended.role Body && case_declares_cleanup plan ended.position then Some ended.position else None
 
 -- `IsCleanupStart event owing`: `event` is the start of the cleanup of case `owing`.
 abbrev pub IsCleanupStart : Event → ℕ → Type 0
 IsCleanupStart (Start i role answer) owing = (i ≡ owing) × (role ≡ Cleanup)
 IsCleanupStart (End ended) owing = ⊥
 
--- `StartsOwedCleanup plan T event`: if the last event of `T` ended a body of `plan` with a declared
--- cleanup, `event` is the start of this cleanup.
-abbrev pub StartsOwedCleanup : List Job → Trace → Event → Type 0
-StartsOwedCleanup plan T e = IfSome (owed plan T) (IsCleanupStart e)
+-- `StartsPendingCleanup plan T event`: if the last event of `T` ended a body of `plan` with a
+-- declared cleanup, `event` is the start of this cleanup.
+abbrev pub StartsPendingCleanup : List Job → Trace → Event → Type 0
+StartsPendingCleanup plan T e = IfSome (pending_cleanup plan T) (IsCleanupStart e)
 
 -- `IsBusy plan n T`: no body of `plan` may be started after the events `T` with the width `n`.
 -- Either `n` cases are active, no body is left, or the next body is exclusive and a case is active.
@@ -78,10 +79,10 @@ WaitsWhenBusy plan n T (End ended) = IsBusy plan n T
 pub record Legal (plan : List Job) (n : ℕ) (T : Trace) : Type 0 where
   pub whole : list_all (has_whole_history T) plan ≡ true
   pub order : Order plan T
-  pub width : Each (KeepsWidth plan n) T
-  pub exclusive : Each (KeepsExclusive plan) T
-  pub prompt : Each (StartsOwedCleanup plan) T
-  pub busy : Each (WaitsWhenBusy plan n) T
+  pub width : HoldsAtEachEvent (KeepsWidth plan n) T
+  pub exclusive : HoldsAtEachEvent (KeepsExclusive plan) T
+  pub prompt : HoldsAtEachEvent (StartsPendingCleanup plan) T
+  pub busy : HoldsAtEachEvent (WaitsWhenBusy plan n) T
 
 -- `Stopped plan n T k`: `T` is the trace of a run of `plan` with the width `n` whose put failed
 -- after `k` events. No body starts after these, each case that has an event has a whole history,
@@ -90,7 +91,7 @@ pub record Stopped (plan : List Job) (n : ℕ) (T : Trace) (k : ℕ) : Type 0 wh
   pub starts : body_starts T ≡ body_starts (first k T)
   pub whole : (job : Job) (i : ℕ) → slice_get plan i ≡ Some job → (of i T ≡ []) ⊎ (has_whole_history T job ≡ true)
   pub order : Order plan T
-  pub width : Each (KeepsWidth plan n) T
-  pub exclusive : Each (KeepsExclusive plan) T
-  pub prompt : Each (StartsOwedCleanup plan) T
-  pub busy : Each (WaitsWhenBusy plan n) (first k T)
+  pub width : HoldsAtEachEvent (KeepsWidth plan n) T
+  pub exclusive : HoldsAtEachEvent (KeepsExclusive plan) T
+  pub prompt : HoldsAtEachEvent (StartsPendingCleanup plan) T
+  pub busy : HoldsAtEachEvent (WaitsWhenBusy plan n) (first k T)

@@ -3,8 +3,8 @@ use Rattle.std.specs.Prelude.{ℕ, List, [], ◌∷◌, ◌++◌, not, filter, l
 use Rattle.kt_sched.specs.Types.{Body, Job}
 use Rattle.kt_sched.specs.Trace.{Event, Start, Trace, NoEvent, Then}
 
--- `body_start_of event`: a list of the position of the case whose body `event` starts, or an empty
--- list. A refused start counts, too.
+-- `body_start_of event`: the position of the case whose body `event` starts, as a list of at most
+-- one position. A refused start counts, too.
 abbrev pub body_start_of : Event → List ℕ
 body_start_of (Start i Body answer) = i ∷ []
 body_start_of other = []

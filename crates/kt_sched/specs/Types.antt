@@ -1,5 +1,5 @@
 -- The types that the definitions of this crate name, re-exported. Declares nothing.
-pub use Rattle.kt_base.specs.Verdicts.{Judged}
+pub use Rattle.kt_base.specs.Verdicts.{VerdictValue}
 pub use Rattle.kt_base.specs.declared.child.Role.{Role}
 pub use Rattle.kt_base.specs.declared.child.Role.TheVariants.{Body, Cleanup}
 pub use Rattle.kt_base.specs.declared.entry.Entry.{Entry}
@@ -17,5 +17,5 @@ pub use Rattle.kt_sched.specs.declared.stage.Case.{Case}
 pub use Rattle.kt_sched.specs.declared.stage.CaseRecord.{CaseRecord}
 pub use Rattle.kt_sched.specs.declared.stage.EndedBody.{EndedBody}
 pub use Rattle.kt_sched.specs.declared.stage.Stage.{Stage}
-pub use Rattle.kt_sched.specs.declared.stage.Stage.TheVariants.{Cleaning, Decided, Finished, Owing, Running, Taken, Waiting}
+pub use Rattle.kt_sched.specs.declared.stage.Stage.TheVariants.{Cleaning, Decided, Finished, PendingCleanup, Running, Taken, Waiting}
 pub use Rattle.kt_sched.specs.declared.totals.Totals.{Totals}

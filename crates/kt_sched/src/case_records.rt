@@ -1,13 +1,13 @@
 ghost use Rattle.std.specs.Prelude.{◌≡◌};
-ghost use Rattle.kt_sched.specs.Common.{decided_record, no_output};
+ghost use Rattle.kt_sched.specs.Common.{unstarted_record, empty_output};
 
 use crate::stage::CaseRecord;
 use kt_base::{Bytes, Output, Verdict};
 use std::alloc::Global;
 
 /// Returns the empty output of a child that did not run. The call doesn't allocate.
-pub fn no_output(alloc: Global) -> Output
-    ensures { result ≡ no_output }
+pub fn empty_output(alloc: Global) -> Output
+    ensures { result ≡ empty_output }
 {
     Output {
         out: Bytes::new(alloc),
@@ -15,17 +15,17 @@ pub fn no_output(alloc: Global) -> Output
     }
 }
 
-/// Creates the record of a case that was not started.
+/// Creates the record of a case with the verdict `verdict` that was not started.
 ///
-/// Its verdict was decided before the run, or the start of its body was refused.
-pub fn decided_record(alloc: Global, verdict: Verdict) -> CaseRecord
-    ensures { result ≡ decided_record verdict }
+/// The verdict was decided before the run, or the start of the body was refused.
+pub fn unstarted_record(alloc: Global, verdict: Verdict) -> CaseRecord
+    ensures { result ≡ unstarted_record verdict }
 {
     CaseRecord {
         verdict,
         started: 0,
         millis: 0,
-        body: no_output(alloc),
-        cleanup: no_output(alloc),
+        body: empty_output(alloc),
+        cleanup: empty_output(alloc),
     }
 }

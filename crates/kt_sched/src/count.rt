@@ -4,7 +4,7 @@ ghost use Rattle.kt_sched.specs.Common.{CanCount, counted};
 use crate::Totals;
 use kt_base::Kind;
 
-/// Returns the totals with one more entry, whose verdict is of the kind `kind`.
+/// Returns `totals` with one more entry, whose verdict is of the kind `kind`.
 pub fn counted(totals: Totals, kind: Kind) -> Totals
     requires { CanCount totals (2 ^ 64 - 1) }
     ensures { result ≡ counted totals kind }

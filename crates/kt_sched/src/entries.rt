@@ -1,13 +1,12 @@
 ghost use Rattle.kt_sched.specs.Common.{HasRecord, TakesEntry};
 
-use crate::case_records::decided_record;
+use crate::case_records::unstarted_record;
 use crate::stage::{Case, Stage};
 use kt_base::{Entry, Text, Variables};
 use std::alloc::Global;
 use std::mem;
 
-/// Removes the entry from the case at position `i`, which is over or decided, and returns the
-/// entry.
+/// Takes the entry of case `i`, which is over or decided, out of `cases`, and returns the entry.
 ///
 /// Names, reason and outputs are moved, not copied.
 pub fn take_entry(alloc: Global, cases: &mut Vec<Case>, i: u32) -> Entry
@@ -18,7 +17,7 @@ pub fn take_entry(alloc: Global, cases: &mut Vec<Case>, i: u32) -> Entry
     let stage = mem::replace(&mut case.stage, Stage::Taken);
     let case_record = match (stage, mem::replace(&mut case.job.decided, None)) {
         (Stage::Finished(case_record), _) => case_record,
-        (Stage::Decided, Some(verdict)) => decided_record(alloc, verdict),
+        (Stage::Decided, Some(verdict)) => unstarted_record(alloc, verdict),
         _ => unreachable!(),
     };
     Entry {

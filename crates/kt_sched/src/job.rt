@@ -1,11 +1,12 @@
 use kt_base::{Interface, Outcome, Output, Refused, Role, Text, Variables, Verdict};
 use kt_claim::Evidence;
 
-/// The greatest width, which is the number of cases that may be active at once (this profile).
+/// The greatest width of a run. The width is the maximum number of active cases at once (this
+/// profile).
 pub const MAX_WIDTH: u32 = 256;
 
 /// The greatest timeout of a case, in seconds (this profile).
-pub const MAX_TIMEOUT: u32 = 1_000_000;
+pub const MAX_TIMEOUT_SECONDS: u32 = 1_000_000;
 
 /// A job of the scheduler: one test case of a plan.
 pub struct Job {

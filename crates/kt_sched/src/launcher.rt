@@ -16,8 +16,8 @@ pub trait Launcher {
     ghost use Rattle.kt_sched.specs.Trace.{HasMoment};
     ghost use Rattle.kt_sched.specs.Plan.{IsFit};
 
-    /// The interface and the declared cleanup of the running child of the case at a position, in a
-    /// role. `None` if no such child runs.
+    /// The child that runs for the case at a position, in a role: the case's interface, and whether
+    /// the case declares a cleanup. `None` if no such child runs.
     ghost running: { Self → ℕ → Role → Option Child };
 
     /// `true` if the body of the case at a position ended, and the start of its declared cleanup
@@ -30,10 +30,10 @@ pub trait Launcher {
     /// The relation of the states before and after a wait, with the end that it returns.
     ghost waits: { Self → Ended → Self → Type 0 };
 
-    /// Starts the body or the cleanup of a case, and returns the timestamp of the start or the
-    /// cause of the refusal.
+    /// Starts the body or the cleanup of the case of `job`, as `role` selects.
     ///
-    /// A body may start if no child of its case runs or is pending. A cleanup may start only once,
+    /// Returns the timestamp of the start, or the cause of the refusal. A body may start if no
+    /// child of its case runs and no cleanup of its case is pending. A cleanup may start only once,
     /// after its body ended.
     fn start(&mut self, job: &Job, role: Role) -> StartAnswer
         requires fit { IsFit job.now }

@@ -16,7 +16,7 @@ mod sink;
 mod stage;
 mod totals;
 
-pub use job::{Ended, Job, MAX_TIMEOUT, MAX_WIDTH, StartAnswer};
+pub use job::{Ended, Job, MAX_TIMEOUT_SECONDS, MAX_WIDTH, StartAnswer};
 pub use launcher::Launcher;
 pub use next::{Answer, Next};
 pub use run::run_cases;

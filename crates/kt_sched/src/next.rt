@@ -10,7 +10,7 @@ pub enum Next {
     Wait,
     /// Put the entry of the case at this position into the sink.
     Put(u32),
-    /// Finish: no step is left.
+    /// Finish the run: no step is left.
     Done,
 }
 

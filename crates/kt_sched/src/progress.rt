@@ -1,8 +1,8 @@
 ghost use Rattle.std.specs.Prelude.{◌≡◌, ◌+◌, ◌<◌, ℕ, Bool, true, false, cond};
-ghost use Rattle.kt_sched.specs.Common.{IsAfter, Start, End, can_start, is_active_stage, owing_at, ready_at, same_role, stage_runs};
+ghost use Rattle.kt_sched.specs.Common.{ChangesStage, Start, End, can_start, is_active_stage, pending_at, ready_at, is_same_role, stage_runs};
 ghost use Rattle.kt_base.specs.declared.child.Role.TheVariants.{Body as TheBody};
 
-use crate::case_records::{decided_record, no_output};
+use crate::case_records::{empty_output, unstarted_record};
 use crate::stage::{CaseRecord, EndedBody, Stage};
 use crate::{Ended, StartAnswer};
 use kt_base::Role;
@@ -12,43 +12,43 @@ use std::alloc::Global;
 /// Returns the stage of a case after the response `answer` to a start in the role `role`.
 ///
 /// `was` is the stage before the start.
-pub fn after_start(alloc: Global, was: Stage, role: Role, answer: StartAnswer) -> Stage
+pub fn stage_after_start(alloc: Global, was: Stage, role: Role, answer: StartAnswer) -> Stage
     requires { can_start role was ≡ true }
-    ensures { (i : ℕ) (cleanup : Bool) → IsAfter cleanup was (Start i role answer) result }
+    ensures { (i : ℕ) (cleanup : Bool) → ChangesStage cleanup was (Start i role answer) result }
 {
     match (role, was) {
         (Role::Body, Stage::Waiting) => match answer {
             StartAnswer::Started(moment) => Stage::Running(moment),
-            StartAnswer::Refused(cause) => Stage::Finished(decided_record(
+            StartAnswer::Refused(cause) => Stage::Finished(unstarted_record(
                 alloc,
                 refused_verdict(cause),
             )),
         },
-        (Role::Cleanup, Stage::Owing(body)) => match answer {
+        (Role::Cleanup, Stage::PendingCleanup(body)) => match answer {
             StartAnswer::Started(_) => Stage::Cleaning(body),
             StartAnswer::Refused(_) => Stage::Finished(CaseRecord {
                 verdict: with_cleanup(body.verdict, CleanupEnd::Refused),
                 started: body.started,
                 millis: body.ended.saturating_sub(body.started),
                 body: body.output,
-                cleanup: no_output(alloc),
+                cleanup: empty_output(alloc),
             }),
         },
         _ => unreachable!(),
     }
 }
 
-/// Returns the stage of a case after the end of its child.
+/// Returns the stage of a case after the end `ended` of its child.
 ///
 /// `was` is the stage before the end. `cleanup` is `true` if the case declares a cleanup.
 ///
 /// If the clock was set back, the duration of the case is 0.
-pub fn after_end(alloc: Global, was: Stage, cleanup: bool, ended: Ended) -> Stage
+pub fn stage_after_end(alloc: Global, was: Stage, cleanup: bool, ended: Ended) -> Stage
     requires { stage_runs ended.role was ≡ true }
-    ensures { IsAfter cleanup was (End ended) result }
+    ensures { ChangesStage cleanup was (End ended) result }
 {
     match was {
-        Stage::Running(since) if cleanup => Stage::Owing(EndedBody {
+        Stage::Running(since) if cleanup => Stage::PendingCleanup(EndedBody {
             started: since,
             ended: ended.moment,
             verdict: body_verdict(ended.evidence, ended.outcome),
@@ -59,7 +59,7 @@ pub fn after_end(alloc: Global, was: Stage, cleanup: bool, ended: Ended) -> Stag
             started: since,
             millis: ended.moment.saturating_sub(since),
             body: ended.output,
-            cleanup: no_output(alloc),
+            cleanup: empty_output(alloc),
         }),
         Stage::Cleaning(body) => Stage::Finished(CaseRecord {
             verdict: with_cleanup(body.verdict, CleanupEnd::Ended(ended.outcome)),
@@ -74,25 +74,29 @@ pub fn after_end(alloc: Global, was: Stage, cleanup: bool, ended: Ended) -> Stag
 
 /// Returns the number of active cases after an event.
 ///
-/// `before` is `true` if the case of the event was active before it, and `stage` is the new stage
+/// `active` is the number of active cases before the event, and `width` is the greatest number of
+/// them. `before` is `true` if the case of the event was active before it. `stage` is the new stage
 /// of that case.
-pub fn active_after(active: u32, width: u32, before: bool, stage: &Stage) -> u32
+pub fn count_active(active: u32, width: u32, before: bool, stage: &Stage) -> u32
     requires less { before ≡ true → 0 < active }
     requires more { before ≡ false → active < width }
     ensures { result + cond before 1 0 ≡ active + cond (is_active_stage stage.now) 1 0 }
 {
     match stage {
-        Stage::Running(_) | Stage::Owing(_) | Stage::Cleaning(_) if before => active,
-        Stage::Running(_) | Stage::Owing(_) | Stage::Cleaning(_) => active + 1,
+        Stage::Running(_) | Stage::PendingCleanup(_) | Stage::Cleaning(_) if before => active,
+        Stage::Running(_) | Stage::PendingCleanup(_) | Stage::Cleaning(_) => active + 1,
         _ if before => active - 1,
         _ => active,
     }
 }
 
-/// Returns the turn after a start: the next turn for a body, the current turn for a cleanup.
-pub fn turn_after(turn: usize, cases: usize, role: Role) -> usize
+/// Returns the index of the next case in turn order after a start in `role`.
+///
+/// `turn` is the index before the start. A start of a body adds 1 to it, and a start of a cleanup
+/// keeps it. `cases` is the number of cases.
+pub fn turn_after_start(turn: usize, cases: usize, role: Role) -> usize
     requires { role ≡ TheBody → turn < cases }
-    ensures { result ≡ turn + cond (same_role role TheBody) 1 0 }
+    ensures { result ≡ turn + cond (is_same_role role TheBody) 1 0 }
 {
     match role {
         Role::Body => turn + 1,
@@ -100,18 +104,21 @@ pub fn turn_after(turn: usize, cases: usize, role: Role) -> usize
     }
 }
 
-/// Returns the pending position and the ready position after an event of the case at position `i`.
+/// Returns the fields `pending` and `ready` of the scheduler after an event of the case at position
+/// `i`.
 ///
-/// The first is `i` if the case owes its cleanup. The second is `i` if its entry is to be put.
+/// `stage` is the new stage of the case, and `failed` is `true` if a put failed. The first result
+/// is `i` if the cleanup of the case is to be started next. The second result is `i` if the entry
+/// of the case is to be put.
 ///
 /// The entry is to be put if the case is over and no put failed. An event leaves no case in the
 /// stage `Decided` or `Taken`.
-pub fn pending_and_ready(stage: &Stage, failed: bool, i: u32) -> (Option<u32>, Option<u32>)
-    ensures owing { result.0 ≡ owing_at stage.now i }
+pub fn pending_and_ready_cases(stage: &Stage, failed: bool, i: u32) -> (Option<u32>, Option<u32>)
+    ensures owing { result.0 ≡ pending_at stage.now i }
     ensures ready { result.1 ≡ ready_at stage.now failed i }
 {
     match stage {
-        Stage::Owing(_) => (Some(i), None),
+        Stage::PendingCleanup(_) => (Some(i), None),
         Stage::Decided | Stage::Finished(_) | Stage::Taken if !failed => (None, Some(i)),
         _ => (None, None),
     }

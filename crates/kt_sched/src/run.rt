@@ -1,5 +1,5 @@
 ghost use Rattle.std.specs.Prelude.{◌≡◌};
-ghost use Rattle.kt_sched.specs.Common.{IsIdle, IsPlan, IsWidth, Ran};
+ghost use Rattle.kt_sched.specs.Common.{IsIdle, IsPlan, IsWidth, RunsPlan};
 
 use crate::count::counted;
 use crate::{Job, Launcher, Next, RunFault, Sched, Sink, SinkFault, Totals};
@@ -8,7 +8,7 @@ use std::alloc::Global;
 
 /// Executes a plan's cases, at most `width` at once, and puts the entry of each case into a sink.
 ///
-/// Returns the numbers of the entries that were put, by their verdicts.
+/// Returns the counts of the entries that were put, by their verdicts.
 ///
 /// The function itself doesn't allocate after its first call of the launcher.
 ///
@@ -28,7 +28,7 @@ pub fn run_cases<L: Launcher, S: Sink>(
     requires plan { IsPlan plan }
     requires width { IsWidth width }
     requires idle { IsIdle (L.running launcher.old) (L.pending launcher.old) }
-    ensures ran { Ran L.Launcher S.Sink plan width launcher.old launcher.new sink.old
+    ensures ran { RunsPlan L.Launcher S.Sink plan width launcher.old launcher.new sink.old
         sink.new result }
     ensures idle { IsIdle (L.running launcher.new) (L.pending launcher.new) }
 {

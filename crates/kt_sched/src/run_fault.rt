@@ -7,7 +7,7 @@ use thiserror::Error;
 
 /// Errors returned by [`run_cases`].
 #[derive(Clone, Copy, Debug, Error)]
-#[error("{}", self.words())]
+#[error("{}", self.message())]
 pub enum RunFault {
     /// An allocation failed before the first launcher call.
     NoMemory(NoMemory),
@@ -17,15 +17,15 @@ pub enum RunFault {
 }
 
 impl RunFault {
-    ghost use Rattle.kt_sched.specs.FaultWords.{run_words};
+    ghost use Rattle.kt_sched.specs.FaultMessages.{run_message};
 
     /// Returns the message of the error, which `Display` prints (this profile).
-    pub fn words(&self) -> &'static str
-        ensures { result.now ≡ run_words self.now }
+    pub fn message(&self) -> &'static str
+        ensures { result.now ≡ run_message self.now }
     {
         match self {
             RunFault::NoMemory(_) => OUT_OF_MEMORY,
-            RunFault::SinkFailed(fault) => fault.words(),
+            RunFault::SinkFailed(fault) => fault.message(),
         }
     }
 }

@@ -1,6 +1,8 @@
 use crate::entries::take_entry;
-use crate::progress::{active_after, after_end, after_start, pending_and_ready, turn_after};
-use crate::setup::{turn_order, waiting_cases};
+use crate::progress::{
+    count_active, pending_and_ready_cases, stage_after_end, stage_after_start, turn_after_start,
+};
+use crate::setup::{create_cases, turn_order};
 use crate::stage::{Case, Stage};
 use crate::{Answer, Ended, Job, Next, StartAnswer};
 use kt_base::{Entry, Items, NoMemory, Role};
@@ -70,7 +72,7 @@ impl Model for Sched {
 
 impl Sched {
     ghost use Rattle.std.specs.Prelude.{◌≡◌, ℕ, length, ◌^◌, Some, slice_get, IfOk, ◌<◌, ◌+◌, true, false};
-    ghost use Rattle.kt_sched.specs.Common.{Next, Start, End, Case, Role, IsPlan, IsWidth, responses_after_put, responses_after, no_responses, IsNext, Follows, IsEntryOf, IsChosen, IsTurn, stage_runs, Implies, SchedState, Stands, IsAnswer, IsSettled, HasRecord, CanLend, RecordsEvent, work, ReducesWork};
+    ghost use Rattle.kt_sched.specs.Common.{Next, Start, End, Case, Role, IsPlan, IsWidth, responses_after_put, responses_after, no_responses, IsNext, Follows, IsEntryOf, IsChosen, IsStartableCase, stage_runs, HoldsForEachRun, SchedState, RepresentsRun, IsAnswer, IsSettled, HasRecord, IsNotTaken, RecordsEvent, work, ReducesWork};
 
     /// Creates a scheduler of `plan` that has no response yet.
     ///
@@ -82,13 +84,13 @@ impl Sched {
     pub fn new(alloc: Global, plan: Items<Job>, width: u32) -> Result<Sched, NoMemory>
         requires plan { IsPlan plan }
         requires width { IsWidth width }
-        ensures stands { IfOk result (λ s. Stands plan width no_responses s) }
+        ensures stands { IfOk result (λ s. RepresentsRun plan width no_responses s) }
         ensures asked { IfOk result (λ s. s.asked ≡ Next.Done) }
         ensures room { IfOk result (λ s. length plan < 2 ^ 64) }
     {
         let jobs = plan.into_vec();
         let order = turn_order(alloc, &jobs)?;
-        let cases = waiting_cases(alloc, jobs)?;
+        let cases = create_cases(alloc, jobs)?;
         Ok(Sched {
             alloc,
             cases,
@@ -103,17 +105,17 @@ impl Sched {
         })
     }
 
-    /// Returns the job at a position of the plan.
+    /// Returns the job at `position` in the plan.
     ///
     /// The entry of the job's case must not be taken yet.
     pub fn job(&self, position: u32) -> &Job
-        requires { CanLend self.now.cases position }
-        ensures { Implies self.now (λ plan _ _. slice_get plan position ≡ Some result.now) }
+        requires { IsNotTaken self.now.cases position }
+        ensures { HoldsForEachRun self.now (λ plan _ _. slice_get plan position ≡ Some result.now) }
     {
         &self.cases[position as usize].job
     }
 
-    /// Removes the entry of the case at a position, and returns it.
+    /// Takes the entry of the case at `position` out of the scheduler, and returns the entry.
     ///
     /// The step that `next` returned last must be the put of this entry.
     pub fn take(&mut self, position: u32) -> Entry
@@ -121,14 +123,15 @@ impl Sched {
         requires has_record { HasRecord self.old.cases position }
         ensures less { work self.new.cases < work self.old.cases }
         ensures asked { self.new.asked ≡ Next.Put position }
-        ensures stands { Implies self.old (λ plan n fed. Stands plan n fed self.new) }
-        ensures entry { Implies self.old (λ plan _ fed. IsEntryOf plan fed.trace position result) }
+        ensures stands { HoldsForEachRun self.old (λ plan n fed. RepresentsRun plan n fed self.new) }
+        ensures entry { HoldsForEachRun self.old (λ plan _ fed. IsEntryOf plan fed.trace position
+            result) }
     {
         let taken = take_entry(self.alloc, &mut self.cases, position);
         taken
     }
 
-    /// Records the response to the step that `next` returned last.
+    /// Records `answer`, the response to the step that `next` returned last.
     ///
     /// The response must fit this step. The method is for callers that keep responses as values,
     /// and has the effect of `started`, `ended` or `put`.
@@ -136,8 +139,9 @@ impl Sched {
         requires { IsAnswer self.old answer }
         ensures works { ReducesWork self.old.asked (work self.old.cases) (work self.new.cases) }
         ensures asked { self.new.asked ≡ Next.Done }
-        ensures stands { Implies self.old
-            (λ plan n fed. Stands plan n (responses_after fed self.old.asked answer) self.new) }
+        ensures stands { HoldsForEachRun self.old
+            (λ plan n fed. RepresentsRun plan n (responses_after fed self.old.asked answer)
+            self.new) }
     {
         match (self.asked, answer) {
             (Next::Start(i, role), Answer::Started(moment)) => {
@@ -153,21 +157,22 @@ impl Sched {
         }
     }
 
-    /// Records the response `answer` to the start of case `i`, which `next` returned last.
+    /// Records the response `answer` to the start of case `i` in `role`, which `next` returned
+    /// last.
     pub(crate) fn started(&mut self, i: u32, role: Role, answer: StartAnswer)
         requires { self.old.asked ≡ Next.Start i role }
         ensures { RecordsEvent self.old (Start i role answer) self.new }
     {
         let case = &mut self.cases[i as usize];
         let was = mem::replace(&mut case.stage, Stage::Taken);
-        case.stage = after_start(self.alloc, was, role, answer);
-        self.turn = turn_after(self.turn, self.order.len(), role);
-        self.active = active_after(self.active, self.width, role == Role::Cleanup, &case.stage);
-        (self.pending, self.ready) = pending_and_ready(&case.stage, self.failed, i);
+        case.stage = stage_after_start(self.alloc, was, role, answer);
+        self.turn = turn_after_start(self.turn, self.order.len(), role);
+        self.active = count_active(self.active, self.width, role == Role::Cleanup, &case.stage);
+        (self.pending, self.ready) = pending_and_ready_cases(&case.stage, self.failed, i);
         self.asked = Next::Done;
     }
 
-    /// Records the end of a running child, after `next` returned a wait.
+    /// Records `ended`, the end of a running child, after `next` returned a wait.
     pub(crate) fn ended(&mut self, ended: Ended)
         requires asked { self.old.asked ≡ Next.Wait }
         requires runs { (c : Case) × (slice_get self.old.cases ended.position ≡ Some c)
@@ -177,9 +182,9 @@ impl Sched {
         let i = ended.position;
         let case = &mut self.cases[i as usize];
         let was = mem::replace(&mut case.stage, Stage::Taken);
-        case.stage = after_end(self.alloc, was, case.job.cleanup, ended);
-        self.active = active_after(self.active, self.width, true, &case.stage);
-        (self.pending, self.ready) = pending_and_ready(&case.stage, self.failed, i);
+        case.stage = stage_after_end(self.alloc, was, case.job.cleanup, ended);
+        self.active = count_active(self.active, self.width, true, &case.stage);
+        (self.pending, self.ready) = pending_and_ready_cases(&case.stage, self.failed, i);
         self.asked = Next::Done;
     }
 
@@ -188,30 +193,31 @@ impl Sched {
     /// If several steps apply, the order is: a put, the start of a cleanup, the start of a body, a
     /// wait.
     pub fn next(&mut self) -> Next
-        ensures next { Implies self.old (λ plan n fed. IsNext plan n fed result) }
-        ensures only { Implies self.old
+        ensures next { HoldsForEachRun self.old (λ plan n fed. IsNext plan n fed result) }
+        ensures only { HoldsForEachRun self.old
             (λ plan n fed. (other : Next) → IsNext plan n fed other → other ≡ result) }
-        ensures follows { Implies self.old (λ plan n fed. Follows plan n fed result) }
-        ensures stands { Implies self.old (λ plan n fed. Stands plan n fed self.new) }
+        ensures follows { HoldsForEachRun self.old (λ plan n fed. Follows plan n fed result) }
+        ensures stands { HoldsForEachRun self.old (λ plan n fed. RepresentsRun plan n fed self.new) }
         ensures same { work self.new.cases ≡ work self.old.cases }
         ensures asked { self.new.asked ≡ result }
         ensures lends { (i : ℕ) (role : Role) → result ≡ Next.Start i role
-            → CanLend self.new.cases i }
+            → IsNotTaken self.new.cases i }
         ensures has_record { self.old.asked ≡ Next.Done → (i : ℕ) → result ≡ Next.Put i
             → HasRecord self.new.cases i }
     {
         self.mark_decided_ready();
-        let next = self.choice();
+        let next = self.choose_step();
         self.asked = next;
         next
     }
 
-    /// Makes the decided case at the turn ready to be put.
+    /// Makes the next case in turn order ready to be put, if its verdict was decided before the
+    /// run.
     ///
-    /// Does nothing if another case is ready, if the case at the turn is not decided, or if there
-    /// is no free slot for it.
+    /// Does nothing if another case is ready, if the next case is not decided, or if there is no
+    /// free slot for it.
     fn mark_decided_ready(&mut self)
-        ensures stands { Implies self.old (λ plan n fed. Stands plan n fed self.new) }
+        ensures stands { HoldsForEachRun self.old (λ plan n fed. RepresentsRun plan n fed self.new) }
         ensures same { self.new.cases ≡ self.old.cases }
         ensures settled { IsSettled self.new }
         ensures has_record { self.old.asked ≡ Next.Done → (i : ℕ) → self.new.ready ≡ Some i
@@ -220,7 +226,7 @@ impl Sched {
         let None = self.ready else {
             return;
         };
-        let Some(i) = self.startable_at_turn() else {
+        let Some(i) = self.startable_case() else {
             return;
         };
         let Stage::Decided = &self.cases[i as usize].stage else {
@@ -232,14 +238,14 @@ impl Sched {
     }
 
     /// Selects the next step: a put first, then a cleanup, then a body, then a wait, else `Done`.
-    fn choice(&self) -> Next
+    fn choose_step(&self) -> Next
         ensures { IsChosen self.now result }
     {
         if let Some(i) = self.ready {
             Next::Put(i)
         } else if let Some(i) = self.pending {
             Next::Start(i, Role::Cleanup)
-        } else if let Some(i) = self.startable_at_turn() {
+        } else if let Some(i) = self.startable_case() {
             Next::Start(i, Role::Body)
         } else if self.active > 0 {
             Next::Wait
@@ -248,14 +254,14 @@ impl Sched {
         }
     }
 
-    /// Returns the position of the case at the turn, if no put failed and there is a free slot for
-    /// the case.
+    /// Returns the position of the next case in turn order, if no put failed and there is a free
+    /// slot for the case.
     ///
-    /// There is a free slot if fewer than `width` cases are active. An exclusive case needs a time
-    /// at which no case is active. A case is active until its cleanup is over. Exclusive cases have
-    /// the last turns, so none of them is active at the turn of an ordinary case.
-    fn startable_at_turn(&self) -> Option<u32>
-        ensures { IsTurn self.now result }
+    /// There is a free slot if fewer than `width` cases are active. For an exclusive case, no case
+    /// may be active. A case is active until its cleanup is over. Exclusive cases are last in turn
+    /// order, so none of them is active if the next case is ordinary.
+    fn startable_case(&self) -> Option<u32>
+        ensures { IsStartableCase self.now result }
     {
         if self.failed || self.turn >= self.order.len() || self.active >= self.width {
             return None;
@@ -277,8 +283,8 @@ impl Sched {
         requires { self.old.asked ≡ Next.Put i }
         ensures same { self.new.cases ≡ self.old.cases }
         ensures asked { self.new.asked ≡ Next.Done }
-        ensures stands { Implies self.old
-            (λ plan n fed. Stands plan n (responses_after_put fed failed) self.new) }
+        ensures stands { HoldsForEachRun self.old
+            (λ plan n fed. RepresentsRun plan n (responses_after_put fed failed) self.new) }
     {
         self.ready = None;
         self.failed = failed;

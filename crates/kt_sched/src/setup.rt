@@ -1,14 +1,14 @@
 ghost use Rattle.std.specs.Prelude.{OnOk, ◌++◌, ◌≡◌, map, IfOk};
-ghost use Rattle.kt_sched.specs.Common.{turns, first_case, positions_where, positions};
+ghost use Rattle.kt_sched.specs.Common.{turns, initial_case, positions_where, positions};
 
 use crate::Job;
 use crate::stage::{Case, Stage};
 use kt_base::NoMemory;
 use std::alloc::Global;
 
-/// Creates the case of `job`, which waits for its turn.
-fn first_case(job: Job) -> Case
-    ensures { result ≡ first_case job }
+/// Creates the case of `job` in its first stage: it waits for its turn to start or to be recorded.
+fn initial_case(job: Job) -> Case
+    ensures { result ≡ initial_case job }
 {
     let stage = match &job.decided {
         None => Stage::Waiting,
@@ -22,14 +22,18 @@ fn first_case(job: Job) -> Case
 /// # Errors
 ///
 /// - `NoMemory`: an allocation fails.
-pub fn waiting_cases(alloc: Global, plan: Vec<Job>) -> Result<Vec<Case>, NoMemory>
-    ensures { IfOk result (λ cases. cases.items ≡ map first_case plan.items) }
+pub fn create_cases(alloc: Global, plan: Vec<Job>) -> Result<Vec<Case>, NoMemory>
+    ensures { IfOk result (λ cases. cases.items ≡ map initial_case plan.items) }
 {
-    let cases = plan.into_iter().map(|job| first_case(job)).collect(alloc)?;
+    let cases = plan
+        .into_iter()
+        .map(|job| initial_case(job))
+        .collect(alloc)?;
     Ok(cases)
 }
 
-/// Returns the positions of a plan's cases in turn order: ordinary cases, then exclusive cases.
+/// Returns the positions of the cases of `plan` in turn order: ordinary cases, then exclusive
+/// cases.
 ///
 /// # Errors
 ///
@@ -38,14 +42,14 @@ pub fn turn_order(alloc: Global, plan: &[Job]) -> Result<Vec<u32>, NoMemory>
     ensures { IfOk result (λ order. order.items ≡ positions (turns plan.now)) }
 {
     let mut order: Vec<u32> = Vec::new(alloc);
-    add_positions(plan, false, &mut order)?;
-    add_positions(plan, true, &mut order)?;
+    push_positions(plan, false, &mut order)?;
+    push_positions(plan, true, &mut order)?;
     Ok(order)
 }
 
-/// Appends the positions of the exclusive jobs to `order` if `exclusive` is `true`, else the
-/// positions of the ordinary jobs.
-fn add_positions(plan: &[Job], exclusive: bool, order: &mut Vec<u32>) -> Result<(), NoMemory>
+/// Appends the positions of the exclusive jobs of `plan` to `order` if `exclusive` is `true`, else
+/// the positions of the ordinary jobs.
+fn push_positions(plan: &[Job], exclusive: bool, order: &mut Vec<u32>) -> Result<(), NoMemory>
     ensures { OnOk result (order.new.items ≡ order.old.items
         ++ positions_where exclusive plan.now) }
 {

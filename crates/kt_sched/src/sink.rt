@@ -3,7 +3,7 @@ use thiserror::Error;
 
 /// Errors returned by [`Sink::put`].
 #[derive(Clone, Copy, Debug, Error)]
-#[error("{}", self.words())]
+#[error("{}", self.message())]
 pub enum SinkFault {
     /// An allocation failed.
     Memory,
@@ -13,11 +13,11 @@ pub enum SinkFault {
 
 impl SinkFault {
     ghost use Rattle.std.specs.Prelude.{◌≡◌};
-    ghost use Rattle.kt_sched.specs.FaultWords.{sink_words};
+    ghost use Rattle.kt_sched.specs.FaultMessages.{sink_message};
 
     /// Returns the message of the error, which `Display` prints (this profile).
-    pub fn words(&self) -> &'static str
-        ensures { result.now ≡ sink_words self.now }
+    pub fn message(&self) -> &'static str
+        ensures { result.now ≡ sink_message self.now }
     {
         match self {
             SinkFault::Memory => OUT_OF_MEMORY,
@@ -35,7 +35,7 @@ pub trait Sink {
     ghost use Rattle.kt_sched.specs.declared.sink.SinkFault.{SinkFault};
     ghost use Rattle.kt_base.specs.Moments.{IsStorable};
 
-    /// The relation of a sink to the entries that were put, in the order of the puts.
+    /// The relation of a sink to the entries that were put into it, in the order of the puts.
     ghost entries: { Self → List Entry → Type 0 };
 
     /// The relation of the states before and after a put of an entry, with its result.

@@ -8,19 +8,19 @@ pub enum Stage {
     Waiting,
     /// The verdict was decided before the run, and the case waits for its turn to be recorded.
     Decided,
-    /// The body runs since this timestamp, in milliseconds since 1970 in UTC.
+    /// The body runs. It was started at this timestamp, in milliseconds since 1970 in UTC.
     Running(u64),
-    /// The body ended, and the declared cleanup of the case is to be started.
-    Owing(EndedBody),
-    /// The cleanup runs.
+    /// The body ended, with this data, and the declared cleanup of the case is to be started.
+    PendingCleanup(EndedBody),
+    /// The cleanup runs. The body ended with this data.
     Cleaning(EndedBody),
-    /// The case is over, and its entry is to be recorded.
+    /// The case is over, with this record, and its entry is to be recorded.
     Finished(CaseRecord),
     /// The entry of the case was taken, or a function is replacing the stage.
     Taken,
 }
 
-/// A record of a case that is over: its entry without the data of its job.
+/// A record of a case that is over: the entry of the case, without the data of its job.
 #[derive(Drop)]
 pub struct CaseRecord {
     /// The verdict on the case.

@@ -12,7 +12,7 @@ pub struct Totals {
 }
 
 impl Totals {
-    /// Creates the totals of no entries.
+    /// Creates totals that are all 0.
     pub(crate) fn new() -> Totals
         ensures { result ≡ record { total = 0; good = 0; bad = 0 } }
     {

@@ -1,6 +1,6 @@
 -- The parser accepts each script and returns its statements.
 use Rattle.std.proofs.Common.{arith, ◌≡◌, ℕ, true, false, List, [], ◌∷◌, ◌++◌, Option, Some, None, refl, ap, sym, ◌∙◌, append_assoc, option_map, option_and_then}
-use Rattle.kt_script.proofs.Common.{append-nil, Token, TokenKind, Name, Quoted, OpenParen, CloseParen, OpenBrace, CloseBrace, Equals, Semicolon, ScriptState, Start, Whole, Within, Pair, Stmt, Literal, Action, Call, Assign, Table, Named, Pairs, Paired, Path, Step, To, Ends, token_of, pair, Key, by_name, by_text, Separator, comma, semicolon, no_pairs, last_pair, pair_and, Parts, no_parts, named_part, quoted_part, Statement, call, call_table, call_text, bare_table, assign, kinds, placed, Script, no_stmts, stmt_and, ended_and, value_of, closed, with_pair, step, next, landed, option_to_list, run, IsBetweenStatements}
+use Rattle.kt_script.proofs.Common.{append-nil, Token, TokenKind, Name, Quoted, OpenParen, CloseParen, OpenBrace, CloseBrace, Equals, Semicolon, ScriptState, Start, AfterStatement, InStatement, Pair, Stmt, Literal, Action, Call, Assign, Table, AfterName, Pairs, AfterPair, AfterPath, Step, Advance, Accept, literal_kind, pair, IsKey, by_name, by_text, IsSeparator, comma, semicolon, no_pairs, last_pair, pair_and, ArePathParts, no_parts, named_part, quoted_part, IsStatement, call, call_table, call_text, bare_table, assign, token_kinds, statement_of_tokens, Script, no_stmts, stmt_and, ended_and, literal_of, closed, with_pair, step, next, transition_of_step, option_to_list, run, IsBetweenStatements}
 use Rattle.kt_script.specs.declared.syntax.Literal.TheVariants as literal
 use Rattle.kt_script.specs.declared.syntax.Arg.TheVariants as arg
 use Rattle.kt_script.specs.Grammar as grammar
@@ -9,12 +9,12 @@ use Rattle.std.proofs.lemmas.Option.{same_Some}
 -- `walk s ks`: the step to which the tokens `ks` lead from the step `s` within a statement
 abbrev pub walk : Step → List TokenKind → Option Step
 walk s [] = Some s
-walk (To q) (k ∷ ks) = option_and_then (λ s. walk s ks) (step q k)
-walk (Ends a) (k ∷ ks) = None
+walk (Advance q) (k ∷ ks) = option_and_then (λ s. walk s ks) (step q k)
+walk (Accept a) (k ∷ ks) = None
 
-value_of-token_of : (v : Literal) → value_of (token_of v) ≡ Some v
-value_of-token_of (literal.Text t) = refl
-value_of-token_of v = refl
+literal_of-literal_kind : (v : Literal) → literal_of (literal_kind v) ≡ Some v
+literal_of-literal_kind (literal.Text t) = refl
+literal_of-literal_kind v = refl
 
 -- ---- tables
 
@@ -22,22 +22,22 @@ value_of-token_of v = refl
 abbrev with_pairs : Table → List Pair → Table
 with_pairs t pairs = record t { pairs = t.pairs ++ pairs }
 
-pair_walks : (words : List TokenKind) (key : List ℕ) → Key words key → (t : Table) (v : Literal) (rest : List TokenKind)
-    → walk (To (Pairs t)) ((words ++ Equals ∷ token_of v ∷ []) ++ rest) ≡ walk (To (Paired (with_pair t key v))) rest
-pair_walks words key (by_name n) t v rest = rw value_of-token_of refl
-pair_walks words key (by_text n) t v rest = rw value_of-token_of refl
+pair_walks : (words : List TokenKind) (key : List ℕ) → IsKey words key → (t : Table) (v : Literal) (rest : List TokenKind)
+    → walk (Advance (Pairs t)) ((words ++ Equals ∷ literal_kind v ∷ []) ++ rest) ≡ walk (Advance (AfterPair (with_pair t key v))) rest
+pair_walks words key (by_name n) t v rest = rw literal_of-literal_kind refl
+pair_walks words key (by_text n) t v rest = rw literal_of-literal_kind refl
 
-separator_walks : (s : TokenKind) → Separator s → (t : Table) (rest : List TokenKind) → walk (To (Paired t)) (s ∷ rest) ≡ walk (To (Pairs t)) rest
+separator_walks : (s : TokenKind) → IsSeparator s → (t : Table) (rest : List TokenKind) → walk (Advance (AfterPair t)) (s ∷ rest) ≡ walk (Advance (Pairs t)) rest
 separator_walks s comma t rest = refl
 separator_walks s semicolon t rest = refl
 
 pairs_walk : (words : List TokenKind) (pairs : List Pair) → grammar.Pairs words pairs → (t : Table) (rest : List TokenKind)
-    → walk (To (Pairs t)) (words ++ CloseBrace ∷ rest) ≡ walk (closed (with_pairs t pairs)) rest
+    → walk (Advance (Pairs t)) (words ++ CloseBrace ∷ rest) ≡ walk (closed (with_pairs t pairs)) rest
 pairs_walk words pairs no_pairs t rest = ap (λ (ps : List Pair). walk (closed (record t { pairs = ps })) rest) (sym (append-nil t.pairs))
 pairs_walk words pairs (last_pair {words = w} {key = key} is v) t rest = pair_walks w key is t v (CloseBrace ∷ rest)
 pairs_walk words pairs (pair_and {words = w} {rest = others} {key = key} {s = s} {pairs = ps} is v sep more) t rest =
-    let regrouped : (w ++ Equals ∷ token_of v ∷ s ∷ others) ++ CloseBrace ∷ rest ≡ (w ++ Equals ∷ token_of v ∷ []) ++ s ∷ (others ++ CloseBrace ∷ rest) = simp append_assoc in
-    ap (walk (To (Pairs t))) regrouped
+    let regrouped : (w ++ Equals ∷ literal_kind v ∷ s ∷ others) ++ CloseBrace ∷ rest ≡ (w ++ Equals ∷ literal_kind v ∷ []) ++ s ∷ (others ++ CloseBrace ∷ rest) = simp append_assoc in
+    ap (walk (Advance (Pairs t))) regrouped
     ∙ pair_walks w key is t v (s ∷ (others ++ CloseBrace ∷ rest))
     ∙ separator_walks s sep (with_pair t key v) (others ++ CloseBrace ∷ rest)
     ∙ pairs_walk others ps more (with_pair t key v) rest
@@ -45,15 +45,15 @@ pairs_walk words pairs (pair_and {words = w} {rest = others} {key = key} {s = s}
 
 -- ---- paths
 
-parts_walk : (words : List TokenKind) (parts : List (List ℕ)) → Parts words parts → (path : List (List ℕ)) (v : Literal)
-    → walk (To (Path path)) (words ++ Equals ∷ token_of v ∷ []) ≡ Some (Ends (Assign (path ++ parts) v))
-parts_walk words parts no_parts path v = rw value_of-token_of (ap (λ (all : List (List ℕ)). Some (Ends (Assign all v))) (sym (append-nil path)))
-parts_walk words parts (named_part {words = w} {parts = ps} n more) path v = parts_walk w ps more (path ++ n ∷ []) v ∙ ap (λ (all : List (List ℕ)). Some (Ends (Assign all v))) (append_assoc path (n ∷ []) ps)
-parts_walk words parts (quoted_part {words = w} {parts = ps} t more) path v = parts_walk w ps more (path ++ t ∷ []) v ∙ ap (λ (all : List (List ℕ)). Some (Ends (Assign all v))) (append_assoc path (t ∷ []) ps)
+parts_walk : (words : List TokenKind) (parts : List (List ℕ)) → ArePathParts words parts → (path : List (List ℕ)) (v : Literal)
+    → walk (Advance (AfterPath path)) (words ++ Equals ∷ literal_kind v ∷ []) ≡ Some (Accept (Assign (path ++ parts) v))
+parts_walk words parts no_parts path v = rw literal_of-literal_kind (ap (λ (all : List (List ℕ)). Some (Accept (Assign all v))) (sym (append-nil path)))
+parts_walk words parts (named_part {words = w} {parts = ps} n more) path v = parts_walk w ps more (path ++ n ∷ []) v ∙ ap (λ (all : List (List ℕ)). Some (Accept (Assign all v))) (append_assoc path (n ∷ []) ps)
+parts_walk words parts (quoted_part {words = w} {parts = ps} t more) path v = parts_walk w ps more (path ++ t ∷ []) v ∙ ap (λ (all : List (List ℕ)). Some (Accept (Assign all v))) (append_assoc path (t ∷ []) ps)
 
 -- the tokens after a path's first name have the same result from a name and from a path
-first_part_walks : (words : List TokenKind) (parts : List (List ℕ)) → Parts words parts → (n : List ℕ) (v : Literal)
-    → walk (To (Named n)) (words ++ Equals ∷ token_of v ∷ []) ≡ walk (To (Path (n ∷ []))) (words ++ Equals ∷ token_of v ∷ [])
+first_part_walks : (words : List TokenKind) (parts : List (List ℕ)) → ArePathParts words parts → (n : List ℕ) (v : Literal)
+    → walk (Advance (AfterName n)) (words ++ Equals ∷ literal_kind v ∷ []) ≡ walk (Advance (AfterPath (n ∷ []))) (words ++ Equals ∷ literal_kind v ∷ [])
 first_part_walks words parts no_parts n v = refl
 first_part_walks words parts are n v = refl
 
@@ -65,21 +65,21 @@ pub record Walks (words : List TokenKind) (a : Action) : Type 0 where
   pub name : List ℕ
   pub rest : List TokenKind
   pub parts : words ≡ Name name ∷ rest
-  pub ends : walk (To (Named name)) rest ≡ Some (Ends a)
+  pub ends : walk (Advance (AfterName name)) rest ≡ Some (Accept a)
 
-call_walks : (n : List ℕ) (v : Literal) → walk (To (Named n)) (OpenParen ∷ token_of v ∷ CloseParen ∷ []) ≡ Some (Ends (Call n (arg.Value v)))
+call_walks : (n : List ℕ) (v : Literal) → walk (Advance (AfterName n)) (OpenParen ∷ literal_kind v ∷ CloseParen ∷ []) ≡ Some (Accept (Call n (arg.Value v)))
 call_walks n (literal.Text t) = refl
 call_walks n v = refl
 
-pub statement_walks : (words : List TokenKind) (a : Action) → Statement words a → Walks words a
-statement_walks words a (call n v) = record { name = n; rest = OpenParen ∷ token_of v ∷ CloseParen ∷ []; parts = refl; ends = call_walks n v }
+pub statement_walks : (words : List TokenKind) (a : Action) → IsStatement words a → Walks words a
+statement_walks words a (call n v) = record { name = n; rest = OpenParen ∷ literal_kind v ∷ CloseParen ∷ []; parts = refl; ends = call_walks n v }
 statement_walks words a (call_table {words = w} {pairs = ps} n table) =
     record { name = n; rest = OpenParen ∷ OpenBrace ∷ w ++ CloseBrace ∷ CloseParen ∷ []; parts = refl; ends = pairs_walk w ps table (record { name = n; in_parens = true; pairs = [] }) (CloseParen ∷ []) }
 statement_walks words a (call_text n t) = record { name = n; rest = Quoted t ∷ []; parts = refl; ends = refl }
 statement_walks words a (bare_table {words = w} {pairs = ps} n table) =
     record { name = n; rest = OpenBrace ∷ w ++ CloseBrace ∷ []; parts = refl; ends = pairs_walk w ps table (record { name = n; in_parens = false; pairs = [] }) [] }
 statement_walks words a (assign {words = w} {parts = ps} n more v) =
-    record { name = n; rest = w ++ Equals ∷ token_of v ∷ []; parts = refl; ends = first_part_walks w ps more n v ∙ parts_walk w ps more (n ∷ []) v }
+    record { name = n; rest = w ++ Equals ∷ literal_kind v ∷ []; parts = refl; ends = first_part_walks w ps more n v ∙ parts_walk w ps more (n ∷ []) v }
 
 -- ---- tokens
 
@@ -106,17 +106,17 @@ joined_none (Some end) = refl
 -- `reached line s`: the position after the step `s` in the statement on the line `line`, and a list
 -- of that statement if the step completes it
 abbrev pub reached : ℕ → Step → ScriptState × List Stmt
-reached line s = ((landed line s).0, option_to_list (landed line s).1)
+reached line s = ((transition_of_step line s).0, option_to_list (transition_of_step line s).1)
 
 -- `run` over the tokens after a statement's name reaches the step that `walk` reaches
-steps_run : (ts : List Token) (line : ℕ) (s r : Step) → walk s (kinds ts) ≡ Some r
-    → option_map (joined (option_to_list (landed line s).1)) (run (landed line s).0 ts) ≡ Some (reached line r)
-steps_run [] line (To q) r e = ap (λ (s : Step). Some (reached line s)) (same_Some (To q) r e)
-steps_run [] line (Ends a) r e = ap (λ (s : Step). Some (reached line s)) (same_Some (Ends a) r e)
-steps_run (t ∷ ts) line (To q) r e =
-    let b = bind_some (step q t.kind) (λ s. walk s (kinds ts)) r e in
-    joined_none (run (Within line q) (t ∷ ts)) ∙ rw b.1 (steps_run ts line b.0 r b.2)
-steps_run (t ∷ ts) line (Ends a) r e = absurd cc
+steps_run : (ts : List Token) (line : ℕ) (s r : Step) → walk s (token_kinds ts) ≡ Some r
+    → option_map (joined (option_to_list (transition_of_step line s).1)) (run (transition_of_step line s).0 ts) ≡ Some (reached line r)
+steps_run [] line (Advance q) r e = ap (λ (s : Step). Some (reached line s)) (same_Some (Advance q) r e)
+steps_run [] line (Accept a) r e = ap (λ (s : Step). Some (reached line s)) (same_Some (Accept a) r e)
+steps_run (t ∷ ts) line (Advance q) r e =
+    let b = bind_some (step q t.kind) (λ s. walk s (token_kinds ts)) r e in
+    joined_none (run (InStatement line q) (t ∷ ts)) ∙ rw b.1 (steps_run ts line b.0 r b.2)
+steps_run (t ∷ ts) line (Accept a) r e = absurd cc
 
 pub run-append : (xs : List Token) (p q : ScriptState) (ys : List Token) (ss : List Stmt) → run p xs ≡ Some (q, ss) → run p (xs ++ ys) ≡ option_map (joined ss) (run q ys)
 run-append [] p q ys ss e =
@@ -131,24 +131,24 @@ run-append (t ∷ xs) p q ys ss e =
 
 -- ---- scripts
 
-name_from_resting : (p : ScriptState) (t : Token) (n : List ℕ) → IsBetweenStatements p → t.kind ≡ Name n → next p t ≡ Some (Within t.line (Named n), None)
+name_from_resting : (p : ScriptState) (t : Token) (n : List ℕ) → IsBetweenStatements p → t.kind ≡ Name n → next p t ≡ Some (InStatement t.line (AfterName n), None)
 name_from_resting Start t n r e = rw e refl
-name_from_resting Whole t n r e = rw e refl
-name_from_resting (Within line q) t n r e = elim r [ ]
+name_from_resting AfterStatement t n r e = rw e refl
+name_from_resting (InStatement line q) t n r e = elim r [ ]
 
 -- `run` over a statement's name and the tokens after it reaches the step that `walk` reaches
 pub named_runs : (t : Token) (ts : List Token) (p : ScriptState) (n : List ℕ) (s : Step) → IsBetweenStatements p → t.kind ≡ Name n
-    → walk (To (Named n)) (kinds ts) ≡ Some s
+    → walk (Advance (AfterName n)) (token_kinds ts) ≡ Some s
     → run p (t ∷ ts) ≡ Some (reached t.line s)
-named_runs t ts p n s r first leads = rw (name_from_resting p t n r first) (steps_run ts t.line (To (Named n)) s leads)
+named_runs t ts p n s r first leads = rw (name_from_resting p t n r first) (steps_run ts t.line (Advance (AfterName n)) s leads)
 
-phrase_runs : (phrase : List Token) (p : ScriptState) (a : Action) → IsBetweenStatements p → Statement (kinds phrase) a → run p phrase ≡ Some (Whole, placed phrase a ∷ [])
+phrase_runs : (phrase : List Token) (p : ScriptState) (a : Action) → IsBetweenStatements p → IsStatement (token_kinds phrase) a → run p phrase ≡ Some (AfterStatement, statement_of_tokens phrase a ∷ [])
 phrase_runs [] p a r st = let w = statement_walks [] a st in let e = w.parts in absurd cc
 phrase_runs (t ∷ ts) p a r st =
-    let w = statement_walks (kinds (t ∷ ts)) a st in
+    let w = statement_walks (token_kinds (t ∷ ts)) a st in
     let parts = w.parts in
-    let others : kinds ts ≡ w.rest = cc in
-    named_runs t ts p w.name (Ends a) r (cc) (ap (walk (To (Named w.name))) others ∙ w.ends)
+    let others : token_kinds ts ≡ w.rest = cc in
+    named_runs t ts p w.name (Accept a) r (cc) (ap (walk (Advance (AfterName w.name))) others ∙ w.ends)
 
 -- `Rests p ts stmts`: the tokens `ts` lead from the position `p` to a position between statements,
 -- and complete the statements `stmts`
@@ -157,18 +157,18 @@ pub record Rests (p : ScriptState) (ts : List Token) (stmts : List Stmt) : Type 
   pub rests : IsBetweenStatements place
   pub runs : run p ts ≡ Some (place, stmts)
 
-semicolon_after : (t : Token) → t.kind ≡ Semicolon → next Whole t ≡ Some (Start, None)
+semicolon_after : (t : Token) → t.kind ≡ Semicolon → next AfterStatement t ≡ Some (Start, None)
 semicolon_after t e = rw e refl
 
 pub script_runs : (ts : List Token) (stmts : List Stmt) → Script ts stmts → (p : ScriptState) → IsBetweenStatements p → Rests p ts stmts
 script_runs ts stmts no_stmts p r = record { place = p; rests = r; runs = refl }
 script_runs ts stmts (stmt_and phrase {rest = rest} {a = a} {stmts = others} st more) p r =
-    let later = script_runs rest others more Whole tt in
-    record { place = later.place; rests = later.rests; runs = run-append phrase p Whole rest (placed phrase a ∷ []) (phrase_runs phrase p a r st) ∙ rw later.runs refl }
+    let later = script_runs rest others more AfterStatement tt in
+    record { place = later.place; rests = later.rests; runs = run-append phrase p AfterStatement rest (statement_of_tokens phrase a ∷ []) (phrase_runs phrase p a r st) ∙ rw later.runs refl }
 script_runs ts stmts (ended_and phrase {rest = rest} {a = a} {stmts = others} t st is more) p r =
     let later = script_runs rest others more Start tt in
     record {
       place = later.place;
       rests = later.rests;
-      runs = run-append phrase p Whole (t ∷ rest) (placed phrase a ∷ []) (phrase_runs phrase p a r st) ∙ rw (semicolon_after t is, later.runs) refl;
+      runs = run-append phrase p AfterStatement (t ∷ rest) (statement_of_tokens phrase a ∷ []) (phrase_runs phrase p a r st) ∙ rw (semicolon_after t is, later.runs) refl;
     }

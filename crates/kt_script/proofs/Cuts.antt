@@ -1,6 +1,6 @@
 -- Character boundaries: the rest of a text after a lexeme is UTF-8.
 use Rattle.std.proofs.Common.{◌≡◌, ℕ, zero, suc, ◌+◌, ◌<◌, ◌≤◌, Bool, true, false, List, ◌∷◌, length, drop, get_or, refl, ap, sym, subst, ◌∙◌, arith, inl, inr, IsUtf8}
-use Rattle.kt_script.proofs.Common.{nat_tests, IsCharBoundary, prefix_len, cases_lt, prefix_len-le-length, prefix_len_passes, prefix_len_stops, IsCharBoundary-start, IsCharBoundary-end, IsCharBoundary-before_ascii, IsCharBoundary-after_ascii, is_space, is_word, is_digit}
+use Rattle.kt_script.proofs.Common.{nat_tests, IsCharBoundary, prefix_len, cases_lt, prefix_len-le-length, prefix_len_passes, prefix_len_stops, IsCharBoundary-start, IsCharBoundary-end, IsCharBoundary-before_ascii, IsCharBoundary-after_ascii, is_space, is_name_byte, is_digit}
 
 -- ---- runs of bytes
 
@@ -32,7 +32,7 @@ digit_small c e = grind (arith, nat_tests, e)
 pub space_small : (c : ℕ) → is_space c ≡ true → c < 128
 space_small c e = grind (arith, nat_tests, e)
 
-pub word_small : (c : ℕ) → is_word c ≡ true → c < 128
+pub word_small : (c : ℕ) → is_name_byte c ≡ true → c < 128
 word_small c e = grind (arith, nat_tests, e)
 
 pub passing_cut_at : (p : ℕ → Bool) → ((c : ℕ) → p c ≡ true → c < 128) → (text bs : List ℕ) (n : ℕ) → n ≡ prefix_len p bs → bs ≡ text → IsUtf8 text → IsCharBoundary text n

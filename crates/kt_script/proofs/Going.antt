@@ -1,7 +1,7 @@
 -- The tokens that were read, and the rest of the text.
 use Rattle.std.proofs.Common.{◌≡◌, ℕ, ◌+◌, ◌<◌, ◌≤◌, List, [], ◌∷◌, ◌++◌, length, take, drop, Option, Some, None, Result, Ok, Err, refl, ap, sym, ◌∙◌, subst, append_assoc, arith, length-take, length-drop, IfOk, IfErr}
-use Rattle.kt_script.proofs.Common.{append-nil, ScriptFault, NoMemory, Token, TokenKind, Lexeme, ScriptState, Start, Whole, Within, Parser, State, Stmt, Script, run, IsBetweenStatements, IfFault, IsFaultOf, last, open_lines, end_fault, HasRead, IsUnexpectedToken, lexeme_at, tokens, tokens_in, line_past}
-use Rattle.kt_script.specs.Inner.Automaton.{IsWithin}
+use Rattle.kt_script.proofs.Common.{append-nil, ScriptFault, NoMemory, Token, TokenKind, Lexeme, ScriptState, Start, AfterStatement, InStatement, Parser, State, Stmt, Script, run, IsBetweenStatements, IfFault, IsFaultOf, last, open_bracket_lines, end_fault, HasRead, IsUnexpectedToken, lexeme_at, tokens, tokens_in, line_at_end}
+use Rattle.kt_script.specs.Inner.Automaton.{IsInStatement}
 use Rattle.kt_script.proofs.Sound.{accepted, misfit, unfinished}
 use Rattle.kt_script.proofs.PieceTokens.{tokens-piece, tokens-end}
 
@@ -19,7 +19,7 @@ begins place parser text h = record { read = []; has_read = h; all = refl; lines
 pub goes_on : (place to : ScriptState) (parser after : Parser) (line next : ℕ) (rest left text : List ℕ) (piece : Lexeme) → GoesOn place parser line rest text → piece ≡ lexeme_at rest
     → 0 < piece.length → piece.length ≤ length rest
     → ((read : List Token) → HasRead place parser read → HasRead to after (read ++ tokens_in line piece.kind))
-    → left ≡ drop piece.length rest → next ≡ line_past line (take piece.length rest) → next ≤ line + length (take piece.length rest)
+    → left ≡ drop piece.length rest → next ≡ line_at_end line (take piece.length rest) → next ≤ line + length (take piece.length rest)
     → GoesOn to after next left text
 goes_on place to parser after line next rest left text piece h is some fits reads left_is next_is next_le =
     let cut = tokens-piece line rest piece is some fits in
@@ -40,7 +40,7 @@ misfit_at place parser line rest text piece None f same h is some fits m = elim 
 misfit_at place parser line rest text piece (Some kind) f same h is some fits m =
     let token : Token = record { line = line; kind = kind } in
     let cut = tokens-piece line rest piece is some fits in
-    let later : List Token = tokens (line_past line (take piece.length rest)) 0 (drop piece.length rest) in
+    let later : List Token = tokens (line_at_end line (take piece.length rest)) 0 (drop piece.length rest) in
     let parts : h.read ++ token ∷ later ≡ tokens 1 0 text = ap (λ (k : Option TokenKind). h.read ++ (tokens_in line k ++ later)) same ∙ ap (λ (ts : List Token). h.read ++ ts) (sym cut) ∙ h.all in
     let fault = misfit h.read token later place parser.statements h.has_read.runs m.1 in
     rw (← parts, m.0) fault
@@ -66,18 +66,18 @@ ends_ok (Ok stmts) place parser line rest text h none given =
     rw given.1 (accepted (tokens 1 0 text) place parser.statements (all_read place parser line rest text h none).runs given.0)
 ends_ok (Err f) place parser line rest text h none given = tt
 
-within_is : (p : ScriptState) (n : ℕ) → IsWithin p n → (q : State) × (p ≡ Within n q)
+within_is : (p : ScriptState) (n : ℕ) → IsInStatement p n → (q : State) × (p ≡ InStatement n q)
 within_is Start n h = elim h [ ]
-within_is Whole n h = elim h [ ]
-within_is (Within line q) n h = (q, ap (λ (k : ℕ). Within k q) h)
+within_is AfterStatement n h = elim h [ ]
+within_is (InStatement line q) n h = (q, ap (λ (k : ℕ). InStatement k q) h)
 
 pub ends_fault : (r : Result (List Stmt) ScriptFault) (place : ScriptState) (parser : Parser) (line : ℕ) (rest text : List ℕ) → GoesOn place parser line rest text → rest ≡ []
-    → IfErr r (λ f. (n : ℕ) × IsWithin place n × (f ≡ end_fault (last parser.brackets.items) n)) → IfFault r (λ f. IsFaultOf (tokens 1 0 text) f)
+    → IfErr r (λ f. (n : ℕ) × IsInStatement place n × (f ≡ end_fault (last parser.brackets.items) n)) → IfFault r (λ f. IsFaultOf (tokens 1 0 text) f)
 ends_fault (Ok stmts) place parser line rest text h none given = tt
 ends_fault (Err f) place parser line rest text h none given =
     let done = all_read place parser line rest text h none in
     let w = within_is place given.0 given.1 in
-    let runs : run Start (tokens 1 0 text) ≡ Some (Within given.0 w.0, parser.statements) = done.runs ∙ ap (λ (p : ScriptState). Some (p, parser.statements)) w.1 in
+    let runs : run Start (tokens 1 0 text) ≡ Some (InStatement given.0 w.0, parser.statements) = done.runs ∙ ap (λ (p : ScriptState). Some (p, parser.statements)) w.1 in
     let fault = unfinished (tokens 1 0 text) given.0 w.0 parser.statements runs in
-    let same : end_fault (last (open_lines [] (tokens 1 0 text))) given.0 ≡ f = sym (given.2 ∙ ap (λ (lines : List ℕ). end_fault (last lines) given.0) done.brackets) in
+    let same : end_fault (last (open_bracket_lines [] (tokens 1 0 text))) given.0 ≡ f = sym (given.2 ∙ ap (λ (lines : List ℕ). end_fault (last lines) given.0) done.brackets) in
     some_fault (List Stmt) f (λ f. IsFaultOf (tokens 1 0 text) f) (subst (λ (x : ScriptFault). IsFaultOf (tokens 1 0 text) x) same fault)

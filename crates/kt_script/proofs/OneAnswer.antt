@@ -1,6 +1,6 @@
 -- Each text has exactly one result: its statements or its fault.
 use Rattle.std.proofs.Common.{◌≡◌, ℕ, ◌≤◌, List, [], ◌∷◌, ◌++◌, length, Option, Some, None, Result, Ok, Err, refl, ap, sym, ◌∙◌, subst, append_assoc, arith, inl, inr, IfOk, IsUtf8}
-use Rattle.kt_script.proofs.Common.{is_utf8, tokens, cases_lt, cases_Bool, false≢true, append-nil, IsUtf8-from_is_utf8, is_utf8-from_IsUtf8, ScriptFault, NoMemory, NotUtf8, TooLong, Token, ScriptState, Start, Whole, Within, Stmt, Script, IfFault, IsFaultOf, fault_of, next, option_to_list, run, limit, Spells, IsDue, Refuses, IsResultOf}
+use Rattle.kt_script.proofs.Common.{is_utf8, tokens, cases_lt, cases_Bool, false≢true, append-nil, IsUtf8-from_is_utf8, is_utf8-from_IsUtf8, ScriptFault, NoMemory, NotUtf8, TooLong, Token, ScriptState, Start, AfterStatement, InStatement, Stmt, Script, IfFault, IsFaultOf, fault_of, next, option_to_list, run, script_length_limit, Spells, HasFault, ReturnsFault, IsResultOf}
 use Rattle.kt_script.proofs.Sound.{accepted, misfit, unfinished, one_script, run-push}
 use Rattle.kt_script.proofs.OneFault.{one_fault}
 use Rattle.kt_script.proofs.OneReading.{same_tokens}
@@ -8,7 +8,7 @@ use Rattle.kt_script.proofs.SomeReading.{some_reading}
 
 -- ---- at most one result
 
-pub two_due : (text : List ℕ) (f g : ScriptFault) → IsDue text f → IsDue text g → f ≡ g
+pub two_due : (text : List ℕ) (f g : ScriptFault) → HasFault text f → HasFault text g → f ≡ g
 two_due text f g (inl x) (inl y) = x.1 ∙ sym y.1
 two_due text f g (inl x) (inr (inl y)) = absurd (omega arith)
 two_due text f g (inl x) (inr (inr y)) = absurd (omega arith)
@@ -20,7 +20,7 @@ two_due text f g (inr (inr x)) (inr (inl y)) = absurd (y.1 x.1)
 two_due text f g (inr (inr x)) (inr (inr y)) =
     one_fault x.2 f g x.4 (subst (λ (ts : List Token). IsFaultOf ts g) (same_tokens text y.2 x.2 y.3 x.3) y.4)
 
-pub not_both : (text : List ℕ) (stmts : List Stmt) (f : ScriptFault) → Spells text stmts → IsDue text f → ⊥
+pub not_both : (text : List ℕ) (stmts : List Stmt) (f : ScriptFault) → Spells text stmts → HasFault text f → ⊥
 not_both text stmts f s (inl x) = omega (arith, s.short, x.0)
 not_both text stmts f s (inr (inl x)) = x.1 s.utf8
 not_both text stmts f s (inr (inr x)) =
@@ -52,8 +52,8 @@ TokensGive ts (Err fault) = IsFaultOf ts fault
 at_end : (ts : List Token) (p : ScriptState) (ss : List Stmt) → run Start ts ≡ Some (p, ss) → (a : Result (List Stmt) ScriptFault) × TokensGive ts a
 unfolding TokensGive
 at_end ts Start ss e = (Ok ss, accepted ts Start ss e tt)
-at_end ts Whole ss e = (Ok ss, accepted ts Whole ss e tt)
-at_end ts (Within line q) ss e = (Err _, unfinished ts line q ss e)
+at_end ts AfterStatement ss e = (Ok ss, accepted ts AfterStatement ss e tt)
+at_end ts (InStatement line q) ss e = (Err _, unfinished ts line q ss e)
 
 goes_through : (ts front : List Token) (p : ScriptState) (ss : List Stmt) → run Start front ≡ Some (p, ss) → (a : Result (List Stmt) ScriptFault) × TokensGive (front ++ ts) a
 unfolding TokensGive
@@ -68,14 +68,14 @@ goes_through (t ∷ ts) front p ss e = at_token t ts front p ss e (λ q rs h. go
         let h = later to.0 (ss ++ option_to_list to.1) (run-push front t p ss to e step) in
         (h.0, subst (λ (xs : List Token). TokensGive xs h.0) (append_assoc front (t ∷ []) ts) h.1)
 
-answer_of_tokens : (text : List ℕ) → length text ≤ limit → IsUtf8 text → (a : Result (List Stmt) ScriptFault) → TokensGive (tokens 1 0 text) a → IsResultOf text a
+answer_of_tokens : (text : List ℕ) → length text ≤ script_length_limit → IsUtf8 text → (a : Result (List Stmt) ScriptFault) → TokensGive (tokens 1 0 text) a → IsResultOf text a
 unfolding TokensGive
 answer_of_tokens text short utf8 (Ok stmts) h = record { short = short; utf8 = utf8; tokens = tokens 1 0 text; read = some_reading 1 text; script = h }
 answer_of_tokens text short utf8 (Err f) h = inr (inr (short, utf8, tokens 1 0 text, some_reading 1 text, h))
 
 pub some_answer : (text : List ℕ) → (a : Result (List Stmt) ScriptFault) × IsResultOf text a
 some_answer text =
-    elim (cases_lt limit (length text)) [
+    elim (cases_lt script_length_limit (length text)) [
       | inl long ↦ (Err TooLong, inl (long, refl))
       | inr short ↦ elim (cases_Bool (is_utf8 text)) [
         | inl utf8 ↦
@@ -88,7 +88,7 @@ some_answer text =
 
 -- ---- rejected texts
 
-pub refuses : (r : Result (List Stmt) ScriptFault) (text : List ℕ) → IfOk r (λ stmts. Spells text stmts) → IfFault r (λ f. IsDue text f) → (fault : ScriptFault) → IsDue text fault → Refuses r fault
+pub refuses : (r : Result (List Stmt) ScriptFault) (text : List ℕ) → IfOk r (λ stmts. Spells text stmts) → IfFault r (λ f. HasFault text f) → (fault : ScriptFault) → HasFault text fault → ReturnsFault r fault
 refuses (Ok stmts) text ok is fault due = not_both text stmts fault ok due
 refuses (Err (NoMemory refusal)) text ok is fault due = tt
 refuses (Err found) text ok is fault due = two_due text found fault is due

@@ -1,7 +1,7 @@
 -- A lexeme is not empty and ends at a character boundary: ASCII precedes or follows its end, or the
 -- text ends there.
 use Rattle.std.proofs.Common.{◌≡◌, ℕ, ◌+◌, ◌<◌, Bool, true, false, eqb, ◌||◌, List, [], ◌∷◌, ◌++◌, length, get_or, Option, Some, None, refl, ap, sym, subst, ◌∙◌, arith, append_assoc, length-append, inl, inr, IsUtf8}
-use Rattle.kt_script.proofs.Common.{nat_tests, append-nil, IsCharBoundary, prefix_len, eqb-true, not-false, IsCharBoundary-end, IsCharBoundary-after_ascii, IsCharBoundary-from_rest, TokenKind, Lexeme, is_space, is_word, is_digit, mark_of, lexeme_at, Each, StopsAt, is_not_newline, Closes, not_yet, Blank, space, line_comment, long_comment, IsToken, name_token, number_token, string_token, punctuation_token, broken_token}
+use Rattle.kt_script.proofs.Common.{nat_tests, append-nil, IsCharBoundary, prefix_len, eqb-true, not-false, IsCharBoundary-end, IsCharBoundary-after_ascii, IsCharBoundary-from_rest, TokenKind, Lexeme, is_space, is_name_byte, is_digit, punctuation_kind_of, lexeme_at, AllSatisfy, StopsAt, is_not_newline, Closes, not_yet, IsBlank, space, line_comment, long_comment, IsToken, name_token, number_token, string_token, punctuation_token, broken_token}
 use Rattle.std.proofs.lemmas.List.{get_or_at}
 use Rattle.kt_script.specs.TokenRules.{closed}
 use Rattle.kt_script.proofs.Cuts.{passing_cut, stopping_cut, space_small, digit_small, word_small}
@@ -16,7 +16,7 @@ pub record IsCut (text : List ℕ) (n : ℕ) : Type 0 where
   pub boundary : IsCharBoundary text n
 
 -- there is a character boundary after a whole run of bytes of an ASCII class
-run_cut : (p : ℕ → Bool) → ((c : ℕ) → p c ≡ true → c < 128) → (xs after : List ℕ) → Each p xs → StopsAt p after → IsUtf8 (xs ++ after)
+run_cut : (p : ℕ → Bool) → ((c : ℕ) → p c ≡ true → c < 128) → (xs after : List ℕ) → AllSatisfy p xs → StopsAt p after → IsUtf8 (xs ++ after)
     → IsCharBoundary (xs ++ after) (length xs)
 run_cut p small xs after each stop u = subst (IsCharBoundary (xs ++ after)) (each_run p xs after each stop) (passing_cut p small (xs ++ after) u)
 
@@ -31,12 +31,12 @@ last_cut xs c after small u =
 
 -- ---- words
 
-mark_small : (c : ℕ) (kind : TokenKind) → mark_of c ≡ Some kind → c < 128
+mark_small : (c : ℕ) (kind : TokenKind) → punctuation_kind_of c ≡ Some kind → c < 128
 mark_small c kind is = grind (arith, nat_tests, is)
 
 word_cut : (bytes after : List ℕ) (kind : TokenKind) → IsToken bytes after kind → IsUtf8 (bytes ++ after) → IsCharBoundary (bytes ++ after) (length bytes)
 word_cut bytes after kind (name_token {c = c} {cs = cs} {after = rest} letter each stop) u =
-    run_cut is_word word_small (c ∷ cs) rest (ap (λ (b : Bool). b || is_digit c) letter, each) stop u
+    run_cut is_name_byte word_small (c ∷ cs) rest (ap (λ (b : Bool). b || is_digit c) letter, each) stop u
 word_cut bytes after kind (number_token {c = c} {cs = cs} {after = rest} each stop small) u =
     run_cut is_digit digit_small (c ∷ cs) rest each (stops_digits rest stop).0 u
 word_cut bytes after kind (string_token {quote = q} {words = w} {after = rest} quote inside) u =
@@ -56,7 +56,7 @@ closes_last words after (not_yet {c = c} {cs = cs} {after = rest} none more) =
 newline_small : (c : ℕ) → is_not_newline c ≡ false → c < 128
 newline_small c e = omega (arith, eqb-true c 10 (not-false (eqb c 10) e))
 
-line_cut : (words after : List ℕ) → Each is_not_newline words → StopsAt is_not_newline after
+line_cut : (words after : List ℕ) → AllSatisfy is_not_newline words → StopsAt is_not_newline after
     → IsCharBoundary (45 ∷ 45 ∷ (words ++ after)) (length (45 ∷ 45 ∷ words))
 line_cut words after each stop =
     let here = subst (IsCharBoundary (words ++ after)) (each_run is_not_newline words after each stop) (stopping_cut is_not_newline newline_small (words ++ after)) in
@@ -82,7 +82,7 @@ read_cut bytes after kind read boundary =
     record { some = subst (λ (n : ℕ). 0 < n) e read.some; boundary = subst (IsCharBoundary (bytes ++ after)) e boundary }
 
 -- the lexeme at white space or a comment ends at a character boundary
-blank_cut : (bytes after : List ℕ) → Blank bytes after → IsUtf8 (bytes ++ after) → IsCut (bytes ++ after) (lexeme_at (bytes ++ after)).length
+blank_cut : (bytes after : List ℕ) → IsBlank bytes after → IsUtf8 (bytes ++ after) → IsCut (bytes ++ after) (lexeme_at (bytes ++ after)).length
 unfolding lexeme_at
 blank_cut bytes after (space {c = c} {after = rest} is) u =
     let run : IsCharBoundary (c ∷ rest) (1 + prefix_len is_space rest) = rw is at (passing_cut is_space space_small (c ∷ rest) u) in

@@ -1,6 +1,6 @@
 -- `lexeme_at` returns the string or comment at the beginning of a text.
 use Rattle.std.proofs.Common.{◌≡◌, ℕ, suc, ◌+◌, Bool, true, false, cond, eqb, List, [], ◌∷◌, ◌++◌, length, Some, None, Result, Ok, Err, refl, ap, sym, ◌∙◌, arith, append_assoc, length-append, nat_eq, codes, option_map}
-use Rattle.kt_script.proofs.Common.{nat_tests, chars, prefix_len, starts_with, append-nil, Flaw, Bad, Leveled, Endless, Quoted, blank, token, broken, with_front, string_at, decoded, quoted, long_comment_end, comment_at, lexeme_at, Each, StopsAt, is_quote, is_not_newline, IsStringContent, nothing, itself, escape, NoEscape, Closes, not_yet, HasNoCommentEnd, opens_long_comment, opens_leveled_comment}
+use Rattle.kt_script.proofs.Common.{nat_tests, chars, prefix_len, starts_with, append-nil, Flaw, Bad, LeveledComment, Unterminated, Quoted, blank, token, broken, with_prefix, string_at, decoded_string, quoted_token, long_comment_end, comment_at, lexeme_at, AllSatisfy, StopsAt, is_quote, is_not_newline, IsStringContent, nothing, itself, escape, HasNoEscape, Closes, not_yet, HasNoCommentEnd, opens_long_comment, opens_leveled_comment}
 use Rattle.kt_script.specs.Inner.Comments.{long_comment}
 use Rattle.kt_script.specs.TokenRules.{closed}
 use Rattle.kt_script.proofs.StringRuns.{with_front_twice, with_front_none, plain_is}
@@ -8,13 +8,13 @@ use Rattle.kt_script.proofs.ReadWords.{each_run, at_quote, at_dash}
 
 -- ---- strings
 
-pub inside_reads : (quote : ℕ) (words bytes tail : List ℕ) → eqb 92 quote ≡ false → IsStringContent quote words bytes → string_at quote false (words ++ tail) ≡ with_front bytes (length words) (string_at quote false tail)
+pub inside_reads : (quote : ℕ) (words bytes tail : List ℕ) → eqb 92 quote ≡ false → IsStringContent quote words bytes → string_at quote false (words ++ tail) ≡ with_prefix bytes (length words) (string_at quote false tail)
 inside_reads quote words bytes tail slash nothing = sym (with_front_none (string_at quote false tail))
 inside_reads quote words bytes tail slash (itself {c = c} {cs = cs} {bytes = bs} plain more) =
     let tests = plain_is quote c plain in
     rw (tests.0, tests.1, tests.2, inside_reads quote cs bs tail slash more) (grind (arith, with_front_twice (c ∷ []) bs 1 (length cs) (string_at quote false tail)))
 inside_reads quote words bytes tail slash (escape {c = c} {d = d} {cs = cs} {bytes = bs} stands more) =
-    let rest = with_front bs (length cs) (string_at quote false tail) in
+    let rest = with_prefix bs (length cs) (string_at quote false tail) in
     rw (slash, stands, inside_reads quote cs bs tail slash more) (grind (arith, with_front_twice [] (d ∷ []) 1 1 rest, with_front_twice (d ∷ []) bs 2 (length cs) (string_at quote false tail)))
 
 no_slash : (quote : ℕ) → is_quote quote ≡ true → eqb 92 quote ≡ false
@@ -24,10 +24,10 @@ no_newline : (quote : ℕ) → is_quote quote ≡ true → eqb 10 quote ≡ fals
 no_newline quote e = grind (arith, nat_tests, e)
 
 string_piece : (quote : ℕ) (words bytes tail : List ℕ) (r : Result (List ℕ × ℕ) Flaw) → is_quote quote ≡ true → IsStringContent quote words bytes → string_at quote false tail ≡ r
-    → lexeme_at (quote ∷ words ++ tail) ≡ quoted (quote ∷ words ++ tail) (decoded (with_front bytes (length words) r))
+    → lexeme_at (quote ∷ words ++ tail) ≡ quoted_token (quote ∷ words ++ tail) (decoded_string (with_prefix bytes (length words) r))
 string_piece quote words bytes tail r q inside end =
     at_quote quote (words ++ tail) q
-    ∙ ap (λ (x : Result (List ℕ × ℕ) Flaw). quoted (quote ∷ words ++ tail) (decoded x)) (inside_reads quote words bytes tail (no_slash quote q) inside ∙ ap (with_front bytes (length words)) end)
+    ∙ ap (λ (x : Result (List ℕ × ℕ) Flaw). quoted_token (quote ∷ words ++ tail) (decoded_string x)) (inside_reads quote words bytes tail (no_slash quote q) inside ∙ ap (with_prefix bytes (length words)) end)
 
 pub string_is : (quote : ℕ) (words bytes after : List ℕ) → is_quote quote ≡ true → IsStringContent quote words bytes
     → lexeme_at ((quote ∷ words ++ quote ∷ []) ++ after) ≡ token (length (quote ∷ words ++ quote ∷ [])) (Quoted (chars bytes))
@@ -38,16 +38,16 @@ string_is quote words bytes after q inside =
     ap lexeme_at regrouped ∙ string_piece quote words bytes (quote ∷ after) (Ok ([], 1)) q inside end
     ∙ ap (λ (xs : List ℕ). token (length words + 1 + 1) (Quoted (chars xs))) (append-nil bytes) ∙ ap (λ (n : ℕ). token n (Quoted (chars bytes))) len
 
-pub endless_is : (quote : ℕ) (words bytes after : List ℕ) → is_quote quote ≡ true → IsStringContent quote words bytes → StopsAt is_not_newline after → lexeme_at (quote ∷ words ++ after) ≡ broken (quote ∷ words ++ after) Endless
-endless_is quote words bytes [] q inside stop = string_piece quote words bytes [] (Err Endless) q inside refl
+pub endless_is : (quote : ℕ) (words bytes after : List ℕ) → is_quote quote ≡ true → IsStringContent quote words bytes → StopsAt is_not_newline after → lexeme_at (quote ∷ words ++ after) ≡ broken (quote ∷ words ++ after) Unterminated
+endless_is quote words bytes [] q inside stop = string_piece quote words bytes [] (Err Unterminated) q inside refl
 endless_is quote words bytes (c ∷ after) q inside stop =
-    let end : string_at quote false (c ∷ after) ≡ Err Endless = grind (arith, nat_tests, no_newline quote q, stop) in
-    string_piece quote words bytes (c ∷ after) (Err Endless) q inside end
+    let end : string_at quote false (c ∷ after) ≡ Err Unterminated = grind (arith, nat_tests, no_newline quote q, stop) in
+    string_piece quote words bytes (c ∷ after) (Err Unterminated) q inside end
 
-pub bad_escape_is : (quote : ℕ) (words bytes after : List ℕ) → is_quote quote ≡ true → IsStringContent quote words bytes → NoEscape after → lexeme_at (quote ∷ words ++ 92 ∷ after) ≡ broken (quote ∷ words ++ 92 ∷ after) Bad
+pub bad_escape_is : (quote : ℕ) (words bytes after : List ℕ) → is_quote quote ≡ true → IsStringContent quote words bytes → HasNoEscape after → lexeme_at (quote ∷ words ++ 92 ∷ after) ≡ broken (quote ∷ words ++ 92 ∷ after) Bad
 bad_escape_is quote words bytes after q inside none = string_piece quote words bytes (92 ∷ after) (Err Bad) q inside (slash_end quote after (no_slash quote q) none)
   where
-    slash_end : (quote : ℕ) (after : List ℕ) → eqb 92 quote ≡ false → NoEscape after → string_at quote false (92 ∷ after) ≡ Err Bad
+    slash_end : (quote : ℕ) (after : List ℕ) → eqb 92 quote ≡ false → HasNoEscape after → string_at quote false (92 ∷ after) ≡ Err Bad
     slash_end quote [] other none = rw other refl
     slash_end quote (c ∷ cs) other none = rw (other, none) refl
 
@@ -66,13 +66,13 @@ long_is words after h =
     let len : length words + 4 ≡ length (45 ∷ 45 ∷ 91 ∷ 91 ∷ words) = omega arith in
     at_dash (45 ∷ 91 ∷ 91 ∷ (words ++ after)) ∙ ap (long_comment (45 ∷ 45 ∷ 91 ∷ 91 ∷ (words ++ after))) (closes_is words after h) ∙ ap blank len
 
-pub endless_comment_is : (text : List ℕ) → HasNoCommentEnd text → lexeme_at (45 ∷ 45 ∷ 91 ∷ 91 ∷ text) ≡ broken (45 ∷ 45 ∷ 91 ∷ 91 ∷ text) Endless
+pub endless_comment_is : (text : List ℕ) → HasNoCommentEnd text → lexeme_at (45 ∷ 45 ∷ 91 ∷ 91 ∷ text) ≡ broken (45 ∷ 45 ∷ 91 ∷ 91 ∷ text) Unterminated
 endless_comment_is text h = at_dash (45 ∷ 91 ∷ 91 ∷ text) ∙ ap (long_comment (45 ∷ 45 ∷ 91 ∷ 91 ∷ text)) (never_is text h)
 
-pub leveled_is : (text : List ℕ) → opens_long_comment text ≡ false → opens_leveled_comment text ≡ true → lexeme_at (45 ∷ 45 ∷ text) ≡ broken (45 ∷ 45 ∷ text) Leveled
+pub leveled_is : (text : List ℕ) → opens_long_comment text ≡ false → opens_leveled_comment text ≡ true → lexeme_at (45 ∷ 45 ∷ text) ≡ broken (45 ∷ 45 ∷ text) LeveledComment
 leveled_is text a b = at_dash (45 ∷ text) ∙ rw (a, b) refl
 
-pub line_is : (words after : List ℕ) → opens_long_comment (words ++ after) ≡ false → opens_leveled_comment (words ++ after) ≡ false → Each is_not_newline words → StopsAt is_not_newline after
+pub line_is : (words after : List ℕ) → opens_long_comment (words ++ after) ≡ false → opens_leveled_comment (words ++ after) ≡ false → AllSatisfy is_not_newline words → StopsAt is_not_newline after
     → lexeme_at (45 ∷ 45 ∷ (words ++ after)) ≡ blank (length (45 ∷ 45 ∷ words))
 line_is words after a b each stop =
     let len : 2 + length words ≡ length (45 ∷ 45 ∷ words) = omega arith in

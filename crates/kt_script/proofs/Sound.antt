@@ -1,6 +1,6 @@
 -- The parser is sound: accepted tokens are a script, and no script continues with a rejected token.
 use Rattle.std.proofs.Common.{◌≡◌, ℕ, List, [], ◌∷◌, ◌++◌, Option, Some, None, refl, ap, sym, ◌∙◌, subst, append_assoc, inl, inr, option_map}
-use Rattle.kt_script.proofs.Common.{append-nil, Token, ScriptState, Start, Whole, Within, Stmt, State, Script, fault_of, last, open_lines, end_fault, IsFaultOf, step, next, option_to_list, run, IsBetweenStatements}
+use Rattle.kt_script.proofs.Common.{append-nil, Token, ScriptState, Start, AfterStatement, InStatement, Stmt, State, Script, fault_of, last, open_bracket_lines, end_fault, IsFaultOf, step, next, option_to_list, run, IsBetweenStatements}
 use Rattle.kt_script.proofs.Complete.{joined, run-append, script_runs}
 use Rattle.kt_script.proofs.Standing.{Stands, whole_script, from_start, finished, stands_begins}
 use Rattle.std.proofs.lemmas.Option.{same_Some}
@@ -9,8 +9,8 @@ use Rattle.std.proofs.lemmas.Option.{same_Some}
 
 resting_script : (p : ScriptState) (ss : List Stmt) (ts : List Token) → IsBetweenStatements p → Stands p ss ts → Script ts ss
 resting_script Start ss ts r h = h
-resting_script Whole ss ts r h = whole_script ss ts h
-resting_script (Within line q) ss ts r h = elim r [ ]
+resting_script AfterStatement ss ts r h = whole_script ss ts h
+resting_script (InStatement line q) ss ts r h = elim r [ ]
 
 -- tokens that lead to a position between statements are a script of the collected statements
 pub accepted : (ts : List Token) (p : ScriptState) (ss : List Stmt) → run Start ts ≡ Some (p, ss) → IsBetweenStatements p → Script ts ss
@@ -58,13 +58,13 @@ misfit front t rest p ss e stuck = record {
 }
 
 -- tokens that end within a statement have the fault of their end
-pub unfinished : (ts : List Token) (line : ℕ) (q : State) (ss : List Stmt) → run Start ts ≡ Some (Within line q, ss)
-    → IsFaultOf ts (end_fault (last (open_lines [] ts)) line)
+pub unfinished : (ts : List Token) (line : ℕ) (q : State) (ss : List Stmt) → run Start ts ≡ Some (InStatement line q, ss)
+    → IsFaultOf ts (end_fault (last (open_bracket_lines [] ts)) line)
 unfinished ts line q ss e =
-    let w = from_start ts (Within line q) ss e in
+    let w = from_start ts (InStatement line q) ss e in
     let f = finished q ss ts w.0 in
     record {
-      no_script = λ rs script. (only ts (Within line q) ss rs e script).0;
+      no_script = λ rs script. (only ts (InStatement line q) ss rs e script).0;
       is = inr (record {
         whole = w.0.before;
         begun = w.0.first ∷ w.0.others;
@@ -74,7 +74,7 @@ unfinished ts line q ss e =
         more = f.0;
         action = f.1;
         statement = f.2;
-        is = ap (end_fault (last (open_lines [] ts))) (sym w.1);
+        is = ap (end_fault (last (open_bracket_lines [] ts))) (sym w.1);
       });
     }
 

@@ -1,6 +1,6 @@
 -- The meaning of a parser's position: a script is complete, or a statement has begun.
 use Rattle.std.proofs.Common.{◌≡◌, ℕ, List, [], ◌∷◌, ◌++◌, Option, Some, None, refl, ap, sym, ◌∙◌, subst, append_assoc, ◌⊎◌, inl, inr, option_map}
-use Rattle.kt_script.proofs.Common.{append-nil, Token, TokenKind, Name, Semicolon, ScriptState, Start, Whole, Within, Stmt, Action, State, Named, Step, To, Ends, Statement, kinds, placed, Script, no_stmts, stmt_and, ended_and, Begins, step, begin, go_on, next, landed, option_to_list, run}
+use Rattle.kt_script.proofs.Common.{append-nil, Token, TokenKind, Name, Semicolon, ScriptState, Start, AfterStatement, InStatement, Stmt, Action, State, AfterName, Step, Advance, Accept, IsStatement, token_kinds, statement_of_tokens, Script, no_stmts, stmt_and, ended_and, IsScriptPrefix, step, begin_statement, transition_after_statement, next, transition_of_step, option_to_list, run}
 use Rattle.kt_script.proofs.Complete.{walk, bind_some, map_some, joined}
 use Rattle.kt_script.proofs.Ending.{walk-append, statement_is, some_end}
 use Rattle.std.proofs.lemmas.List.{map-append}
@@ -15,11 +15,11 @@ Script-append xs ys ss rs (stmt_and phrase {rest = rest} {a = a} {stmts = others
 Script-append xs ys ss rs (ended_and phrase {rest = rest} {a = a} {stmts = others} t st is more) later =
     rw append_assoc (ended_and phrase t st is (Script-append rest ys others rs more later))
 
-pub one_stmt : (phrase : List Token) (a : Action) → Statement (kinds phrase) a → Script phrase (placed phrase a ∷ [])
-one_stmt phrase a st = let s : Script (phrase ++ []) (placed phrase a ∷ []) = stmt_and phrase st no_stmts in rw append-nil at s
+pub one_stmt : (phrase : List Token) (a : Action) → IsStatement (token_kinds phrase) a → Script phrase (statement_of_tokens phrase a ∷ [])
+one_stmt phrase a st = let s : Script (phrase ++ []) (statement_of_tokens phrase a ∷ []) = stmt_and phrase st no_stmts in rw append-nil at s
 
-pub kinds-append : (xs ys : List Token) → kinds (xs ++ ys) ≡ kinds xs ++ kinds ys
-kinds-append xs ys = map-append (λ (t : Token). t.kind) xs ys
+pub token_kinds-append : (xs ys : List Token) → token_kinds (xs ++ ys) ≡ token_kinds xs ++ token_kinds ys
+token_kinds-append xs ys = map-append (λ (t : Token). t.kind) xs ys
 
 -- ---- the meaning of a position
 
@@ -33,58 +33,58 @@ pub record Begun (to : Step) (done : List Stmt) (ts : List Token) : Type 0 where
   pub script : Script before done
   pub name : List ℕ
   pub named : first.kind ≡ Name name
-  pub leads : walk (To (Named name)) (kinds others) ≡ Some to
+  pub leads : walk (Advance (AfterName name)) (token_kinds others) ≡ Some to
 
 -- `WholeAt done ts`: the tokens `ts` are a script of the statements `done`, and end with the last
 -- of these statements
 pub record WholeAt (done : List Stmt) (ts : List Token) : Type 0 where
   pub action : Action
   pub earlier : List Stmt
-  pub begun : Begun (Ends action) earlier ts
-  pub stmts : done ≡ earlier ++ placed (begun.first ∷ begun.others) action ∷ []
+  pub begun : Begun (Accept action) earlier ts
+  pub stmts : done ≡ earlier ++ statement_of_tokens (begun.first ∷ begun.others) action ∷ []
 
 -- `Stands p done ts`: the tokens `ts` lead to the position `p`, and `done` are the statements that
 -- they complete
 abbrev pub Stands : ScriptState → List Stmt → List Token → Type 0
 Stands Start done ts = Script ts done
-Stands Whole done ts = WholeAt done ts
-Stands (Within line q) done ts = (b : Begun (To q) done ts) × (b.first.line ≡ line)
+Stands AfterStatement done ts = WholeAt done ts
+Stands (InStatement line q) done ts = (b : Begun (Advance q) done ts) × (b.first.line ≡ line)
 
-whole_statement : (done : List Stmt) (ts : List Token) (w : WholeAt done ts) → Statement (kinds (w.begun.first ∷ w.begun.others)) w.action
-whole_statement done ts w = rw w.begun.named (statement_is w.begun.name (kinds w.begun.others) w.action w.begun.leads)
+whole_statement : (done : List Stmt) (ts : List Token) (w : WholeAt done ts) → IsStatement (token_kinds (w.begun.first ∷ w.begun.others)) w.action
+whole_statement done ts w = rw w.begun.named (statement_is w.begun.name (token_kinds w.begun.others) w.action w.begun.leads)
 
 pub whole_script : (done : List Stmt) (ts : List Token) → WholeAt done ts → Script ts done
 whole_script done ts w =
     let phrase : List Token = w.begun.first ∷ w.begun.others in
-    rw (w.begun.parts, w.stmts) (Script-append w.begun.before phrase w.earlier (placed phrase w.action ∷ []) w.begun.script (one_stmt phrase w.action (whole_statement done ts w)))
+    rw (w.begun.parts, w.stmts) (Script-append w.begun.before phrase w.earlier (statement_of_tokens phrase w.action ∷ []) w.begun.script (one_stmt phrase w.action (whole_statement done ts w)))
 
 -- a complete script with a semicolon after it is a script of the same statements
 whole_ended : (done : List Stmt) (ts : List Token) (t : Token) → WholeAt done ts → t.kind ≡ Semicolon → Script (ts ++ t ∷ []) done
 whole_ended done ts t w is =
     let phrase : List Token = w.begun.first ∷ w.begun.others in
-    let one : Script (phrase ++ t ∷ []) (placed phrase w.action ∷ []) = ended_and phrase t (whole_statement done ts w) is no_stmts in
-    rw (w.begun.parts, w.stmts, append_assoc) (Script-append w.begun.before (phrase ++ t ∷ []) w.earlier (placed phrase w.action ∷ []) w.begun.script one)
+    let one : Script (phrase ++ t ∷ []) (statement_of_tokens phrase w.action ∷ []) = ended_and phrase t (whole_statement done ts w) is no_stmts in
+    rw (w.begun.parts, w.stmts, append_assoc) (Script-append w.begun.before (phrase ++ t ∷ []) w.earlier (statement_of_tokens phrase w.action ∷ []) w.begun.script one)
 
 enters : (done : List Stmt) (ts : List Token) (t : Token) (n : List ℕ) → Script ts done → t.kind ≡ Name n
-    → Stands (Within t.line (Named n)) (done ++ []) (ts ++ t ∷ [])
+    → Stands (InStatement t.line (AfterName n)) (done ++ []) (ts ++ t ∷ [])
 enters done ts t n script is =
     (record { before = ts; first = t; others = []; parts = refl; script = rw append-nil script; name = n; named = is; leads = refl }, refl)
 
-begin_is : (line : ℕ) (k : TokenKind) (to : ScriptState × Option Stmt) → begin line k ≡ Some to → (n : List ℕ) × (k ≡ Name n) × (to ≡ (Within line (Named n), None))
-begin_is line (Name n) to e = (n, refl, sym (same_Some (Within line (Named n), None) to e))
+begin_is : (line : ℕ) (k : TokenKind) (to : ScriptState × Option Stmt) → begin_statement line k ≡ Some to → (n : List ℕ) × (k ≡ Name n) × (to ≡ (InStatement line (AfterName n), None))
+begin_is line (Name n) to e = (n, refl, sym (same_Some (InStatement line (AfterName n), None) to e))
 begin_is line _ to e = absurd cc
 
-go_on_is : (line : ℕ) (k : TokenKind) (to : ScriptState × Option Stmt) → go_on line k ≡ Some to
-    → ((n : List ℕ) × (k ≡ Name n) × (to ≡ (Within line (Named n), None))) ⊎ ((k ≡ Semicolon) × (to ≡ (Start, None)))
-go_on_is line (Name n) to e = inl (n, refl, sym (same_Some (Within line (Named n), None) to e))
+go_on_is : (line : ℕ) (k : TokenKind) (to : ScriptState × Option Stmt) → transition_after_statement line k ≡ Some to
+    → ((n : List ℕ) × (k ≡ Name n) × (to ≡ (InStatement line (AfterName n), None))) ⊎ ((k ≡ Semicolon) × (to ≡ (Start, None)))
+go_on_is line (Name n) to e = inl (n, refl, sym (same_Some (InStatement line (AfterName n), None) to e))
 go_on_is line Semicolon to e = inr (refl, sym (same_Some (Start, None) to e))
 go_on_is line _ to e = absurd cc
 
 -- `Begun` is preserved by a token that the grammar allows
-goes_on : (q : State) (to : Step) (done : List Stmt) (ts : List Token) (t : Token) (b : Begun (To q) done ts) → step q t.kind ≡ Some to
+goes_on : (q : State) (to : Step) (done : List Stmt) (ts : List Token) (t : Token) (b : Begun (Advance q) done ts) → step q t.kind ≡ Some to
     → (c : Begun to done (ts ++ t ∷ [])) × (c.first.line ≡ b.first.line)
 goes_on q to done ts t b e =
-    let one : walk (To q) (t.kind ∷ []) ≡ Some to = rw e refl in (
+    let one : walk (Advance q) (t.kind ∷ []) ≡ Some to = rw e refl in (
       record {
         before = b.before;
         first = b.first;
@@ -93,16 +93,16 @@ goes_on q to done ts t b e =
         script = b.script;
         name = b.name;
         named = b.named;
-        leads = ap (walk (To (Named b.name))) (kinds-append b.others (t ∷ [])) ∙ walk-append (kinds b.others) (t.kind ∷ []) (To (Named b.name)) (To q) b.leads ∙ one;
+        leads = ap (walk (Advance (AfterName b.name))) (token_kinds-append b.others (t ∷ [])) ∙ walk-append (token_kinds b.others) (t.kind ∷ []) (Advance (AfterName b.name)) (Advance q) b.leads ∙ one;
       },
       refl,
     )
 
-lands : (to : Step) (line : ℕ) (q : State) (done : List Stmt) (ts : List Token) (t : Token) → Stands (Within line q) done ts → step q t.kind ≡ Some to
-    → Stands (landed line to).0 (done ++ option_to_list (landed line to).1) (ts ++ t ∷ [])
-lands (To r) line q done ts t b e = let c = goes_on q (To r) done ts t b.0 e in rw append-nil (c.0, c.1 ∙ b.1)
-lands (Ends a) line q done ts t b e =
-    let c = goes_on q (Ends a) done ts t b.0 e in
+lands : (to : Step) (line : ℕ) (q : State) (done : List Stmt) (ts : List Token) (t : Token) → Stands (InStatement line q) done ts → step q t.kind ≡ Some to
+    → Stands (transition_of_step line to).0 (done ++ option_to_list (transition_of_step line to).1) (ts ++ t ∷ [])
+lands (Advance r) line q done ts t b e = let c = goes_on q (Advance r) done ts t b.0 e in rw append-nil (c.0, c.1 ∙ b.1)
+lands (Accept a) line q done ts t b e =
+    let c = goes_on q (Accept a) done ts t b.0 e in
     record { action = a; earlier = done; begun = c.0; stmts = ap (λ (n : ℕ). done ++ record { line = n; action = a } ∷ []) (sym (c.1 ∙ b.1)) }
 
 at_place : (to : ScriptState × Option Stmt) (done : List Stmt) (ts : List Token) (made : ScriptState × Option Stmt) → to ≡ made
@@ -113,15 +113,15 @@ stands_next : (p : ScriptState) (done : List Stmt) (ts : List Token) (t : Token)
     → Stands to.0 (done ++ option_to_list to.1) (ts ++ t ∷ [])
 stands_next Start done ts t to h e =
     let b = begin_is t.line t.kind to e in
-    at_place to done (ts ++ t ∷ []) (Within t.line (Named b.0), None) b.2 (enters done ts t b.0 h b.1)
-stands_next Whole done ts t to h e =
+    at_place to done (ts ++ t ∷ []) (InStatement t.line (AfterName b.0), None) b.2 (enters done ts t b.0 h b.1)
+stands_next AfterStatement done ts t to h e =
     elim (go_on_is t.line t.kind to e) [
-      | inl b ↦ at_place to done (ts ++ t ∷ []) (Within t.line (Named b.0), None) b.2 (enters done ts t b.0 (whole_script done ts h) b.1)
+      | inl b ↦ at_place to done (ts ++ t ∷ []) (InStatement t.line (AfterName b.0), None) b.2 (enters done ts t b.0 (whole_script done ts h) b.1)
       | inr b ↦ at_place to done (ts ++ t ∷ []) (Start, None) b.1 (rw append-nil (whole_ended done ts t h b.0))
     ]
-stands_next (Within line q) done ts t to h e =
-    let m = map_some (step q t.kind) (landed line) to e in
-    at_place to done (ts ++ t ∷ []) (landed line m.0) (sym m.2) (lands m.0 line q done ts t h m.1)
+stands_next (InStatement line q) done ts t to h e =
+    let m = map_some (step q t.kind) (transition_of_step line) to e in
+    at_place to done (ts ++ t ∷ []) (transition_of_step line m.0) (sym m.2) (lands m.0 line q done ts t h m.1)
 
 stands_run : (ts : List Token) (p q : ScriptState) (done ss : List Stmt) (front : List Token) → Stands p done front → run p ts ≡ Some (q, ss) → Stands q (done ++ ss) (front ++ ts)
 stands_run [] p q done ss front h e =
@@ -142,28 +142,28 @@ from_start ts q ss e = stands_run ts Start q [] ss [] no_stmts e
 -- ---- each position has a script that continues from it
 
 -- there are tokens with the kinds `ks`
-tokens_with : (ks : List TokenKind) → (ts : List Token) × (kinds ts ≡ ks)
+tokens_with : (ks : List TokenKind) → (ts : List Token) × (token_kinds ts ≡ ks)
 tokens_with [] = ([], refl)
 tokens_with (k ∷ ks) = let r = tokens_with ks in (record { line = 0; kind = k } ∷ r.0, ap (λ (x : List TokenKind). k ∷ x) r.1)
 
 -- a statement that has begun can be completed
-pub finished : (q : State) (done : List Stmt) (ts : List Token) (b : Begun (To q) done ts)
-    → (more : List Token) × (a : Action) × Statement (kinds ((b.first ∷ b.others) ++ more)) a
+pub finished : (q : State) (done : List Stmt) (ts : List Token) (b : Begun (Advance q) done ts)
+    → (more : List Token) × (a : Action) × IsStatement (token_kinds ((b.first ∷ b.others) ++ more)) a
 finished q done ts b =
     let end = some_end q in
     let more = tokens_with end.0 in
-    let same : kinds (b.others ++ more.0) ≡ kinds b.others ++ end.0 = kinds-append b.others more.0 ∙ ap (λ (ks : List TokenKind). kinds b.others ++ ks) more.1 in
-    let leads = ap (walk (To (Named b.name))) same ∙ walk-append (kinds b.others) end.0 (To (Named b.name)) (To q) b.leads ∙ end.2 in
-    (more.0, end.1, rw b.named (statement_is b.name (kinds (b.others ++ more.0)) end.1 leads))
+    let same : token_kinds (b.others ++ more.0) ≡ token_kinds b.others ++ end.0 = token_kinds-append b.others more.0 ∙ ap (λ (ks : List TokenKind). token_kinds b.others ++ ks) more.1 in
+    let leads = ap (walk (Advance (AfterName b.name))) same ∙ walk-append (token_kinds b.others) end.0 (Advance (AfterName b.name)) (Advance q) b.leads ∙ end.2 in
+    (more.0, end.1, rw b.named (statement_is b.name (token_kinds (b.others ++ more.0)) end.1 leads))
 
-pub begins_from : (before begun ts more : List Token) (done : List Stmt) (a : Action) → ts ≡ before ++ begun → Script before done → Statement (kinds (begun ++ more)) a → Begins ts
+pub begins_from : (before begun ts more : List Token) (done : List Stmt) (a : Action) → ts ≡ before ++ begun → Script before done → IsStatement (token_kinds (begun ++ more)) a → IsScriptPrefix ts
 begins_from before begun ts more done a parts script st =
-    let all : Script (before ++ (begun ++ more)) (done ++ placed (begun ++ more) a ∷ []) = Script-append before (begun ++ more) done (placed (begun ++ more) a ∷ []) script (one_stmt (begun ++ more) a st) in
-    (more, done ++ placed (begun ++ more) a ∷ [], rw (parts, append_assoc) all)
+    let all : Script (before ++ (begun ++ more)) (done ++ statement_of_tokens (begun ++ more) a ∷ []) = Script-append before (begun ++ more) done (statement_of_tokens (begun ++ more) a ∷ []) script (one_stmt (begun ++ more) a st) in
+    (more, done ++ statement_of_tokens (begun ++ more) a ∷ [], rw (parts, append_assoc) all)
 
-pub stands_begins : (p : ScriptState) (done : List Stmt) (ts : List Token) → Stands p done ts → Begins ts
+pub stands_begins : (p : ScriptState) (done : List Stmt) (ts : List Token) → Stands p done ts → IsScriptPrefix ts
 stands_begins Start done ts h = ([], done, rw append-nil h)
-stands_begins Whole done ts h = ([], done, rw append-nil (whole_script done ts h))
-stands_begins (Within line q) done ts b =
+stands_begins AfterStatement done ts h = ([], done, rw append-nil (whole_script done ts h))
+stands_begins (InStatement line q) done ts b =
     let f = finished q done ts b.0 in
     begins_from b.0.before (b.0.first ∷ b.0.others) ts f.0 done f.1 b.0.parts b.0.script f.2

@@ -1,6 +1,6 @@
 -- Texts that begin with a name, a number or a string.
 use Rattle.std.proofs.Common.{◌≡◌, ℕ, ◌<◌, ◌^◌, Bool, true, false, eqb, not, ◌||◌, List, [], ◌∷◌, ◌++◌, length, Option, Some, None, refl, ap, sym, subst, ◌∙◌, arith, append_assoc, inl, inr}
-use Rattle.kt_script.proofs.Common.{cases_Bool, cases_lt, eqb-true, append-nil, Flaw, Bad, Endless, TokenKind, Broken, is_letter, is_word, escape_of, is_plain, is_digit, decimal_from, Each, StopsAt, is_quote, is_not_newline, IsStringContent, nothing, itself, escape, NoEscape, Blank, HasFlaw, large_number, lettered_number, endless_string, bad_escape, IsToken, name_token, number_token, string_token, broken_token}
+use Rattle.kt_script.proofs.Common.{cases_Bool, cases_lt, eqb-true, append-nil, Flaw, Bad, Unterminated, TokenKind, Broken, is_name_start, is_name_byte, escape_of, is_plain, is_digit, decimal_from, AllSatisfy, StopsAt, is_quote, is_not_newline, IsStringContent, nothing, itself, escape, HasNoEscape, IsBlank, HasFlaw, large_number, lettered_number, endless_string, bad_escape, IsToken, name_token, number_token, string_token, broken_token}
 
 -- ---- the first lexeme of a text
 
@@ -10,7 +10,7 @@ pub record BlankFirst (text : List ℕ) : Type 0 where
   pub rest : List ℕ
   pub parts : text ≡ front ++ rest
   pub some : 0 < length front
-  pub is : Blank front rest
+  pub is : IsBlank front rest
 
 -- `WordFirst text`: `text` begins with a token
 pub record WordFirst (text : List ℕ) : Type 0 where
@@ -27,7 +27,7 @@ pub record Run (p : ℕ → Bool) (text : List ℕ) : Type 0 where
   pub front : List ℕ
   pub rest : List ℕ
   pub parts : text ≡ front ++ rest
-  pub each : Each p front
+  pub each : AllSatisfy p front
   pub stop : StopsAt p rest
 
 pub run : (p : ℕ → Bool) (text : List ℕ) → Run p text
@@ -43,12 +43,12 @@ flawed text whole flaw parts some h = record { front = whole; rest = []; parts =
 
 -- ---- names and numbers
 
-pub name_first : (c : ℕ) (cs : List ℕ) → is_letter c ≡ true → WordFirst (c ∷ cs)
+pub name_first : (c : ℕ) (cs : List ℕ) → is_name_start c ≡ true → WordFirst (c ∷ cs)
 name_first c cs letter =
-    let r = run is_word cs in
+    let r = run is_name_byte cs in
     record { front = c ∷ r.front; rest = r.rest; parts = ap (λ (xs : List ℕ). c ∷ xs) r.parts; some = omega arith; kind = _; is = name_token letter r.each r.stop }
 
-pub number_then : (c : ℕ) (cs front rest : List ℕ) → cs ≡ front ++ rest → Each is_digit (c ∷ front) → StopsAt is_digit rest → WordFirst (c ∷ cs)
+pub number_then : (c : ℕ) (cs front rest : List ℕ) → cs ≡ front ++ rest → AllSatisfy is_digit (c ∷ front) → StopsAt is_digit rest → WordFirst (c ∷ cs)
 number_then c cs front rest parts each stop =
     let all : c ∷ cs ≡ (c ∷ front) ++ rest = ap (λ (xs : List ℕ). c ∷ xs) parts in
     elim (cases_lt (decimal_from 0 (c ∷ front)) (2 ^ 64)) [
@@ -56,13 +56,13 @@ number_then c cs front rest parts each stop =
       | inr large ↦ flawed (c ∷ cs) ((c ∷ front) ++ rest) Bad all (omega arith) (large_number c front rest each stop large)
     ]
   where
-    small_then : (c : ℕ) (cs front rest : List ℕ) → c ∷ cs ≡ (c ∷ front) ++ rest → Each is_digit (c ∷ front) → StopsAt is_digit rest → decimal_from 0 (c ∷ front) < 2 ^ 64 → WordFirst (c ∷ cs)
+    small_then : (c : ℕ) (cs front rest : List ℕ) → c ∷ cs ≡ (c ∷ front) ++ rest → AllSatisfy is_digit (c ∷ front) → StopsAt is_digit rest → decimal_from 0 (c ∷ front) < 2 ^ 64 → WordFirst (c ∷ cs)
     small_then c cs front [] all each stop small = record { front = c ∷ front; rest = []; parts = all; some = omega arith; kind = _; is = number_token each tt small }
     small_then c cs front (d ∷ ds) all each stop small =
-        elim (cases_Bool (is_letter d)) [
+        elim (cases_Bool (is_name_start d)) [
           | inl letter ↦ flawed (c ∷ cs) ((c ∷ front) ++ d ∷ ds) Bad all (omega arith) (lettered_number c d front ds each letter)
           | inr other ↦
-              let no_word_byte : is_word d ≡ false = ap (λ (b : Bool). b || is_digit d) other ∙ stop in
+              let no_word_byte : is_name_byte d ≡ false = ap (λ (b : Bool). b || is_digit d) other ∙ stop in
               record { front = c ∷ front; rest = d ∷ ds; parts = all; some = omega arith; kind = _; is = number_token each no_word_byte small }
         ]
 
@@ -73,7 +73,7 @@ number_then c cs front rest parts each stop =
 pub data Quotation (quote : ℕ) : List ℕ → Type 0 where
   ends : {words bytes : List ℕ} (after : List ℕ) → IsStringContent quote words bytes → Quotation quote (words ++ quote ∷ after)
   meets_line : {words bytes : List ℕ} (after : List ℕ) → IsStringContent quote words bytes → StopsAt is_not_newline after → Quotation quote (words ++ after)
-  meets_escape : {words bytes : List ℕ} (after : List ℕ) → IsStringContent quote words bytes → NoEscape after → Quotation quote (words ++ 92 ∷ after)
+  meets_escape : {words bytes : List ℕ} (after : List ℕ) → IsStringContent quote words bytes → HasNoEscape after → Quotation quote (words ++ 92 ∷ after)
 
 push_plain : (quote c : ℕ) (cs : List ℕ) → is_plain quote c ≡ true → Quotation quote cs → Quotation quote (c ∷ cs)
 push_plain quote c cs plain (ends after inside) = ends after (itself plain inside)
@@ -105,5 +105,5 @@ quotation quote (c ∷ e ∷ cs) = byte_then quote c (e ∷ cs) (eqb c quote) (e
 pub string_first : (quote : ℕ) (cs : List ℕ) → is_quote quote ≡ true → Quotation quote cs → WordFirst (quote ∷ cs)
 string_first quote cs q (ends {words = w} after inside) =
     record { front = quote ∷ w ++ quote ∷ []; rest = after; parts = ap (λ (xs : List ℕ). quote ∷ xs) (sym (append_assoc w (quote ∷ []) after)); some = omega arith; kind = _; is = string_token q inside }
-string_first quote cs q (meets_line {words = w} after inside stop) = flawed (quote ∷ cs) (quote ∷ w ++ after) Endless refl (omega arith) (endless_string after q inside stop)
+string_first quote cs q (meets_line {words = w} after inside stop) = flawed (quote ∷ cs) (quote ∷ w ++ after) Unterminated refl (omega arith) (endless_string after q inside stop)
 string_first quote cs q (meets_escape {words = w} after inside none) = flawed (quote ∷ cs) (quote ∷ w ++ 92 ∷ after) Bad refl (omega arith) (bad_escape after q inside none)

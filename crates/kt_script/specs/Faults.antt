@@ -1,39 +1,39 @@
 -- The faults of tokens that are not a script.
 use Rattle.std.specs.Prelude.{◌≡◌, ℕ, ◌-◌, length, take, slice_get, List, [], ◌∷◌, ◌++◌, Option, Some, None, Result, Ok, Err, ◌⊎◌}
-use Rattle.kt_script.specs.Types.{Action, Bad, BadToken, Broken, CloseBrace, CloseBracket, CloseParen, Endless, TokenKind, NoMemory, NotLiteral, OpenBrace, OpenBracket, OpenParen, ScriptFault, Stmt, Token, Unclosed}
-use Rattle.kt_script.specs.Grammar.{Statement, Script, kinds, first_line}
+use Rattle.kt_script.specs.Types.{Action, Bad, BadToken, Broken, CloseBrace, CloseBracket, CloseParen, Unterminated, TokenKind, NoMemory, NotLiteral, OpenBrace, OpenBracket, OpenParen, ScriptFault, Stmt, Token, Unclosed}
+use Rattle.kt_script.specs.Grammar.{IsStatement, Script, token_kinds, first_token_line}
 
--- `IfFault result P`: if `result` is a fault and not a failed allocation, the fault has the
--- property `P`.
+-- `IfFault result P`: if `result` is a fault and not a failed allocation, the fault satisfies the
+-- predicate `P`.
 abbrev pub IfFault : {T : Type 0} → Result T ScriptFault → (ScriptFault → Type 0) → Type 0
 IfFault (Ok x) P = Unit {0}
 IfFault (Err (NoMemory refusal)) P = Unit {0}
 IfFault (Err fault) P = P fault
 
--- `Begins ts`: some script begins with the tokens `ts`.
-abbrev pub Begins : List Token → Type 0
-Begins ts = (more : List Token) × (stmts : List Stmt) × Script (ts ++ more) stmts
+-- `IsScriptPrefix ts`: some script begins with the tokens `ts`.
+abbrev pub IsScriptPrefix : List Token → Type 0
+IsScriptPrefix ts = (more : List Token) × (stmts : List Stmt) × Script (ts ++ more) stmts
 
 -- `token_kind_fault line kind`: the fault of a script that has a token of the kind `kind` on the
 -- line `line`, where the grammar does not allow the token.
 abbrev pub token_kind_fault : ℕ → TokenKind → ScriptFault
 token_kind_fault line (Broken Bad) = BadToken line
-token_kind_fault line (Broken Endless) = Unclosed line
+token_kind_fault line (Broken Unterminated) = Unclosed line
 token_kind_fault line _ = NotLiteral line
 
 -- `fault_of t`: the fault of a script that has the token `t` where the grammar does not allow it.
 abbrev pub fault_of : Token → ScriptFault
 fault_of t = token_kind_fault t.line t.kind
 
--- `UnexpectedToken ts fault`: the grammar does not allow one of the tokens `ts` after the tokens before it,
--- and `fault` is the fault of the first such token.
-pub record UnexpectedToken (ts : List Token) (fault : ScriptFault) : Type 0 where
+-- `HasUnexpectedToken ts fault`: one of the tokens `ts` is unexpected: the grammar does not allow
+-- it after the tokens before it. `fault` is the fault of the first unexpected token.
+pub record HasUnexpectedToken (ts : List Token) (fault : ScriptFault) : Type 0 where
   pub front : List Token
   pub token : Token
   pub rest : List Token
   pub parts : ts ≡ front ++ token ∷ rest
-  pub begins : Begins front
-  pub unfit : ¬ Begins (front ++ token ∷ [])
+  pub begins : IsScriptPrefix front
+  pub unfit : ¬ IsScriptPrefix (front ++ token ∷ [])
   pub is : fault ≡ fault_of token
 
 -- `last lines`: the last of the line numbers `lines`, or nothing if the list is empty.
@@ -44,32 +44,33 @@ last lines = slice_get lines (length lines - 1)
 abbrev pub without_last : List ℕ → List ℕ
 without_last lines = take (length lines - 1) lines
 
--- `after_bracket lines line kind`: the lines of the open brackets after a token of the kind `kind`
+-- `brackets_after lines line kind`: the lines of the open brackets after a token of the kind `kind`
 -- on the line `line`. `lines` are the lines of the open brackets before the token.
-abbrev pub after_bracket : List ℕ → ℕ → TokenKind → List ℕ
-after_bracket lines line OpenParen = lines ++ line ∷ []
-after_bracket lines line OpenBrace = lines ++ line ∷ []
-after_bracket lines line OpenBracket = lines ++ line ∷ []
-after_bracket lines line CloseParen = without_last lines
-after_bracket lines line CloseBrace = without_last lines
-after_bracket lines line CloseBracket = without_last lines
-after_bracket lines line _ = lines
+abbrev pub brackets_after : List ℕ → ℕ → TokenKind → List ℕ
+brackets_after lines line OpenParen = lines ++ line ∷ []
+brackets_after lines line OpenBrace = lines ++ line ∷ []
+brackets_after lines line OpenBracket = lines ++ line ∷ []
+brackets_after lines line CloseParen = without_last lines
+brackets_after lines line CloseBrace = without_last lines
+brackets_after lines line CloseBracket = without_last lines
+brackets_after lines line _ = lines
 
--- `open_lines lines ts`: the lines of the open brackets after the tokens `ts`. `lines` are the
--- lines of the open brackets before these tokens.
-abbrev pub open_lines : List ℕ → List Token → List ℕ
-open_lines lines [] = lines
-open_lines lines (t ∷ ts) = open_lines (after_bracket lines t.line t.kind) ts
+-- `open_bracket_lines lines ts`: the lines of the open brackets after the tokens `ts`. `lines` are
+-- the lines of the open brackets before these tokens.
+abbrev pub open_bracket_lines : List ℕ → List Token → List ℕ
+open_bracket_lines lines [] = lines
+open_bracket_lines lines (t ∷ ts) = open_bracket_lines (brackets_after lines t.line t.kind) ts
 
--- `end_fault bracket line`: the fault of a script that ends within the statement on the line
--- `line`. `bracket` is the line of the innermost open bracket, or nothing if no bracket is open.
+-- `end_fault bracket line`: the fault of a script that ends within the statement that begins on the
+-- line `line`. `bracket` is the line of the innermost open bracket, or nothing if no bracket is
+-- open.
 abbrev pub end_fault : Option ℕ → ℕ → ScriptFault
 end_fault None line = NotLiteral line
 end_fault (Some bracket) line = Unclosed bracket
 
--- `Unfinished ts fault`: the tokens `ts` end within a statement, and `fault` is the fault for such
--- an end.
-pub record Unfinished (ts : List Token) (fault : ScriptFault) : Type 0 where
+-- `HasUnfinishedStatement ts fault`: the tokens `ts` end within a statement, and `fault` is the
+-- fault of a script that ends there.
+pub record HasUnfinishedStatement (ts : List Token) (fault : ScriptFault) : Type 0 where
   pub whole : List Token
   pub begun : List Token
   pub parts : ts ≡ whole ++ begun
@@ -77,11 +78,11 @@ pub record Unfinished (ts : List Token) (fault : ScriptFault) : Type 0 where
   pub script : Script whole stmts
   pub more : List Token
   pub action : Action
-  pub statement : Statement (kinds (begun ++ more)) action
-  pub is : fault ≡ end_fault (last (open_lines [] ts)) (first_line begun)
+  pub statement : IsStatement (token_kinds (begun ++ more)) action
+  pub is : fault ≡ end_fault (last (open_bracket_lines [] ts)) (first_token_line begun)
 
--- `IsFaultOf ts fault`: the tokens `ts` are not a script, and `fault` is the fault of the first
--- token that the grammar does not allow, or of an end within a statement.
+-- `IsFaultOf ts fault`: the tokens `ts` are not a script. `fault` is the fault of the first
+-- unexpected token, or of an end within a statement.
 pub record IsFaultOf (ts : List Token) (fault : ScriptFault) : Type 0 where
   pub no_script : (stmts : List Stmt) → Script ts stmts → ⊥
-  pub is : UnexpectedToken ts fault ⊎ Unfinished ts fault
+  pub is : HasUnexpectedToken ts fault ⊎ HasUnfinishedStatement ts fault

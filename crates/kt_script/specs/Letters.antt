@@ -2,14 +2,14 @@
 use Rattle.std.specs.Prelude.{ℕ, Bool, not, nat_le, ◌==◌, ◌&&◌, ◌||◌, Option, Some, None, if◌then◌else◌}
 use Rattle.kt_base.specs.Digits.{is_digit}
 
--- `is_letter c`: the byte `c` is an ASCII letter or an underscore.
-abbrev pub is_letter : ℕ → Bool
-is_letter c = (nat_le 97 c && nat_le c 122) || (nat_le 65 c && nat_le c 90) || c == 95
+-- `is_name_start c`: the byte `c` is an ASCII letter or an underscore.
+abbrev pub is_name_start : ℕ → Bool
+is_name_start c = (nat_le 97 c && nat_le c 122) || (nat_le 65 c && nat_le c 90) || c == 95
 
--- `is_word c`: the byte `c` can follow the first byte of a name: it is an ASCII letter, an
+-- `is_name_byte c`: the byte `c` can follow the first byte of a name: it is an ASCII letter, an
 -- underscore or a digit.
-abbrev pub is_word : ℕ → Bool
-is_word c = is_letter c || is_digit c
+abbrev pub is_name_byte : ℕ → Bool
+is_name_byte c = is_name_start c || is_digit c
 
 -- `is_plain quote c`: the byte `c` represents itself in a string that begins and ends with the byte
 -- `quote`: it is not `quote`, a newline or a backslash.

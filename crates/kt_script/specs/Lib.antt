@@ -2,7 +2,7 @@ pub mod Common
 pub mod Letters
 pub mod Grammar
 pub mod Faults
-pub mod FaultWords
+pub mod FaultMessages
 pub mod TokenRules
 pub mod Spelling
 pub mod LiteralText

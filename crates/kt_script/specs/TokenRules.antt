@@ -1,15 +1,15 @@
 -- The rules for the tokens of a text. A text is a sequence of white space, comments and tokens.
 use Rattle.std.specs.Prelude.{◌≡◌, ℕ, ◌+◌, ◌<◌, ◌≤◌, ◌^◌, ◌==◌, ◌||◌, ◌&&◌, Bool, true, false, not, nat_eq, bytes_eq, codes, List, [], ◌∷◌, ◌++◌, drop, Option, Some, None, chars, if◌then◌else◌}
 use Rattle.std.specs.List.{starts_with, prefix_len}
-use Rattle.kt_script.specs.Types.{Bad, Broken, CloseBrace, CloseBracket, CloseParen, Comma, Dot, Endless, Equals, Flaw, TokenKind, Leveled, Name, Number, OpenBrace, OpenBracket, OpenParen, Quoted, Semicolon, Token, Truth}
+use Rattle.kt_script.specs.Types.{Bad, Broken, CloseBrace, CloseBracket, CloseParen, Comma, Dot, Unterminated, Equals, Flaw, TokenKind, LeveledComment, Name, Number, OpenBrace, OpenBracket, OpenParen, Quoted, Semicolon, Token, Truth}
 use Rattle.kt_base.specs.Characters.{is_space}
 use Rattle.kt_base.specs.Digits.{is_digit, decimal_from}
-use Rattle.kt_script.specs.Letters.{is_letter, is_word, is_plain, escape_of}
+use Rattle.kt_script.specs.Letters.{is_name_start, is_name_byte, is_plain, escape_of}
 
--- `mark_of c`: the kind of the punctuation token that the byte `c` is, or nothing if `c` is not one
--- of `( ) { } [ ] = , ; .`
-abbrev pub mark_of : ℕ → Option TokenKind
-mark_of c =
+-- `punctuation_kind_of c`: the kind of the punctuation token with the byte `c`, or nothing if `c`
+-- is not one of `( ) { } [ ] = , ; .`
+abbrev pub punctuation_kind_of : ℕ → Option TokenKind
+punctuation_kind_of c =
     if c == 40 then Some OpenParen else if c == 41 then Some CloseParen
     else if c == 123 then Some OpenBrace else if c == 125 then Some CloseBrace
     else if c == 91 then Some OpenBracket else if c == 93 then Some CloseBracket
@@ -22,25 +22,25 @@ mark_of c =
 abbrev pub word : List ℕ → TokenKind
 word letters = if bytes_eq letters (codes "true") then Truth true else if bytes_eq letters (codes "false") then Truth false else Name (chars letters)
 
--- `is_level text`: `text` begins with one or more `=`, followed by `[`.
-abbrev pub is_level : List ℕ → Bool
-is_level text = starts_with nat_eq text (codes "=") && starts_with nat_eq (drop (prefix_len (λ c. c == 61) text) text) (codes "[")
+-- `has_bracket_level text`: `text` begins with one or more `=`, followed by `[`.
+abbrev pub has_bracket_level : List ℕ → Bool
+has_bracket_level text = starts_with nat_eq text (codes "=") && starts_with nat_eq (drop (prefix_len (λ c. c == 61) text) text) (codes "[")
 
 -- `line_after line c`: the line number after the byte `c`, which is on the line `line`.
 abbrev pub line_after : ℕ → ℕ → ℕ
 line_after line c = if c == 10 then line + 1 else line
 
--- `line_past line bytes`: the line number at the end of `bytes`, which begin on the line `line`.
-abbrev pub line_past : ℕ → List ℕ → ℕ
-line_past line [] = line
-line_past line (c ∷ cs) = line_past (line_after line c) cs
+-- `line_at_end line bytes`: the line number at the end of `bytes`, which begin on the line `line`.
+abbrev pub line_at_end : ℕ → List ℕ → ℕ
+line_at_end line [] = line
+line_at_end line (c ∷ cs) = line_at_end (line_after line c) cs
 
--- `Each p bytes`: each of the bytes `bytes` satisfies the test `p`.
-abbrev pub Each : (ℕ → Bool) → List ℕ → Type 0
-Each p [] = Unit {0}
-Each p (c ∷ cs) = (p c ≡ true) × Each p cs
+-- `AllSatisfy p bytes`: each of the bytes `bytes` satisfies the test `p`.
+abbrev pub AllSatisfy : (ℕ → Bool) → List ℕ → Type 0
+AllSatisfy p [] = Unit {0}
+AllSatisfy p (c ∷ cs) = (p c ≡ true) × AllSatisfy p cs
 
--- `StopsAt p bytes`: `bytes` is empty, or its first byte does not satisfy the test `p`.
+-- `StopsAt p bytes`: `bytes` are empty, or the first byte does not satisfy the test `p`.
 abbrev pub StopsAt : (ℕ → Bool) → List ℕ → Type 0
 StopsAt p [] = Unit {0}
 StopsAt p (c ∷ cs) = p c ≡ false
@@ -60,13 +60,13 @@ pub data IsStringContent (quote : ℕ) : List ℕ → List ℕ → Type 0 where
   itself : {c : ℕ} {cs bytes : List ℕ} → is_plain quote c ≡ true → IsStringContent quote cs bytes → IsStringContent quote (c ∷ cs) (c ∷ bytes)
   escape : {c d : ℕ} {cs bytes : List ℕ} → escape_of c ≡ Some d → IsStringContent quote cs bytes → IsStringContent quote (92 ∷ c ∷ cs) (d ∷ bytes)
 
--- `NoEscape bytes`: a backslash and the first byte of `bytes` are not an escape of this profile.
-abbrev pub NoEscape : List ℕ → Type 0
-NoEscape [] = Unit {0}
-NoEscape (c ∷ cs) = escape_of c ≡ None
+-- `HasNoEscape bytes`: a backslash and the first byte of `bytes` are not an escape of this profile.
+abbrev pub HasNoEscape : List ℕ → Type 0
+HasNoEscape [] = Unit {0}
+HasNoEscape (c ∷ cs) = escape_of c ≡ None
 
--- `Closes bytes after`: the bytes `bytes`, which `after` follows, end with the first `]]` of the
--- whole text.
+-- `Closes bytes after`: the bytes `bytes` end with the first `]]` of the text that consists of
+-- `bytes` and then of `after`.
 pub data Closes : List ℕ → List ℕ → Type 0 where
   closed : {after : List ℕ} → Closes (93 ∷ 93 ∷ []) after
   not_yet : {c : ℕ} {cs after : List ℕ} → starts_with nat_eq ((c ∷ cs) ++ after) (codes "]]") ≡ false → Closes cs after → Closes (c ∷ cs) after
@@ -76,54 +76,57 @@ abbrev pub HasNoCommentEnd : List ℕ → Type 0
 HasNoCommentEnd [] = Unit {0}
 HasNoCommentEnd (c ∷ cs) = (starts_with nat_eq (c ∷ cs) (codes "]]") ≡ false) × HasNoCommentEnd cs
 
--- `opens_long_comment text`: `text`, which follows `--`, begins with `[[`, so a long comment begins.
+-- `opens_long_comment text`: `text`, which follows `--`, begins with `[[`, so a long comment
+-- begins.
 abbrev pub opens_long_comment : List ℕ → Bool
 opens_long_comment text = starts_with nat_eq text (codes "[[")
 
--- `opens_leveled_comment text`: `text`, which follows `--`, begins with `[`, one or more `=`, and `[`.
+-- `opens_leveled_comment text`: `text`, which follows `--`, begins with `[`, one or more `=`, and
+-- `[`.
 abbrev pub opens_leveled_comment : List ℕ → Bool
-opens_leveled_comment text = starts_with nat_eq text (codes "[") && is_level (drop 1 text)
+opens_leveled_comment text = starts_with nat_eq text (codes "[") && has_bracket_level (drop 1 text)
 
--- `Blank bytes after`: the bytes `bytes`, which `after` follows, are one byte of white space or a
+-- `IsBlank bytes after`: the bytes `bytes`, which `after` follows, are one byte of white space or a
 -- comment.
-pub data Blank : List ℕ → List ℕ → Type 0 where
-  space : {c : ℕ} {after : List ℕ} → is_space c ≡ true → Blank (c ∷ []) after
-  line_comment : {words after : List ℕ} → opens_long_comment (words ++ after) ≡ false → opens_leveled_comment (words ++ after) ≡ false → Each is_not_newline words → StopsAt is_not_newline after → Blank (45 ∷ 45 ∷ words) after
-  long_comment : {words after : List ℕ} → Closes words after → Blank (45 ∷ 45 ∷ 91 ∷ 91 ∷ words) after
+pub data IsBlank : List ℕ → List ℕ → Type 0 where
+  space : {c : ℕ} {after : List ℕ} → is_space c ≡ true → IsBlank (c ∷ []) after
+  line_comment : {words after : List ℕ} → opens_long_comment (words ++ after) ≡ false → opens_leveled_comment (words ++ after) ≡ false → AllSatisfy is_not_newline words → StopsAt is_not_newline after → IsBlank (45 ∷ 45 ∷ words) after
+  long_comment : {words after : List ℕ} → Closes words after → IsBlank (45 ∷ 45 ∷ 91 ∷ 91 ∷ words) after
 
 -- `IsInvalidFirstByte c`: the byte `c` does not begin a token, a comment or white space.
 pub record IsInvalidFirstByte (c : ℕ) : Type 0 where
   pub no_space : is_space c ≡ false
-  pub no_letter : is_letter c ≡ false
+  pub no_letter : is_name_start c ≡ false
   pub no_digit : is_digit c ≡ false
   pub no_quote : is_quote c ≡ false
   pub no_dash : c == 45 ≡ false
-  pub no_mark : mark_of c ≡ None
+  pub no_mark : punctuation_kind_of c ≡ None
 
--- `HasFlaw text flaw`: `text` begins with a broken token, which is broken for the reason `flaw`.
+-- `HasFlaw text flaw`: `text` begins with no white space, comment or token of this profile, for the
+-- reason `flaw`. The whole of `text` is then a broken token.
 pub data HasFlaw : List ℕ → Flaw → Type 0 where
-  large_number : (c : ℕ) (cs after : List ℕ) → Each is_digit (c ∷ cs) → StopsAt is_digit after → 2 ^ 64 ≤ decimal_from 0 (c ∷ cs) → HasFlaw ((c ∷ cs) ++ after) Bad
-  lettered_number : (c d : ℕ) (cs after : List ℕ) → Each is_digit (c ∷ cs) → is_letter d ≡ true → HasFlaw ((c ∷ cs) ++ d ∷ after) Bad
-  endless_string : {quote : ℕ} {words bytes : List ℕ} (after : List ℕ) → is_quote quote ≡ true → IsStringContent quote words bytes → StopsAt is_not_newline after → HasFlaw (quote ∷ words ++ after) Endless
-  bad_escape : {quote : ℕ} {words bytes : List ℕ} (after : List ℕ) → is_quote quote ≡ true → IsStringContent quote words bytes → NoEscape after → HasFlaw (quote ∷ words ++ 92 ∷ after) Bad
-  endless_comment : {text : List ℕ} → HasNoCommentEnd text → HasFlaw (45 ∷ 45 ∷ 91 ∷ 91 ∷ text) Endless
-  leveled_comment : {text : List ℕ} → opens_long_comment text ≡ false → opens_leveled_comment text ≡ true → HasFlaw (45 ∷ 45 ∷ text) Leveled
+  large_number : (c : ℕ) (cs after : List ℕ) → AllSatisfy is_digit (c ∷ cs) → StopsAt is_digit after → 2 ^ 64 ≤ decimal_from 0 (c ∷ cs) → HasFlaw ((c ∷ cs) ++ after) Bad
+  lettered_number : (c d : ℕ) (cs after : List ℕ) → AllSatisfy is_digit (c ∷ cs) → is_name_start d ≡ true → HasFlaw ((c ∷ cs) ++ d ∷ after) Bad
+  endless_string : {quote : ℕ} {words bytes : List ℕ} (after : List ℕ) → is_quote quote ≡ true → IsStringContent quote words bytes → StopsAt is_not_newline after → HasFlaw (quote ∷ words ++ after) Unterminated
+  bad_escape : {quote : ℕ} {words bytes : List ℕ} (after : List ℕ) → is_quote quote ≡ true → IsStringContent quote words bytes → HasNoEscape after → HasFlaw (quote ∷ words ++ 92 ∷ after) Bad
+  endless_comment : {text : List ℕ} → HasNoCommentEnd text → HasFlaw (45 ∷ 45 ∷ 91 ∷ 91 ∷ text) Unterminated
+  leveled_comment : {text : List ℕ} → opens_long_comment text ≡ false → opens_leveled_comment text ≡ true → HasFlaw (45 ∷ 45 ∷ text) LeveledComment
   lone_dash : {text : List ℕ} → starts_with nat_eq text (codes "-") ≡ false → HasFlaw (45 ∷ text) Bad
-  strange : {c : ℕ} {cs : List ℕ} → IsInvalidFirstByte c → HasFlaw (c ∷ cs) Bad
+  invalid_first_byte : {c : ℕ} {cs : List ℕ} → IsInvalidFirstByte c → HasFlaw (c ∷ cs) Bad
 
 -- `IsToken bytes after kind`: the bytes `bytes`, which `after` follows, are a token of the kind
 -- `kind`.
 pub data IsToken : List ℕ → List ℕ → TokenKind → Type 0 where
-  name_token : {c : ℕ} {cs after : List ℕ} → is_letter c ≡ true → Each is_word cs → StopsAt is_word after → IsToken (c ∷ cs) after (word (c ∷ cs))
-  number_token : {c : ℕ} {cs after : List ℕ} → Each is_digit (c ∷ cs) → StopsAt is_word after → decimal_from 0 (c ∷ cs) < 2 ^ 64 → IsToken (c ∷ cs) after (Number (decimal_from 0 (c ∷ cs)))
+  name_token : {c : ℕ} {cs after : List ℕ} → is_name_start c ≡ true → AllSatisfy is_name_byte cs → StopsAt is_name_byte after → IsToken (c ∷ cs) after (word (c ∷ cs))
+  number_token : {c : ℕ} {cs after : List ℕ} → AllSatisfy is_digit (c ∷ cs) → StopsAt is_name_byte after → decimal_from 0 (c ∷ cs) < 2 ^ 64 → IsToken (c ∷ cs) after (Number (decimal_from 0 (c ∷ cs)))
   string_token : {quote : ℕ} {words bytes after : List ℕ} → is_quote quote ≡ true → IsStringContent quote words bytes → IsToken (quote ∷ words ++ quote ∷ []) after (Quoted (chars bytes))
-  punctuation_token : {c : ℕ} {kind : TokenKind} {after : List ℕ} → mark_of c ≡ Some kind → IsToken (c ∷ []) after kind
+  punctuation_token : {c : ℕ} {kind : TokenKind} {after : List ℕ} → punctuation_kind_of c ≡ Some kind → IsToken (c ∷ []) after kind
   broken_token : {text : List ℕ} {flaw : Flaw} → HasFlaw text flaw → IsToken text [] (Broken flaw)
 
--- `IsTokens line text ts`: `text`, which begins on the line `line`, consists of the tokens `ts`,
+-- `AreTokens line text ts`: `text`, which begins on the line `line`, consists of the tokens `ts`,
 -- and of white space and comments around them.
-pub data IsTokens : ℕ → List ℕ → List Token → Type 0 where
-  no_text : {line : ℕ} → IsTokens line [] []
-  blank_first : {line : ℕ} {blank rest : List ℕ} {ts : List Token} → Blank blank rest → IsTokens (line_past line blank) rest ts → IsTokens line (blank ++ rest) ts
-  token_first : {line : ℕ} {bytes rest : List ℕ} {kind : TokenKind} {ts : List Token} → IsToken bytes rest kind → IsTokens (line_past line bytes) rest ts
-      → IsTokens line (bytes ++ rest) (record { line = line; kind = kind } ∷ ts)
+pub data AreTokens : ℕ → List ℕ → List Token → Type 0 where
+  no_text : {line : ℕ} → AreTokens line [] []
+  blank_first : {line : ℕ} {blank rest : List ℕ} {ts : List Token} → IsBlank blank rest → AreTokens (line_at_end line blank) rest ts → AreTokens line (blank ++ rest) ts
+  token_first : {line : ℕ} {bytes rest : List ℕ} {kind : TokenKind} {ts : List Token} → IsToken bytes rest kind → AreTokens (line_at_end line bytes) rest ts
+      → AreTokens line (bytes ++ rest) (record { line = line; kind = kind } ∷ ts)

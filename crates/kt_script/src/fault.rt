@@ -9,7 +9,7 @@ use thiserror::Error;
 /// A number is a line, counted from 1: the line of the faulty token, of the unclosed bracket or of
 /// the unfinished statement.
 #[derive(Clone, Copy, Debug, Error)]
-#[error("{}", self.words())]
+#[error("{}", self.message())]
 pub enum ScriptFault {
     /// An allocation failed.
     NoMemory(NoMemory),
@@ -26,12 +26,12 @@ pub enum ScriptFault {
 }
 
 impl ScriptFault {
-    ghost use Rattle.kt_script.specs.FaultWords.{script_message};
+    ghost use Rattle.kt_script.specs.FaultMessages.{script_message};
 
     /// Returns the message of the fault, without its line number (this profile).
     ///
     /// `Display` prints this message. The caller prints the line number.
-    pub fn words(&self) -> &'static str
+    pub fn message(&self) -> &'static str
         ensures { result.now ≡ script_message self.now }
     {
         match self {

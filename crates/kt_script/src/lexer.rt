@@ -1,12 +1,12 @@
 //! The lexer: it splits a text into white space, comments and tokens.
 
 ghost use Rattle.std.specs.Prelude.{◌≡◌, ℕ, ◌≤◌, length, IfOk, ◌+◌, ◌==◌, IfSome};
-ghost use Rattle.kt_script.specs.Common.{prefix_len, is_space, mark_of, lexeme_at, long_comment_end, comment_at, is_level, number_at};
+ghost use Rattle.kt_script.specs.Common.{prefix_len, is_space, punctuation_kind_of, lexeme_at, long_comment_end, comment_at, has_bracket_level, number_at};
 
-use crate::quotation::quoted;
+use crate::quotation::quoted_token;
 use crate::token::{Flaw, Lexeme, TokenKind};
-use crate::words::{is_letter, is_space, name};
-use kt_base::{NoMemory, decimal_up_to, digits_length, is_digit, line_length};
+use crate::words::{is_name_start, is_space, name};
+use kt_base::{NoMemory, digits_length, is_digit, line_length, parse_decimal_up_to};
 use std::alloc::Global;
 
 /// Returns the number of bytes in `text` up to and including its first `]]`.
@@ -29,7 +29,7 @@ fn closes(text: &[u8]) -> Option<usize>
 }
 
 /// Returns the number of `=` at the beginning of `text`.
-fn equals_length(text: &[u8]) -> usize
+fn count_equals(text: &[u8]) -> usize
     ensures value { result ≡ prefix_len (λ c. c == 61) text.now }
     ensures within { result ≤ length text.now }
 {
@@ -37,27 +37,27 @@ fn equals_length(text: &[u8]) -> usize
 }
 
 /// Returns `true` if `text` begins with one or more `=`, followed by `[`.
-fn is_level(text: &[u8]) -> bool
-    ensures { result ≡ is_level text.now }
+fn has_bracket_level(text: &[u8]) -> bool
+    ensures { result ≡ has_bracket_level text.now }
 {
-    let after = &text[equals_length(text)..];
+    let after = &text[count_equals(text)..];
     text.starts_with(b"=") && after.starts_with(b"[")
 }
 
-/// Returns the comment at the beginning of `text`.
+/// Returns the lexeme of the comment at the beginning of `text`.
 ///
-/// The result is a broken token if `text` does not begin with a comment of this profile.
-pub fn comment(text: &[u8]) -> Lexeme
+/// The lexeme is a broken token if `text` does not begin with a comment of this profile.
+pub fn lex_comment(text: &[u8]) -> Lexeme
     ensures { result ≡ comment_at text.now }
 {
     if text.starts_with(b"--[[") {
         return match closes(&text[4..]) {
-            None => Lexeme::broken(text, Flaw::Endless),
+            None => Lexeme::broken(text, Flaw::Unterminated),
             Some(end) => Lexeme::blank(end + 4),
         };
     }
-    if text.starts_with(b"--[") && is_level(&text[3..]) {
-        return Lexeme::broken(text, Flaw::Leveled);
+    if text.starts_with(b"--[") && has_bracket_level(&text[3..]) {
+        return Lexeme::broken(text, Flaw::LeveledComment);
     }
     if text.starts_with(b"--") {
         return Lexeme::blank(2 + line_length(&text[2..]));
@@ -73,9 +73,10 @@ fn space_length(text: &[u8]) -> usize
     text.iter().take_while(|c| is_space(**c)).count()
 }
 
-/// Returns the kind of the punctuation token that the byte `c` is, or `None` for another byte.
-fn mark(c: u8) -> Option<TokenKind>
-    ensures { result ≡ mark_of c }
+/// Returns the kind of the punctuation token with the byte `c`, or `None` if `c` is not
+/// punctuation.
+fn punctuation_kind(c: u8) -> Option<TokenKind>
+    ensures { result ≡ punctuation_kind_of c }
 {
     match c {
         b'(' => Some(TokenKind::OpenParen),
@@ -94,16 +95,16 @@ fn mark(c: u8) -> Option<TokenKind>
 
 /// Returns the token of the decimal number at the beginning of `text`.
 ///
-/// A number that is above 2^64 - 1, or that a letter or underscore follows, is a broken token.
+/// The token is broken if the number is above 2^64 - 1, or if a letter or underscore follows it.
 fn number(text: &[u8]) -> Lexeme
     ensures { result ≡ number_at text.now }
 {
     let length = digits_length(text);
     let (digits, after) = text.split_at(length);
-    if after.first().is_some_and(|c| is_letter(*c)) {
+    if after.first().is_some_and(|c| is_name_start(*c)) {
         return Lexeme::broken(text, Flaw::Bad);
     }
-    match decimal_up_to(u64::MAX, digits) {
+    match parse_decimal_up_to(u64::MAX, digits) {
         None => Lexeme::broken(text, Flaw::Bad),
         Some(value) => Lexeme::token(length, TokenKind::Number(value)),
     }
@@ -111,7 +112,8 @@ fn number(text: &[u8]) -> Lexeme
 
 /// Returns the lexeme at the beginning of `text`: white space, a comment or a token.
 ///
-/// An empty text has a lexeme of 0 bytes. A flaw in the text gives a broken token.
+/// An empty text has a lexeme of 0 bytes. If `text` begins with none of the three, the lexeme is a
+/// broken token.
 ///
 /// # Errors
 ///
@@ -127,19 +129,19 @@ pub fn next_lexeme(alloc: Global, text: &str) -> Result<Lexeme, NoMemory>
     if is_space(*c) {
         return Ok(Lexeme::blank(space_length(bytes)));
     }
-    if is_letter(*c) {
+    if is_name_start(*c) {
         return name(alloc, text);
     }
     if is_digit(*c) {
         return Ok(number(bytes));
     }
     if *c == b'"' || *c == b'\'' {
-        return quoted(alloc, *c, text);
+        return quoted_token(alloc, *c, text);
     }
     if *c == b'-' {
-        return Ok(comment(bytes));
+        return Ok(lex_comment(bytes));
     }
-    Ok(match mark(*c) {
+    Ok(match punctuation_kind(*c) {
         None => Lexeme::broken(bytes, Flaw::Bad),
         Some(kind) => Lexeme::token(1, kind),
     })

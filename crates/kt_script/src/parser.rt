@@ -2,7 +2,7 @@
 
 ghost use Rattle.std.specs.Prelude.{◌≡◌, ℕ, List, [], ◌++◌, IfOk, OnOk, IfErr};
 ghost use Rattle.kt_script.specs.Inner.Automaton.{IsBetweenStatements};
-ghost use Rattle.kt_script.specs.Faults.{IfFault, last, after_bracket, end_fault};
+ghost use Rattle.kt_script.specs.Faults.{IfFault, last, brackets_after, end_fault};
 
 use crate::script_state::ScriptState;
 use crate::token::{Token, TokenKind};
@@ -13,8 +13,8 @@ use std::alloc::Global;
 /// Updates `brackets`, the lines of the open brackets, after a token of the kind `kind` on `line`.
 ///
 /// An opening bracket appends its line. A closing bracket removes the last line.
-fn follow(brackets: &mut Vec<u32>, line: u32, kind: &TokenKind) -> Result<(), NoMemory>
-    ensures { OnOk result (brackets.new.items ≡ after_bracket brackets.old.items line kind.now) }
+fn update_brackets(brackets: &mut Vec<u32>, line: u32, kind: &TokenKind) -> Result<(), NoMemory>
+    ensures { OnOk result (brackets.new.items ≡ brackets_after brackets.old.items line kind.now) }
 {
     match kind {
         TokenKind::OpenParen | TokenKind::OpenBrace | TokenKind::OpenBracket => brackets.push(
@@ -28,9 +28,9 @@ fn follow(brackets: &mut Vec<u32>, line: u32, kind: &TokenKind) -> Result<(), No
     Ok(())
 }
 
-/// A parser that collects the statements of a script, token by token.
+/// A parser of a script: it reads one token at a time and collects the complete statements.
 ///
-/// The caller stores the parser's position in the grammar, a [`ScriptState`].
+/// The parser's position in the grammar is a [`ScriptState`], which the caller stores.
 #[derive(Drop)]
 pub struct Parser {
     /// The lines of the open brackets, the innermost bracket last.
@@ -40,7 +40,7 @@ pub struct Parser {
 }
 
 impl Parser {
-    ghost use Rattle.kt_script.specs.Common.{HasRead, IsUnexpectedToken, IsWithin, Start, Token, tokens_in};
+    ghost use Rattle.kt_script.specs.Common.{HasRead, IsUnexpectedToken, IsInStatement, Start, Token, tokens_in};
 
     /// Creates a parser that has read no token.
     pub fn new(alloc: Global) -> Self
@@ -59,7 +59,9 @@ impl Parser {
     ///
     /// # Errors
     ///
-    /// - `BadToken`, `NotLiteral`, `Unclosed`: the grammar does not allow the token at `place`.
+    /// - `BadToken`: the token is broken with the flaw `Bad`.
+    /// - `Unclosed`: the token is broken with the flaw `Unterminated`.
+    /// - `NotLiteral`: the grammar does not allow a token without these flaws at `place`.
     /// - `NoMemory`: an allocation fails.
     pub fn feed(
         &mut self,
@@ -77,14 +79,16 @@ impl Parser {
         };
         let token = Token { line, kind };
         let fault = token.fault();
-        follow(&mut self.brackets, line, &token.kind)?;
+        update_brackets(&mut self.brackets, line, &token.kind)?;
         match place.next(alloc, token, &mut self.statements)? {
             None => Err(fault),
             Some(place) => Ok(place),
         }
     }
 
-    /// Returns the statements of the script, after its last token. `place` is the position there.
+    /// Returns the statements of a script, after its last token was read.
+    ///
+    /// `place` is the position after the last token.
     ///
     /// # Errors
     ///
@@ -93,19 +97,22 @@ impl Parser {
     pub fn finish(self, place: &ScriptState) -> Result<Items<Stmt>, ScriptFault>
         ensures ok { IfOk result (λ statements. IsBetweenStatements place.now
             × (statements ≡ self.statements)) }
-        ensures fault { IfErr result (λ fault. (line : ℕ) × IsWithin place.now line
+        ensures fault { IfErr result (λ fault. (line : ℕ) × IsInStatement place.now line
             × (fault ≡ end_fault (last self.brackets.items) line)) }
     {
         match place {
-            ScriptState::Start | ScriptState::Whole => Ok(self.statements),
-            ScriptState::Within(line, _) => Err(end_fault(self.brackets.last().copied(), *line)),
+            ScriptState::Start | ScriptState::AfterStatement => Ok(self.statements),
+            ScriptState::InStatement(line, _) => Err(end_fault(
+                self.brackets.last().copied(),
+                *line,
+            )),
         }
     }
 }
 
-/// Returns the fault of a script that ends within the statement on `line`.
+/// Returns the fault of a script that ends within the statement that begins on `line`.
 ///
-/// `bracket` is the line of the innermost open bracket, or `None` without an open bracket.
+/// `bracket` is the line of the innermost open bracket, or `None` if no bracket is open.
 fn end_fault(bracket: Option<u32>, line: u32) -> ScriptFault
     ensures { result ≡ end_fault bracket line }
 {

@@ -1,9 +1,9 @@
-//! String literals.
+//! Decodes string literals.
 
 ghost use Rattle.std.specs.Prelude.{◌≡◌, ℕ, ◌+◌, ◌<◌, ◌≤◌, ◌∷◌, false, length, drop, IfOk};
-ghost use Rattle.kt_script.specs.Common.{IsCharBoundary, prefix_len, is_plain, escape_of, string_end_at, escape_at, string_at, decoded, quoted_at};
+ghost use Rattle.kt_script.specs.Common.{IsCharBoundary, prefix_len, is_plain, escape_of, string_element_at, escape_at, string_at, decoded_string, quoted_at};
 
-use crate::token::{Flaw, Lexeme, StringEnd, TokenKind};
+use crate::token::{Flaw, Lexeme, StringElement, TokenKind};
 use kt_base::{NoMemory, Text};
 use std::alloc::Global;
 
@@ -31,34 +31,37 @@ fn plain_length(quote: u8, text: &[u8]) -> usize
         .count()
 }
 
-/// Returns the end of a string's plain bytes: the closing quote, an escape or a flaw.
+/// Returns the element of a string at the beginning of `text`: the closing quote, an escape or a
+/// flaw.
 ///
-/// `text` is the text after the plain bytes, and `quote` is the byte that closes the string.
-fn string_end(quote: u8, text: &[u8]) -> StringEnd
-    ensures { result ≡ string_end_at quote text.now }
+/// `text` is the rest of the script after plain bytes of the string. The closing quote is the byte
+/// `quote`.
+fn string_element(quote: u8, text: &[u8]) -> StringElement
+    ensures { result ≡ string_element_at quote text.now }
 {
     let Some((c, after)) = text.split_first() else {
-        return StringEnd::Flawed(Flaw::Endless);
+        return StringElement::Flawed(Flaw::Unterminated);
     };
     if *c == quote {
-        return StringEnd::Quote;
+        return StringElement::Quote;
     }
     if *c != b'\\' {
-        return StringEnd::Flawed(Flaw::Endless);
+        return StringElement::Flawed(Flaw::Unterminated);
     }
     match after.first().and_then(|c| escape(*c)) {
-        None => StringEnd::Flawed(Flaw::Bad),
-        Some(c) => StringEnd::Escape(c),
+        None => StringElement::Flawed(Flaw::Bad),
+        Some(c) => StringElement::Escape(c),
     }
 }
 
-/// Decodes a string literal. `text` is the text after its first quote, which is the byte `quote`.
+/// Decodes a string literal. `text` is the script after the opening quote, which is the byte
+/// `quote`.
 ///
-/// Returns the characters of the string, and its length in `text` in bytes, including the last
-/// quote. Returns the flaw if the string is not closed or has an unknown escape.
+/// Returns the characters of the string, and its length in `text` in bytes, with the closing quote.
+/// Returns the flaw if the string is not closed or has an unknown escape.
 fn string(alloc: Global, quote: u8, text: &str) -> Result<Result<(Text, usize), Flaw>, NoMemory>
     requires { quote < 128 }
-    ensures value { IfOk result (λ read. read ≡ decoded (string_at quote false text.now)) }
+    ensures value { IfOk result (λ read. read ≡ decoded_string (string_at quote false text.now)) }
     ensures within { IfOk result (λ read. IfOk read (λ x. x.1 ≤ length text.now)) }
 {
     let mut string = Text::new(alloc);
@@ -66,10 +69,10 @@ fn string(alloc: Global, quote: u8, text: &str) -> Result<Result<(Text, usize), 
     'runs: loop {
         let (plain, after) = rest.split_at(plain_length(quote, rest.as_bytes()));
         string.push_str(plain)?;
-        match string_end(quote, after.as_bytes()) {
-            StringEnd::Quote => return Ok(Ok((string, text.len() - after.len() + 1))),
-            StringEnd::Flawed(flaw) => return Ok(Err(flaw)),
-            StringEnd::Escape(c) => {
+        match string_element(quote, after.as_bytes()) {
+            StringElement::Quote => return Ok(Ok((string, text.len() - after.len() + 1))),
+            StringElement::Flawed(flaw) => return Ok(Err(flaw)),
+            StringElement::Escape(c) => {
                 string.push(c)?;
                 rest = &after[2..];
             }
@@ -79,12 +82,12 @@ fn string(alloc: Global, quote: u8, text: &str) -> Result<Result<(Text, usize), 
 
 /// Returns the token of the string literal at the beginning of `text`, whose first byte is `quote`.
 ///
-/// A string that is not closed or has an unknown escape is a broken token.
+/// The token is broken if the string is not closed or has an unknown escape.
 ///
 /// # Errors
 ///
 /// - `NoMemory`: an allocation fails.
-pub fn quoted(alloc: Global, quote: u8, text: &str) -> Result<Lexeme, NoMemory>
+pub fn quoted_token(alloc: Global, quote: u8, text: &str) -> Result<Lexeme, NoMemory>
     requires first { text.now ≡ quote ∷ drop 1 text.now }
     requires small { quote < 128 }
     ensures { IfOk result (λ piece. piece ≡ quoted_at quote text.now) }

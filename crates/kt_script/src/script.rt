@@ -1,7 +1,7 @@
 //! The function that parses a script, and its theorems.
 
 ghost use Rattle.std.specs.Prelude.{◌≡◌, ◌+◌, ◌≤◌, ◌<◌, ◌^◌, ◌++◌, List, length, IfOk, Result};
-ghost use Rattle.kt_script.specs.Common.{IfFault, IsFaultOf, Script, tokens, line_past, IsTokens, limit, Spells, IsDue, Answers, Refuses, IsResultOf, ScriptFault, Stmt, Token};
+ghost use Rattle.kt_script.specs.Common.{IfFault, IsFaultOf, Script, tokens, line_at_end, AreTokens, script_length_limit, Spells, HasFault, ReturnsStatements, ReturnsFault, IsResultOf, ScriptFault, Stmt, Token};
 
 use crate::lexer::next_lexeme;
 use crate::parser::Parser;
@@ -14,9 +14,9 @@ use std::alloc::Global;
 const MAX_SCRIPT_BYTES: usize = 1_048_576;
 
 /// Returns the line number at the end of `text`, which begins on the line `from`.
-fn line_past(from: u32, text: &[u8]) -> u32
+fn line_at_end(from: u32, text: &[u8]) -> u32
     requires { from + length text.now < 2 ^ 32 }
-    ensures value { result ≡ line_past from text.now }
+    ensures value { result ≡ line_at_end from text.now }
     ensures within { result ≤ from + length text.now }
 {
     let mut line = from;
@@ -30,7 +30,7 @@ fn line_past(from: u32, text: &[u8]) -> u32
 
 /// Parses `text`, which has at most 1,048,576 bytes, as a list of statements.
 fn statements(alloc: Global, text: &str) -> Result<Items<Stmt>, ScriptFault>
-    requires { length text.now ≤ limit }
+    requires { length text.now ≤ script_length_limit }
     ensures ok { IfOk result (λ stmts. Script (tokens 1 0 text.now) stmts) }
     ensures fault { IfFault result (λ fault. IsFaultOf (tokens 1 0 text.now) fault) }
 {
@@ -42,7 +42,7 @@ fn statements(alloc: Global, text: &str) -> Result<Items<Stmt>, ScriptFault>
         let piece = next_lexeme(alloc, rest)?;
         let (read, after) = rest.split_at(piece.length);
         place = parser.feed(alloc, place, line, piece.kind)?;
-        line = line_past(line, read.as_bytes());
+        line = line_at_end(line, read.as_bytes());
         rest = after;
     }
     parser.finish(&place)
@@ -52,24 +52,25 @@ fn statements(alloc: Global, text: &str) -> Result<Items<Stmt>, ScriptFault>
 ///
 /// # Errors
 ///
+/// A token is unexpected if the grammar does not allow it after the tokens before it.
+///
 /// - `TooLong`: the text has more than 1,048,576 bytes.
 /// - `NotUtf8`: the text is not UTF-8.
-/// - `BadToken`: the first token that no script allows is a byte, a number or an escape outside the
-///   profile.
-/// - `NotLiteral`: the first token that no script allows is another token, or the text ends within
-///   a statement and outside brackets.
-/// - `Unclosed`: the first token that no script allows is an unclosed string or comment, or the
-///   text ends inside a bracket.
+/// - `BadToken`: the first unexpected token is a byte, a number or an escape outside the profile.
+/// - `NotLiteral`: the first unexpected token is another token, or the text ends within a statement
+///   and outside brackets.
+/// - `Unclosed`: the first unexpected token is an unclosed string or comment, or the text ends
+///   inside a bracket.
 /// - `NoMemory`: an allocation fails.
 pub fn parse(alloc: Global, text: &[u8]) -> Result<Items<Stmt>, ScriptFault>
     // On success, the text spells the returned statements.
     ensures accepted { IfOk result (λ stmts. Spells text.now stmts) }
     // A text that spells statements is accepted, unless an allocation fails.
-    ensures only { (stmts : List Stmt) → Spells text.now stmts → Answers result stmts }
+    ensures only { (stmts : List Stmt) → Spells text.now stmts → ReturnsStatements result stmts }
     // On another error than a failed allocation, the text has the returned fault.
-    ensures refused { IfFault result (λ fault. IsDue text.now fault) }
+    ensures refused { IfFault result (λ fault. HasFault text.now fault) }
     // A text with a fault is rejected with that fault, unless an allocation fails.
-    ensures due { (fault : ScriptFault) → IsDue text.now fault → Refuses result fault }
+    ensures due { (fault : ScriptFault) → HasFault text.now fault → ReturnsFault result fault }
 {
     if text.len() > MAX_SCRIPT_BYTES {
         return Err(ScriptFault::TooLong);
@@ -80,10 +81,11 @@ pub fn parse(alloc: Global, text: &[u8]) -> Result<Items<Stmt>, ScriptFault>
     statements(alloc, text)
 }
 
-/// Theorem: by the rules, each text has exactly one result: its statements or its fault.
+/// Theorem: by the rules, each text has exactly one result of parsing: its statements or its fault.
 pub fn theorem_of_one_result(text: &[u8])
     ensures some { (answer : Result (List Stmt) ScriptFault) × IsResultOf text.now answer }
-    ensures one { (a b : Result (List Stmt) ScriptFault) → IsResultOf text.now a → IsResultOf text.now b
+    ensures one { (a b : Result (List Stmt) ScriptFault) → IsResultOf text.now a
+        → IsResultOf text.now b
         → a ≡ b }
 {
     let _ = text;
@@ -91,8 +93,8 @@ pub fn theorem_of_one_result(text: &[u8])
 
 /// Theorem: by the rules for tokens, each text consists of exactly one list of tokens.
 pub fn theorem_of_one_token_list(text: &[u8])
-    ensures some { (tokens : List Token) × IsTokens 1 text.now tokens }
-    ensures one { (a b : List Token) → IsTokens 1 text.now a → IsTokens 1 text.now b → a ≡ b }
+    ensures some { (tokens : List Token) × AreTokens 1 text.now tokens }
+    ensures one { (a b : List Token) → AreTokens 1 text.now a → AreTokens 1 text.now b → a ≡ b }
 {
     let _ = text;
 }

@@ -1,7 +1,7 @@
 //! The position of the parser in the grammar of a script.
 
 ghost use Rattle.std.specs.Prelude.{◌≡◌, ◌++◌, IfOk, OnOk};
-ghost use Rattle.kt_script.specs.Inner.Automaton.{begin, next, position_after, completed_statements};
+ghost use Rattle.kt_script.specs.Inner.Automaton.{begin_statement, next, position_after, completed_statements};
 
 use crate::Stmt;
 use crate::state::{State, Step};
@@ -14,29 +14,32 @@ pub enum ScriptState {
     /// Before a statement.
     Start,
     /// After a statement. A `;` may follow.
-    Whole,
-    /// Within a statement. The fields are the line on which it begins, and the state within it.
-    Within(u32, State),
+    AfterStatement,
+    /// Within a statement. The fields are the line on which the statement begins, and the state
+    /// within the statement.
+    InStatement(u32, State),
 }
 
 /// A manual impl, so that the prover handles each drop as one call.
 impl Drop for ScriptState {
     fn drop(self) {
         match self {
-            ScriptState::Start | ScriptState::Whole => {}
-            ScriptState::Within(_, state) => drop(state),
+            ScriptState::Start | ScriptState::AfterStatement => {}
+            ScriptState::InStatement(_, state) => drop(state),
         }
     }
 }
 
-/// Returns the position after a statement's first token, of the kind `kind` on the line `line`.
+/// Returns the position after the first token of a statement.
+///
+/// The token has the kind `kind` and is on the line `line`.
 ///
 /// Returns `None` if the token is not a name.
-fn begin(line: u32, kind: TokenKind) -> Option<ScriptState>
-    ensures { result ≡ position_after (begin line kind) }
+fn begin_statement(line: u32, kind: TokenKind) -> Option<ScriptState>
+    ensures { result ≡ position_after (begin_statement line kind) }
 {
     match kind {
-        TokenKind::Name(name) => Some(ScriptState::Within(line, State::Named(name))),
+        TokenKind::Name(name) => Some(ScriptState::InStatement(line, State::AfterName(name))),
         _ => None,
     }
 }
@@ -60,16 +63,18 @@ impl ScriptState {
             ++ completed_statements (next self token)) }
     {
         match self {
-            ScriptState::Whole if matches!(token.kind, TokenKind::Semicolon) => Ok(Some(
+            ScriptState::AfterStatement if matches!(token.kind, TokenKind::Semicolon) => Ok(Some(
                 ScriptState::Start,
             )),
-            ScriptState::Start | ScriptState::Whole => Ok(begin(token.line, token.kind)),
-            ScriptState::Within(line, state) => match state.step(alloc, token.kind)? {
+            ScriptState::Start | ScriptState::AfterStatement => Ok(begin_statement(
+                token.line, token.kind,
+            )),
+            ScriptState::InStatement(line, state) => match state.step(alloc, token.kind)? {
                 None => Ok(None),
-                Some(Step::To(state)) => Ok(Some(ScriptState::Within(line, state))),
-                Some(Step::Ends(action)) => {
+                Some(Step::Advance(state)) => Ok(Some(ScriptState::InStatement(line, state))),
+                Some(Step::Accept(action)) => {
                     statements.push(Stmt { line, action })?;
-                    Ok(Some(ScriptState::Whole))
+                    Ok(Some(ScriptState::AfterStatement))
                 }
             },
         }

@@ -1,21 +1,21 @@
 //! The states of the parser within a statement, and the transitions between them.
 
 ghost use Rattle.std.specs.Prelude.{◌≡◌, [], ◌∷◌, ◌++◌, IfOk};
-ghost use Rattle.kt_script.specs.Inner.Automaton.{closed, step, value_of};
+ghost use Rattle.kt_script.specs.Inner.Automaton.{closed, step, literal_of};
 
 use crate::token::TokenKind;
 use crate::{Action, Arg, Literal, Pair};
 use kt_base::{Items, NoMemory, Text};
 use std::alloc::Global;
 
-/// A table that is the argument of a call, before its `}`.
+/// A table that is the argument of a call, and whose `}` is not read yet.
 #[derive(Drop)]
 pub struct Table {
     /// The name of the function that is called.
     pub name: Text,
     /// `true` if the table is in parentheses.
     pub in_parens: bool,
-    /// The pairs read so far.
+    /// The pairs of the table that were read so far.
     pub pairs: Items<Pair>,
 }
 
@@ -23,42 +23,42 @@ pub struct Table {
 #[derive(Drop)]
 pub enum State {
     /// After the first name of a statement.
-    Named(Text),
+    AfterName(Text),
     /// After the name of a function and `(`.
-    Opened(Text),
+    AfterParen(Text),
     /// After the argument of a call in parentheses, before the `)`.
-    Closing(Action),
+    AfterArgument(Action),
     /// After the `{` of a table, or after a separator in the table.
     Pairs(Table),
     /// After the `[` of a key.
-    KeyOpened(Table),
+    AfterKeyBracket(Table),
     /// After the `[` and the string of a key.
-    KeyQuoted(Table, Text),
+    AfterKeyString(Table, Text),
     /// After a key of a table.
-    Keyed(Table, Text),
+    AfterKey(Table, Text),
     /// After a key of a table and `=`.
-    KeyEquals(Table, Text),
+    AfterKeyEquals(Table, Text),
     /// After a pair of a table.
-    Paired(Table),
+    AfterPair(Table),
     /// After a path and `.`.
-    Dotted(Items<Text>),
+    AfterDot(Items<Text>),
     /// After a path and `[`.
-    PathOpened(Items<Text>),
+    AfterPathBracket(Items<Text>),
     /// After the string in the last part of a path, before the `]`.
-    PathQuoted(Items<Text>),
+    AfterPathString(Items<Text>),
     /// After a path of at least two parts.
-    Path(Items<Text>),
+    AfterPath(Items<Text>),
     /// After a path and `=`.
-    PathEquals(Items<Text>),
+    AfterPathEquals(Items<Text>),
 }
 
-/// A transition of the parser within a statement: to another state, or to the statement's end.
+/// A transition of the parser within a statement: to another state, or to the end of the statement.
 #[derive(Drop)]
 pub enum Step {
     /// The token does not complete the statement. The field is the state after the token.
-    To(State),
+    Advance(State),
     /// The token completes the statement. The field is the action of the statement.
-    Ends(Action),
+    Accept(Action),
 }
 
 impl State {
@@ -73,66 +73,85 @@ impl State {
         ensures { IfOk result (λ to. to ≡ step self kind) }
     {
         let to = match (self, kind) {
-            (State::Named(name), TokenKind::Quoted(text)) => Step::Ends(Action::Call(
+            (State::AfterName(name), TokenKind::Quoted(text)) => Step::Accept(Action::Call(
                 name,
                 Arg::Value(Literal::Text(text)),
             )),
-            (State::Named(name), TokenKind::OpenParen) => Step::To(State::Opened(name)),
-            (State::Named(name), TokenKind::OpenBrace) => Step::To(State::Pairs(Table::new(
+            (State::AfterName(name), TokenKind::OpenParen) => Step::Advance(State::AfterParen(
+                name,
+            )),
+            (State::AfterName(name), TokenKind::OpenBrace) => Step::Advance(State::Pairs(Table::new(
                 alloc, name, false,
             ))),
-            (State::Named(name), TokenKind::Dot) => Step::To(State::Dotted(single(alloc, name)?)),
-            (State::Named(name), TokenKind::OpenBracket) => Step::To(State::PathOpened(single(
-                alloc, name,
-            )?)),
-            (State::Named(name), TokenKind::Equals) => Step::To(State::PathEquals(single(
-                alloc, name,
-            )?)),
-            (State::Opened(name), TokenKind::OpenBrace) => Step::To(State::Pairs(Table::new(
-                alloc, name, true,
-            ))),
-            (State::Opened(name), kind) => match value(kind) {
+            (State::AfterName(name), TokenKind::Dot) => Step::Advance(State::AfterDot(
+                single_part_path(alloc, name)?,
+            )),
+            (State::AfterName(name), TokenKind::OpenBracket) => Step::Advance(
+                State::AfterPathBracket(single_part_path(alloc, name)?),
+            ),
+            (State::AfterName(name), TokenKind::Equals) => Step::Advance(State::AfterPathEquals(
+                single_part_path(alloc, name)?,
+            )),
+            (State::AfterParen(name), TokenKind::OpenBrace) => Step::Advance(State::Pairs(
+                Table::new(alloc, name, true),
+            )),
+            (State::AfterParen(name), kind) => match value(kind) {
                 None => return Ok(None),
-                Some(value) => Step::To(State::Closing(Action::Call(name, Arg::Value(value)))),
+                Some(value) => Step::Advance(State::AfterArgument(Action::Call(
+                    name,
+                    Arg::Value(value),
+                ))),
             },
-            (State::Closing(call), TokenKind::CloseParen) => Step::Ends(call),
-            (State::Pairs(table), TokenKind::Name(name)) => Step::To(State::Keyed(table, name)),
-            (State::Pairs(table), TokenKind::OpenBracket) => Step::To(State::KeyOpened(table)),
+            (State::AfterArgument(call), TokenKind::CloseParen) => Step::Accept(call),
+            (State::Pairs(table), TokenKind::Name(name)) => Step::Advance(State::AfterKey(
+                table, name,
+            )),
+            (State::Pairs(table), TokenKind::OpenBracket) => Step::Advance(State::AfterKeyBracket(
+                table,
+            )),
             (State::Pairs(table), TokenKind::CloseBrace) => table.close(),
-            (State::KeyOpened(table), TokenKind::Quoted(key)) => Step::To(State::KeyQuoted(
+            (State::AfterKeyBracket(table), TokenKind::Quoted(key)) => Step::Advance(
+                State::AfterKeyString(table, key),
+            ),
+            (State::AfterKeyString(table, key), TokenKind::CloseBracket) => Step::Advance(
+                State::AfterKey(table, key),
+            ),
+            (State::AfterKey(table, key), TokenKind::Equals) => Step::Advance(State::AfterKeyEquals(
                 table, key,
             )),
-            (State::KeyQuoted(table, key), TokenKind::CloseBracket) => Step::To(State::Keyed(
-                table, key,
-            )),
-            (State::Keyed(table, key), TokenKind::Equals) => Step::To(State::KeyEquals(table, key)),
-            (State::KeyEquals(table, name), kind) => match value(kind) {
+            (State::AfterKeyEquals(table, name), kind) => match value(kind) {
                 None => return Ok(None),
                 Some(value) => {
                     let mut table = table;
                     table.pairs.push(Pair { name, value })?;
-                    Step::To(State::Paired(table))
+                    Step::Advance(State::AfterPair(table))
                 }
             },
-            (State::Paired(table), TokenKind::Comma | TokenKind::Semicolon) => Step::To(
+            (State::AfterPair(table), TokenKind::Comma | TokenKind::Semicolon) => Step::Advance(
                 State::Pairs(table),
             ),
-            (State::Paired(table), TokenKind::CloseBrace) => table.close(),
-            (State::Dotted(mut path), TokenKind::Name(name)) => {
+            (State::AfterPair(table), TokenKind::CloseBrace) => table.close(),
+            (State::AfterDot(mut path), TokenKind::Name(name)) => {
                 path.push(name)?;
-                Step::To(State::Path(path))
+                Step::Advance(State::AfterPath(path))
             }
-            (State::PathOpened(mut path), TokenKind::Quoted(text)) => {
+            (State::AfterPathBracket(mut path), TokenKind::Quoted(text)) => {
                 path.push(text)?;
-                Step::To(State::PathQuoted(path))
+                Step::Advance(State::AfterPathString(path))
             }
-            (State::PathQuoted(path), TokenKind::CloseBracket) => Step::To(State::Path(path)),
-            (State::Path(path), TokenKind::Dot) => Step::To(State::Dotted(path)),
-            (State::Path(path), TokenKind::OpenBracket) => Step::To(State::PathOpened(path)),
-            (State::Path(path), TokenKind::Equals) => Step::To(State::PathEquals(path)),
-            (State::PathEquals(path), kind) => match value(kind) {
+            (State::AfterPathString(path), TokenKind::CloseBracket) => Step::Advance(
+                State::AfterPath(path),
+            ),
+            (State::AfterPath(path), TokenKind::Dot) => Step::Advance(State::AfterDot(path)),
+            (State::AfterPath(path), TokenKind::OpenBracket) => Step::Advance(
+                State::AfterPathBracket(path),
+            ),
+            (State::AfterPath(path), TokenKind::Equals) => Step::Advance(State::AfterPathEquals(
+                path,
+            )),
+            (State::AfterPathEquals(path), kind) => match value(kind) {
                 None => return Ok(None),
-                Some(value) => Step::Ends(Action::Assign(path, value)),
+                Some(value) => Step::Accept(Action::Assign(path, value)),
             },
             _ => return Ok(None),
         };
@@ -140,10 +159,11 @@ impl State {
     }
 }
 
-/// Returns the literal that a token of the kind `kind` represents, or `None` if it is not a
-/// literal.
+/// Returns the literal that a token of the kind `kind` represents.
+///
+/// Returns `None` if such a token is not a literal.
 fn value(kind: TokenKind) -> Option<Literal>
-    ensures { result ≡ value_of kind }
+    ensures { result ≡ literal_of kind }
 {
     match kind {
         TokenKind::Quoted(text) => Some(Literal::Text(text)),
@@ -154,7 +174,7 @@ fn value(kind: TokenKind) -> Option<Literal>
 }
 
 /// Creates a path whose only part is `name`.
-fn single(alloc: Global, name: Text) -> Result<Items<Text>, NoMemory>
+fn single_part_path(alloc: Global, name: Text) -> Result<Items<Text>, NoMemory>
     ensures { IfOk result (λ path. path ≡ name ∷ []) }
 {
     let mut path = Items::new(alloc);
@@ -178,15 +198,16 @@ impl Table {
 
     /// Returns the transition for the `}` that closes the table.
     ///
-    /// After a table in parentheses, a `)` must follow. Another table completes its statement.
+    /// If the table is in parentheses, a `)` must follow. Otherwise, the `}` completes the
+    /// statement.
     fn close(self) -> Step
         ensures { result ≡ closed self }
     {
         let call = Action::Call(self.name, Arg::Table(self.pairs));
         if self.in_parens {
-            Step::To(State::Closing(call))
+            Step::Advance(State::AfterArgument(call))
         } else {
-            Step::Ends(call)
+            Step::Accept(call)
         }
     }
 }

@@ -17,7 +17,7 @@ pub enum Literal {
 impl Literal {
     ghost use Rattle.kt_script.specs.LiteralText.{text_of};
 
-    /// Returns the text of a property or variable that is set to the value (this profile).
+    /// Returns the literal as the text of a property or variable (this profile).
     ///
     /// A number is decimal without leading zeros: `007` is `7`. A truth value is `true` or `false`.
     ///
@@ -41,11 +41,11 @@ impl Literal {
 pub struct Pair {
     /// The name, written as `name` or `["name"]`.
     pub name: Text,
-    /// The value of the name.
+    /// The value: the literal after the `=`.
     pub value: Literal,
 }
 
-/// An argument of a call.
+/// An argument of a call: a literal or a table.
 #[derive(Drop)]
 pub enum Arg {
     /// A literal value.

@@ -9,12 +9,12 @@ pub enum Flaw {
     /// A byte, a number or an escape that is not in this profile.
     Bad,
     /// A comment in long brackets with a level, such as `--[=[`.
-    Leveled,
+    LeveledComment,
     /// A string or a comment that is not closed.
-    Endless,
+    Unterminated,
 }
 
-/// A kind of token, with its value.
+/// A kind of token, with the value of the token if it has one.
 #[derive(Drop)]
 pub enum TokenKind {
     /// A name: ASCII letters, digits and underscores, of which the first is not a digit.
@@ -35,16 +35,16 @@ pub enum TokenKind {
     Comma,
     Semicolon,
     Dot,
-    /// A broken token. The grammar does not allow it anywhere.
+    /// A broken token, with the reason. The grammar does not allow it anywhere.
     Broken(Flaw),
 }
 
-/// A token of a script, with its line.
+/// A token of a script, with the line on which it begins.
 #[derive(Drop)]
 pub struct Token {
     /// The line on which the token begins, counted from 1.
     pub line: u32,
-    /// The kind of the token, with its value.
+    /// The kind of the token, with the value of the token if it has one.
     pub kind: TokenKind,
 }
 
@@ -57,7 +57,7 @@ impl Token {
     {
         match self.kind {
             TokenKind::Broken(Flaw::Bad) => ScriptFault::BadToken(self.line),
-            TokenKind::Broken(Flaw::Endless) => ScriptFault::Unclosed(self.line),
+            TokenKind::Broken(Flaw::Unterminated) => ScriptFault::Unclosed(self.line),
             _ => ScriptFault::NotLiteral(self.line),
         }
     }
@@ -100,12 +100,12 @@ impl Lexeme {
     }
 }
 
-/// The end of a run of plain bytes, which represent themselves, in a string literal.
+/// An element of a string literal after a run of plain bytes. Plain bytes represent themselves.
 #[derive(Drop)]
-pub(crate) enum StringEnd {
-    /// The string's last quote.
+pub(crate) enum StringElement {
+    /// The closing quote of the string.
     Quote,
-    /// An escape: a backslash and the byte after it. The field is the character that they
+    /// An escape: a backslash and the byte after it. The field is the character that both
     /// represent.
     Escape(char),
     /// A flaw: the string is not closed, or its escape is unknown.

@@ -1,7 +1,7 @@
 //! Names, truth values and the classes of their bytes.
 
 ghost use Rattle.std.specs.Prelude.{◌≡◌, ◌≤◌, length, IfOk};
-ghost use Rattle.kt_script.specs.Common.{prefix_len, is_letter, is_word, word, name_at, is_space};
+ghost use Rattle.kt_script.specs.Common.{prefix_len, is_name_start, is_name_byte, word, name_at, is_space};
 
 use crate::token::{Lexeme, TokenKind};
 use kt_base::{NoMemory, Text, is_digit};
@@ -15,28 +15,30 @@ pub fn is_space(c: u8) -> bool
 }
 
 /// Returns `true` if the byte `c` is an ASCII letter or an underscore.
-pub fn is_letter(c: u8) -> bool
-    ensures { result ≡ is_letter c }
+pub fn is_name_start(c: u8) -> bool
+    ensures { result ≡ is_name_start c }
 {
     matches!(c, b'a'..=b'z' | b'A'..=b'Z' | b'_')
 }
 
 /// Returns `true` if the byte `c` is an ASCII letter, an underscore or a digit.
-fn is_word(c: u8) -> bool
-    ensures { result ≡ is_word c }
+fn is_name_byte(c: u8) -> bool
+    ensures { result ≡ is_name_byte c }
 {
-    is_letter(c) || is_digit(c)
+    is_name_start(c) || is_digit(c)
 }
 
 /// Returns the number of ASCII letters, underscores and digits at the beginning of `text`.
-fn word_length(text: &[u8]) -> usize
-    ensures value { result ≡ prefix_len is_word text.now }
+fn name_length(text: &[u8]) -> usize
+    ensures value { result ≡ prefix_len is_name_byte text.now }
     ensures within { result ≤ length text.now }
 {
-    text.iter().take_while(|c| is_word(**c)).count()
+    text.iter().take_while(|c| is_name_byte(**c)).count()
 }
 
-/// Returns the kind of the token `letters`: a truth value for `true` and `false`, otherwise a name.
+/// Returns the kind of the token with the characters `letters`: a truth value or a name.
+///
+/// The token is a truth value if `letters` is `true` or `false`.
 fn word(alloc: Global, letters: &str) -> Result<TokenKind, NoMemory>
     ensures { IfOk result (λ kind. kind ≡ word letters.now) }
 {
@@ -57,6 +59,6 @@ fn word(alloc: Global, letters: &str) -> Result<TokenKind, NoMemory>
 pub fn name(alloc: Global, text: &str) -> Result<Lexeme, NoMemory>
     ensures { IfOk result (λ piece. piece ≡ name_at text.now) }
 {
-    let length = word_length(text.as_bytes());
+    let length = name_length(text.as_bytes());
     Ok(Lexeme::token(length, word(alloc, &text[..length])?))
 }

@@ -1,6 +1,6 @@
 -- The rows of the ATF table.
 use Rattle.std.proofs.Common.{ℕ, Some, None, refl, sym, subst, arith, codes, nat_eq}
-use Rattle.kt_status.proofs.Common.{Outcome, Exited, Signaled, TimedOut, WaitFailed, Judged, AtfRow, atf_verdict}
+use Rattle.kt_status.proofs.Common.{Outcome, Exited, Signaled, TimedOut, WaitFailed, VerdictValue, AtfRow, atf_verdict}
 use Rattle.kt_claim.specs.declared.evidence.Claim.{Claim}
 use Rattle.kt_claim.specs.declared.evidence.Claim.TheVariants.{Missing, Unreadable, Malformed, Passed, Failed, Skipped, ExpectedFailure, ExpectedDeath, ExpectedTimeout, ExpectedExit, ExpectedSignal}
 use Rattle.kt_base.specs.Verdicts as verdict
@@ -56,16 +56,16 @@ atf_row c WaitFailed = 1
 pub atf_fits : (c : Claim) (e : Outcome) → AtfRow (atf_row c e) c e (atf_verdict c e)
 atf_fits c WaitFailed = row.not_waited_for c
 atf_fits (ExpectedTimeout r) TimedOut = row.timed_out_as_expected r
-atf_fits Missing TimedOut = row.late Missing
-atf_fits Unreadable TimedOut = row.late Unreadable
-atf_fits (Malformed f) TimedOut = row.late (Malformed f)
-atf_fits Passed TimedOut = row.late Passed
-atf_fits (Failed r) TimedOut = row.late (Failed r)
-atf_fits (Skipped r) TimedOut = row.late (Skipped r)
-atf_fits (ExpectedFailure r) TimedOut = row.late (ExpectedFailure r)
-atf_fits (ExpectedDeath r) TimedOut = row.late (ExpectedDeath r)
-atf_fits (ExpectedExit due r) TimedOut = row.late (ExpectedExit due r)
-atf_fits (ExpectedSignal due r) TimedOut = row.late (ExpectedSignal due r)
+atf_fits Missing TimedOut = row.body_timed_out Missing
+atf_fits Unreadable TimedOut = row.body_timed_out Unreadable
+atf_fits (Malformed f) TimedOut = row.body_timed_out (Malformed f)
+atf_fits Passed TimedOut = row.body_timed_out Passed
+atf_fits (Failed r) TimedOut = row.body_timed_out (Failed r)
+atf_fits (Skipped r) TimedOut = row.body_timed_out (Skipped r)
+atf_fits (ExpectedFailure r) TimedOut = row.body_timed_out (ExpectedFailure r)
+atf_fits (ExpectedDeath r) TimedOut = row.body_timed_out (ExpectedDeath r)
+atf_fits (ExpectedExit due r) TimedOut = row.body_timed_out (ExpectedExit due r)
+atf_fits (ExpectedSignal due r) TimedOut = row.body_timed_out (ExpectedSignal due r)
 atf_fits Missing (Exited code) = row.missing_file (Exited code) (row.exited code)
 atf_fits Missing (Signaled s core) = row.missing_file (Signaled s core) (row.signaled s core)
 atf_fits Unreadable (Exited code) = row.unreadable_file (Exited code) (row.exited code)
@@ -112,10 +112,10 @@ timed_out (ExpectedDeath r) = here _ _
 timed_out (ExpectedExit due r) = here _ _
 timed_out (ExpectedSignal due r) = here _ _
 
-pub atf_least : (n : ℕ) (c : Claim) (e : Outcome) (v : Judged) → AtfRow n c e v → IsLeastRow (atf_row c e) (atf_verdict c e) n v
+pub atf_least : (n : ℕ) (c : Claim) (e : Outcome) (v : VerdictValue) → AtfRow n c e v → IsLeastRow (atf_row c e) (atf_verdict c e) n v
 atf_least _ _ _ _ (row.not_waited_for c) = here _ _
 atf_least _ _ _ _ (row.timed_out_as_expected r) = here _ _
-atf_least _ _ _ _ (row.late c) = timed_out c
+atf_least _ _ _ _ (row.body_timed_out c) = timed_out c
 atf_least _ _ _ _ (row.missing_file _ (row.exited code)) = here _ _
 atf_least _ _ _ _ (row.missing_file _ (row.signaled s core)) = here _ _
 atf_least _ _ _ _ (row.unreadable_file _ (row.exited code)) = here _ _

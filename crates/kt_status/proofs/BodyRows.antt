@@ -1,6 +1,6 @@
 -- The rows of the tables of plain programs and of TAP, and the verdict on a body.
 use Rattle.std.proofs.Common.{◌≡◌, ℕ, ◌<◌, Bool, true, false, refl, sym, subst, arith, nat_eq, nat_lt, if◌then◌else◌}
-use Rattle.kt_status.proofs.Common.{ltb-true, lt-ltb, Outcome, Exited, Signaled, TimedOut, WaitFailed, Judged, AtfRow, PlainRow, TapRow, IsVerdict, atf_verdict, plain_verdict, tap_verdict, verdict_of}
+use Rattle.kt_status.proofs.Common.{ltb-true, lt-ltb, Outcome, Exited, Signaled, TimedOut, WaitFailed, VerdictValue, AtfRow, PlainRow, TapRow, IsVerdict, atf_verdict, plain_verdict, tap_verdict, verdict_of}
 use Rattle.kt_claim.specs.declared.evidence.Tap.{Tap}
 use Rattle.kt_claim.specs.declared.evidence.Tap.TheVariants.{Invalid, BailedOut, SkipAll, Counted}
 use Rattle.kt_claim.specs.declared.evidence.Evidence.{Evidence}
@@ -42,7 +42,7 @@ plain_fits (Signaled s core) = row.plain_signaled s core
 plain_fits (Exited code) = at_equal 4 5 code 0 _ _ (λ n v. PlainRow n (Exited code) v)
     (λ is. subst (λ (x : ℕ). PlainRow 4 (Exited x) verdict.passed) (sym is) row.plain_passed) (row.plain_failed code)
 
-pub plain_least : (n : ℕ) (e : Outcome) (v : Judged) → PlainRow n e v → IsLeastRow (plain_row e) (plain_verdict e) n v
+pub plain_least : (n : ℕ) (e : Outcome) (v : VerdictValue) → PlainRow n e v → IsLeastRow (plain_row e) (plain_verdict e) n v
 plain_least _ _ _ row.plain_not_waited_for = here _ _
 plain_least _ _ _ row.plain_timed_out = here _ _
 plain_least _ _ _ (row.plain_signaled s core) = here _ _
@@ -67,14 +67,14 @@ tap_fits (Counted some all) (Exited code) = counted_fits (nat_lt 0 some) some al
 
 -- Whether a test failed or not, a row `m` after the row for failed tests is not before the first
 -- row that fits.
-pub behind_failed : (t : Bool) (first m : ℕ) (x y v : Judged) → 7 < m → IsLeastRow first y m v → IsLeastRow (if t then 7 else first) (if t then x else y) m v
+pub behind_failed : (t : Bool) (first m : ℕ) (x y v : VerdictValue) → 7 < m → IsLeastRow first y m v → IsLeastRow (if t then 7 else first) (if t then x else y) m v
 behind_failed true first m x y v lt h = (omega arith, λ e. absurd (omega arith))
 behind_failed false first m x y v lt h = h
 
-pub failed_row : (some code : ℕ) (x y : Judged) → 0 < some → IsLeastRow (counted_row some code) (if nat_lt 0 some then x else y) 7 x
+pub failed_row : (some code : ℕ) (x y : VerdictValue) → 0 < some → IsLeastRow (counted_row some code) (if nat_lt 0 some then x else y) 7 x
 failed_row some code x y lt = rw (lt-ltb 0 some lt) (here 7 x)
 
-pub tap_least : (n : ℕ) (t : Tap) (e : Outcome) (v : Judged) → TapRow n t e v → IsLeastRow (tap_row t e) (tap_verdict t e) n v
+pub tap_least : (n : ℕ) (t : Tap) (e : Outcome) (v : VerdictValue) → TapRow n t e v → IsLeastRow (tap_row t e) (tap_verdict t e) n v
 tap_least _ _ _ _ (row.tap_not_waited_for t) = here _ _
 tap_least _ _ _ _ (row.tap_timed_out t) = here _ _
 tap_least _ _ _ _ (row.tap_signaled t s core) = here _ _
@@ -88,7 +88,7 @@ tap_least _ _ _ _ (row.tap_dubious some all code) = behind_failed (nat_lt 0 some
 -- ---- bodies
 
 -- `verdict_of` is the verdict on a body by the tables, and no other verdict is.
-pub body_only : (e : Evidence) (o : Outcome) (v : Judged) → v ≡ verdict_of e o → IsVerdict e o v × ((other : Judged) → IsVerdict e o other → v ≡ other)
+pub body_only : (e : Evidence) (o : Outcome) (v : VerdictValue) → v ≡ verdict_of e o → IsVerdict e o v × ((other : VerdictValue) → IsVerdict e o other → v ≡ other)
 body_only (evidence.Atf c) o v is = rw is (only (λ n v. AtfRow n c o v) (atf_row c o) (atf_verdict c o) (atf_fits c o) (λ m x h. atf_least m c o x h))
 body_only (evidence.Tap t) o v is = rw is (only (λ n v. TapRow n t o v) (tap_row t o) (tap_verdict t o) (tap_fits t o) (λ m x h. tap_least m t o x h))
 body_only evidence.Plain o v is = rw is (only (λ n v. PlainRow n o v) (plain_row o) (plain_verdict o) (plain_fits o) (λ m x h. plain_least m o x h))

@@ -9,7 +9,7 @@ use Rattle.kt_base.specs.declared.failed_start.Refused.TheVariants as refused
 use Rattle.kt_base.specs.Reasons.{outcome_text}
 use Rattle.kt_base.specs.Kinds.{good}
 use Rattle.kt_base.specs.Verdicts as verdict
-use Rattle.kt_base.specs.Verdicts.{Judged}
+use Rattle.kt_base.specs.Verdicts.{VerdictValue}
 use Rattle.kt_claim.specs.declared.evidence.Claim.{Claim}
 use Rattle.kt_claim.specs.declared.evidence.Claim.TheVariants.{Missing, Unreadable, Malformed, Passed, Failed, Skipped, ExpectedFailure, ExpectedDeath, ExpectedTimeout, ExpectedExit, ExpectedSignal}
 use Rattle.kt_claim.specs.declared.evidence.ClaimFault.{ClaimFault}
@@ -23,8 +23,7 @@ use Rattle.kt_claim.specs.declared.evidence.Evidence.TheVariants as evidence
 use Rattle.kt_status.specs.declared.cleanup_end.CleanupEnd.{CleanupEnd}
 use Rattle.kt_status.specs.declared.cleanup_end.CleanupEnd.TheVariants as cleanup
 
--- `claim_fault_text fault`: the text that represents the error `fault` of a result file in a
--- reason.
+-- `claim_fault_text fault`: the text in a reason for the error `fault` of a result file.
 abbrev pub claim_fault_text : ClaimFault → List ℕ
 claim_fault_text result.TooLong = codes "too long"
 claim_fault_text result.Empty = codes "empty"
@@ -35,7 +34,7 @@ claim_fault_text result.BadNumber = codes "bad number"
 claim_fault_text result.UnexpectedReason = codes "unexpected reason"
 claim_fault_text result.NoReason = codes "no reason"
 
--- `tap_fault_text fault`: the text that represents the error `fault` of TAP output in a reason.
+-- `tap_fault_text fault`: the text in a reason for the error `fault` of TAP output.
 abbrev pub tap_fault_text : TapFault → List ℕ
 tap_fault_text stream.Unreadable = codes "output could not be read"
 tap_fault_text stream.TooLong = codes "output too long"
@@ -50,10 +49,10 @@ pub data IsExitOrSignal : Outcome → Type 0 where
 
 -- `AtfRow number claim outcome verdict`: the row `number` of the ATF table fits a case with this
 -- `claim` whose body has this `outcome`, and gives `verdict`.
-pub data AtfRow : ℕ → Claim → Outcome → Judged → Type 0 where
+pub data AtfRow : ℕ → Claim → Outcome → VerdictValue → Type 0 where
   not_waited_for : (c : Claim) → AtfRow 1 c WaitFailed (verdict.broken (codes "Test case could not be waited for"))
   timed_out_as_expected : (r : List ℕ) → AtfRow 2 (ExpectedTimeout r) TimedOut (verdict.expected_failure r)
-  late : (c : Claim) → AtfRow 3 c TimedOut (verdict.broken (codes "Test case body timed out"))
+  body_timed_out : (c : Claim) → AtfRow 3 c TimedOut (verdict.broken (codes "Test case body timed out"))
   missing_file : (e : Outcome) → IsExitOrSignal e → AtfRow 4 Missing e (verdict.broken (codes "Premature exit; test case " ++ outcome_text e))
   unreadable_file : (e : Outcome) → IsExitOrSignal e → AtfRow 5 Unreadable e (verdict.broken (codes "Results file could not be read"))
   malformed_file : (f : ClaimFault) (e : Outcome) → IsExitOrSignal e → AtfRow 6 (Malformed f) e (verdict.broken (codes "Invalid result file: " ++ claim_fault_text f))
@@ -81,7 +80,7 @@ pub data AtfRow : ℕ → Claim → Outcome → Judged → Type 0 where
 
 -- `PlainRow number outcome verdict`: the row `number` of the table of plain programs fits a program
 -- with this `outcome`, and gives `verdict`.
-pub data PlainRow : ℕ → Outcome → Judged → Type 0 where
+pub data PlainRow : ℕ → Outcome → VerdictValue → Type 0 where
   plain_not_waited_for : PlainRow 1 WaitFailed (verdict.broken (codes "Test case could not be waited for"))
   plain_timed_out : PlainRow 2 TimedOut (verdict.broken (codes "Test case timed out"))
   plain_signaled : (signal : ℕ) (core : Bool) → PlainRow 3 (Signaled signal core) (verdict.broken (codes "Received signal " ++ decimal signal))
@@ -90,7 +89,7 @@ pub data PlainRow : ℕ → Outcome → Judged → Type 0 where
 
 -- `TapRow number tap outcome verdict`: the row `number` of the TAP table fits a program that
 -- printed the results `tap` and has this `outcome`, and gives `verdict`.
-pub data TapRow : ℕ → Tap → Outcome → Judged → Type 0 where
+pub data TapRow : ℕ → Tap → Outcome → VerdictValue → Type 0 where
   tap_not_waited_for : (t : Tap) → TapRow 1 t WaitFailed (verdict.broken (codes "Test case could not be waited for"))
   tap_timed_out : (t : Tap) → TapRow 2 t TimedOut (verdict.broken (codes "Test case timed out"))
   tap_signaled : (t : Tap) (signal : ℕ) (core : Bool) → TapRow 3 t (Signaled signal core) (verdict.broken (codes "Received signal " ++ decimal signal))
@@ -104,7 +103,7 @@ pub data TapRow : ℕ → Tap → Outcome → Judged → Type 0 where
 
 -- `RefusalRow number refused verdict`: the row `number` of the table of failed starts fits a start
 -- that failed with the error `refused`, and gives `verdict`.
-pub data RefusalRow : ℕ → Refused → Judged → Type 0 where
+pub data RefusalRow : ℕ → Refused → VerdictValue → Type 0 where
   no_directory : RefusalRow 1 refused.Directory (verdict.broken (codes "Work directory could not be made"))
   no_output : RefusalRow 2 refused.Output (verdict.broken (codes "Output files could not be made"))
   not_spawned : RefusalRow 3 refused.Spawn (verdict.broken (codes "Test program could not be started"))
@@ -113,33 +112,33 @@ pub data RefusalRow : ℕ → Refused → Judged → Type 0 where
 -- `CleanupRow number body end verdict`: the row `number` of the table of cleanups fits if the body
 -- has the verdict `body` and the cleanup has the result `end`. It gives `verdict`, the verdict on
 -- the case.
-pub data CleanupRow : ℕ → Judged → CleanupEnd → Judged → Type 0 where
-  body_is_bad : (body : Judged) (end : CleanupEnd) → good body.kind ≡ false → CleanupRow 1 body end body
-  cleaned_up : (body : Judged) → CleanupRow 2 body (cleanup.Ended (Exited 0)) body
-  cleanup_timed_out : (body : Judged) → CleanupRow 3 body (cleanup.Ended TimedOut) (verdict.broken (codes "Test case cleanup timed out"))
-  cleanup_failed : (body : Judged) (ending : Outcome) → CleanupRow 4 body (cleanup.Ended ending) (verdict.broken (codes "Test case cleanup did not terminate successfully"))
-  cleanup_not_started : (body : Judged) → CleanupRow 5 body cleanup.Refused (verdict.broken (codes "Test case cleanup could not be started"))
+pub data CleanupRow : ℕ → VerdictValue → CleanupEnd → VerdictValue → Type 0 where
+  body_is_bad : (body : VerdictValue) (end : CleanupEnd) → good body.kind ≡ false → CleanupRow 1 body end body
+  cleaned_up : (body : VerdictValue) → CleanupRow 2 body (cleanup.Ended (Exited 0)) body
+  cleanup_timed_out : (body : VerdictValue) → CleanupRow 3 body (cleanup.Ended TimedOut) (verdict.broken (codes "Test case cleanup timed out"))
+  cleanup_failed : (body : VerdictValue) (ending : Outcome) → CleanupRow 4 body (cleanup.Ended ending) (verdict.broken (codes "Test case cleanup did not terminate successfully"))
+  cleanup_not_started : (body : VerdictValue) → CleanupRow 5 body cleanup.Refused (verdict.broken (codes "Test case cleanup could not be started"))
 
--- `IsFirstRow Row verdict`: the first row that fits gives `verdict`: `Row number verdict` holds for
--- the least `number` of a row that fits.
-pub record IsFirstRow (Row : ℕ → Judged → Type 0) (verdict : Judged) : Type 0 where
+-- `IsFirstRow Row verdict`: the first row of the table `Row` that fits gives `verdict`. `Row number
+-- verdict` holds for the least `number` of a row that fits.
+pub record IsFirstRow (Row : ℕ → VerdictValue → Type 0) (verdict : VerdictValue) : Type 0 where
   pub number : ℕ
   pub fits : Row number verdict
-  pub first : (m : ℕ) (other : Judged) → Row m other → number ≤ m
+  pub first : (m : ℕ) (other : VerdictValue) → Row m other → number ≤ m
 
 -- `IsVerdict evidence outcome verdict`: `verdict` is the verdict on a body with this `evidence` and
 -- `outcome`, by the table for ATF, TAP or plain programs.
-abbrev pub IsVerdict : Evidence → Outcome → Judged → Type 0
+abbrev pub IsVerdict : Evidence → Outcome → VerdictValue → Type 0
 IsVerdict (evidence.Atf claim) ending verdict = IsFirstRow (λ n v. AtfRow n claim ending v) verdict
 IsVerdict (evidence.Tap tap) ending verdict = IsFirstRow (λ n v. TapRow n tap ending v) verdict
 IsVerdict evidence.Plain ending verdict = IsFirstRow (λ n v. PlainRow n ending v) verdict
 
 -- `IsVerdictOfRefusal refused verdict`: `verdict` is the verdict on a case whose start failed with
 -- the error `refused`.
-abbrev pub IsVerdictOfRefusal : Refused → Judged → Type 0
+abbrev pub IsVerdictOfRefusal : Refused → VerdictValue → Type 0
 IsVerdictOfRefusal refused verdict = IsFirstRow (λ n v. RefusalRow n refused v) verdict
 
--- `IsVerdictAfterCleanup body end verdict`: `verdict` is the verdict on a case if the body has the verdict
--- `body` and the cleanup has the result `end`.
-abbrev pub IsVerdictAfterCleanup : Judged → CleanupEnd → Judged → Type 0
+-- `IsVerdictAfterCleanup body end verdict`: `verdict` is the verdict on a case if the body has the
+-- verdict `body` and the cleanup has the result `end`.
+abbrev pub IsVerdictAfterCleanup : VerdictValue → CleanupEnd → VerdictValue → Type 0
 IsVerdictAfterCleanup body end verdict = IsFirstRow (λ n v. CleanupRow n body end v) verdict

@@ -4,7 +4,7 @@ ghost use Rattle.kt_status.specs.Common.{outcome_text, phrase_text, broken, clai
 use kt_base::{Outcome, Phrase, Reason, Verdict};
 use kt_claim::{Claim, ClaimFault};
 
-/// Returns the message for the error `fault` in a result file, the reason of a `broken` verdict.
+/// Returns the phrase for the error `fault` in a result file, the reason of a `broken` verdict.
 fn fault_phrase(fault: ClaimFault) -> Phrase
     ensures { phrase_text result ≡ codes "Invalid result file: " ++ claim_fault_text fault }
 {
@@ -29,9 +29,10 @@ fn contradiction_verdict(phrase: Phrase, ending: Outcome) -> Verdict
     Verdict::broken(Reason::Ended(phrase, ending))
 }
 
-/// Returns the verdict on the body of an ATF case, by its result file and outcome (this profile).
+/// Returns the verdict on the body of an ATF case (this profile).
 ///
-/// The first matching row of the ATF table decides. The call doesn't allocate.
+/// `claim` is the claim of its result file, and `ending` is its outcome. The first matching row of
+/// the ATF table (`AtfRow`) decides. The call doesn't allocate.
 pub fn atf_verdict(claim: Claim, ending: Outcome) -> Verdict
     ensures { result ≡ atf_verdict claim ending }
 {

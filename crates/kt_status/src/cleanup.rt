@@ -1,14 +1,15 @@
 ghost use Rattle.std.specs.Prelude.{◌≡◌};
-ghost use Rattle.kt_status.specs.Common.{Judged, IsVerdictAfterCleanup, cleaned};
+ghost use Rattle.kt_status.specs.Common.{VerdictValue, IsVerdictAfterCleanup, verdict_if_body_good};
 
 use crate::CleanupEnd;
 use kt_base::{Outcome, Phrase, Reason, Verdict};
 
 /// Returns the verdict on a case after its cleanup, if `body`, the verdict on its body, is good.
 ///
-/// The verdict is `body` if the cleanup exited with 0, otherwise `broken`.
-fn cleaned(body: Verdict, end: CleanupEnd) -> Verdict
-    ensures { result ≡ cleaned body end }
+/// `end` is the result of the cleanup. The verdict is `body` if the cleanup exited with 0,
+/// otherwise `broken`.
+fn verdict_if_body_good(body: Verdict, end: CleanupEnd) -> Verdict
+    ensures { result ≡ verdict_if_body_good body end }
 {
     let phrase = match end {
         CleanupEnd::Ended(Outcome::Exited(0)) => return body,
@@ -19,16 +20,18 @@ fn cleaned(body: Verdict, end: CleanupEnd) -> Verdict
     Verdict::broken(Reason::Fixed(phrase))
 }
 
-/// Returns the verdict on a case after its cleanup, given the verdict on its body (this profile).
+/// Returns the verdict on a case whose cleanup has the result `end` (this profile).
 ///
-/// The verdict is `body` if `body` is failed or broken, or if the cleanup exited with 0. Otherwise
-/// it is broken. The call doesn't allocate.
+/// `body` is the verdict on the body of the case. It is returned if it is failed or broken, or if
+/// the cleanup exited with 0. Otherwise, the verdict on the case is broken. The call doesn't
+/// allocate.
 pub fn with_cleanup(body: Verdict, end: CleanupEnd) -> Verdict
     ensures row { IsVerdictAfterCleanup body end result }
-    ensures only { (verdict : Judged) → IsVerdictAfterCleanup body end verdict → result ≡ verdict }
+    ensures only { (verdict : VerdictValue) → IsVerdictAfterCleanup body end verdict
+        → result ≡ verdict }
 {
     if body.kind().good() {
-        cleaned(body, end)
+        verdict_if_body_good(body, end)
     } else {
         body
     }

@@ -1,12 +1,12 @@
 ghost use Rattle.std.specs.Prelude.{◌≡◌};
-ghost use Rattle.kt_status.specs.Common.{Judged, IsVerdict, IsVerdictOfRefusal, plain_verdict};
+ghost use Rattle.kt_status.specs.Common.{VerdictValue, IsVerdict, IsVerdictOfRefusal, plain_verdict};
 
 use crate::atf::atf_verdict;
 use crate::tap::tap_verdict;
 use kt_base::{Outcome, Phrase, Reason, Refused, Verdict};
 use kt_claim::Evidence;
 
-/// Returns the verdict on the case of a plain program, by its outcome (this profile).
+/// Returns the verdict on the case of a plain program with the outcome `ending` (this profile).
 ///
 /// The case passed if the program exited with 0. The call doesn't allocate.
 pub fn plain_verdict(ending: Outcome) -> Verdict
@@ -27,11 +27,11 @@ pub fn plain_verdict(ending: Outcome) -> Verdict
 
 /// Returns the verdict on the body of a test case, by its evidence and its outcome (this profile).
 ///
-/// The kind of the evidence selects the rules: those for ATF, TAP or plain programs. The call
-/// doesn't allocate.
+/// `ending` is the outcome. The kind of `evidence` selects the table of rules: that of ATF, TAP or
+/// plain programs. The call doesn't allocate.
 pub fn body_verdict(evidence: Evidence, ending: Outcome) -> Verdict
     ensures row { IsVerdict evidence ending result }
-    ensures only { (verdict : Judged) → IsVerdict evidence ending verdict → result ≡ verdict }
+    ensures only { (verdict : VerdictValue) → IsVerdict evidence ending verdict → result ≡ verdict }
 {
     match evidence {
         Evidence::Atf(claim) => atf_verdict(claim, ending),
@@ -42,11 +42,12 @@ pub fn body_verdict(evidence: Evidence, ending: Outcome) -> Verdict
 
 /// Returns the `broken` verdict on a case whose start failed with the error `refused`.
 ///
-/// The start is that of the body, or of the program for its list (this profile). The call doesn't
-/// allocate.
+/// The failed start is that of the case's body, or of the program that lists its cases (this
+/// profile). The call doesn't allocate.
 pub fn refused_verdict(refused: Refused) -> Verdict
     ensures row { IsVerdictOfRefusal refused result }
-    ensures only { (verdict : Judged) → IsVerdictOfRefusal refused verdict → result ≡ verdict }
+    ensures only { (verdict : VerdictValue) → IsVerdictOfRefusal refused verdict
+        → result ≡ verdict }
 {
     Verdict::broken(refused.reason())
 }

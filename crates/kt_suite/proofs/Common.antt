@@ -15,25 +15,25 @@ pub use Rattle.kt_base.specs.Characters.{is_slash}
 pub use Rattle.kt_base.specs.Utf8.{utf8}
 pub use Rattle.kt_suite.specs.Types.{Filter, IncludeLoop, Item, Meaning, MissingProgram, NoSyntax, Program, ProgramTable, ReadFault, Script, ScriptFault, Stmt, SuiteCause, SuiteFault, TooDeep, TooMany, Variable}
 pub use Rattle.kt_script.specs.LiteralText.{text_of}
-pub use Rattle.kt_script.specs.Spelling.{IsDue, Spells}
+pub use Rattle.kt_script.specs.Spelling.{HasFault, Spells}
 pub use Rattle.kt_script.specs.declared.syntax.Pair.{Pair}
 unfoldable pub use lib.Utf8.{encode}
 pub use mathlib.Core.List.{append-nil, append_assoc}
-pub use Rattle.kt_suite.specs.Answers.{Answered, Asked, Exists, HasStableResults, Read, IsSameCall}
+pub use Rattle.kt_suite.specs.Answers.{LeadsByCalls, Asked, Exists, HasStableResults, Read, IsSameCall}
 pub use Rattle.kt_suite.specs.Calls.{key_named}
-pub use Rattle.kt_suite.specs.Disjoint.{ShareCase, covers, overlap, overlap_fault, parts_cover}
-pub use Rattle.kt_suite.specs.FaultWords.{cause_words, fixed_words}
+pub use Rattle.kt_suite.specs.Disjoint.{ShareCase, covers, do_overlap, overlap_fault, parts_cover}
+pub use Rattle.kt_suite.specs.FaultMessages.{cause_message, fixed_message}
 pub use Rattle.kt_suite.specs.Faults.{IsNoMemory, fault_at, read_fault, script_line}
-pub use Rattle.kt_suite.specs.Filters.{counts, plain_path}
-pub use Rattle.kt_suite.specs.Inner.Steps.{IsText, all_positions, first_match, is_match, is_miss, props_with, table_with, with_component, with_props}
-pub use Rattle.kt_suite.specs.Inner.Walks.{Adds, Counted, EntersFile, Enters, FileGives, MeaningGives, Opened, StepsTo, IsWalk, ChecksOpening, badly, declines, empty, enters, exceeds, fails, goes, lacks, opens, refuses, scant, short, stops, through, unclear, well}
-pub use Rattle.kt_suite.specs.Marks.{Asks, Fault, File, FileGivesParts, Includes, ProgramMark, Mark, Part, Says, Site, StatementsGive, TreeGives, Unfolds, end, entered, entry_fault, lookup_mark, no_script, no_statement, none, one, opened, refused, said, says, site_fault, suite_after, unopened, unread}
+pub use Rattle.kt_suite.specs.Filters.{counts, normalized_path}
+pub use Rattle.kt_suite.specs.Inner.Steps.{IsParseFault, all_positions, first_match, is_match, is_miss, props_with, table_with, with_component, with_props}
+pub use Rattle.kt_suite.specs.Inner.Walks.{RegistersProgram, AddsMarks, EntersFile, Enters, FileGives, MeaningGives, OpensFile, StepsTo, LoadsMarks, ChecksOpening, badly, declines, empty, enters, exceeds, fails, goes, lacks, opens, refuses, scant, short, stops, through, unclear, well}
+pub use Rattle.kt_suite.specs.Marks.{CallMark, Fault, File, FileGivesParts, Includes, ProgramMark, Mark, Part, OneMark, Site, StatementsGive, TreeGives, Unfolds, end, entered, include_fault, lookup_mark, no_script, no_statement, none, one, opened, refused, statement_parts, says, site_fault, suite_after, unopened, fault_of_read}
 pub use Rattle.kt_suite.specs.Matching.{IsWithin, is_within, matches, parts_match}
 pub use Rattle.kt_suite.specs.Meanings.{meaning_of, opening_fault}
-pub use Rattle.kt_suite.specs.Paths.{beside, directory_of, is_component}
-pub use Rattle.kt_suite.specs.Registered.{Decides, IsNext, IsUndecided, Outcome, Registered, Unfinished, all, faults_in, file_limit, file_too_many, files_in, is_fault, no_question, program_limit, program_too_many, programs_in, calls_in, stopped, thrown_away}
+pub use Rattle.kt_suite.specs.Paths.{sibling_of, directory_of, is_component}
+pub use Rattle.kt_suite.specs.Registered.{Decides, IsAtMostNextCall, DecidesNothing, Outcome, Registered, Unfinished, all, faults_in, file_limit, file_too_many, files_in, is_fault, no_question, program_limit, program_too_many, programs_in, calls_in, stopped, thrown_away}
 pub use Rattle.kt_suite.specs.Selecting.{unmatched_positions, is_unmatched, is_selected, matches_item, places, selected_positions}
-pub use Rattle.kt_suite.specs.Tables.{declared, definition, definitions, first_fault, is_property, key_fault, pair_fault, table_of, unless, value_cause}
+pub use Rattle.kt_suite.specs.Tables.{declared, definition, definitions, first_fault, is_property, key_fault, pair_fault, table_of, cause_or_value, value_cause}
 pub use Rattle.kt_suite.specs.declared.registry.Registry.{Registry}
 pub use Rattle.kt_suite.specs.declared.registry.LoadStep.{LoadStep}
 pub use Rattle.kt_suite.specs.declared.registry.LoadStep.TheVariants.{Enter, Next}

@@ -18,4 +18,4 @@ pub mod WithinPaths
 pub mod Overlaps
 pub mod Picking
 pub mod FirstMatches
-pub mod FaultWords
+pub mod FaultMessages

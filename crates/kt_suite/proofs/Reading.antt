@@ -1,6 +1,6 @@
 -- A file that is read statement by statement.
 use Rattle.std.proofs.Common.{drop, Option, None, Ok, Err, ◌≡◌, ◌-◌, ℕ, List, [], ◌∷◌, ◌++◌, length, take, ◌<◌, arith, length-append, refl, sym, subst, ap, ◌∙◌}
-use Rattle.kt_suite.proofs.Common.{append_assoc, append-nil, take_at, Stmt, SuiteFault, Meaning, Registry, LoadStep, Enter, Asked, Read, meaning_of, Site, Mark, Asks, Part, Says, said, suite_after, StatementsGive, none, one, opened, Unfolds, end, says, Counted, IsWalk, through, FileGives, MeaningGives, StepsTo, enters, Opened, opens}
+use Rattle.kt_suite.proofs.Common.{append_assoc, append-nil, take_at, Stmt, SuiteFault, Meaning, Registry, LoadStep, Enter, Asked, Read, meaning_of, Site, Mark, CallMark, Part, OneMark, statement_parts, suite_after, StatementsGive, none, one, opened, Unfolds, end, says, AddsMarks, LoadsMarks, through, FileGives, MeaningGives, StepsTo, enters, OpensFile, opens}
 use Rattle.kt_suite.proofs.Counting.{counted-reading, totals}
 use Rattle.kt_suite.proofs.Unfolding.{unfolds-append, some_marks, some_parts}
 use Rattle.kt_suite.proofs.Walking.{walked-enough, walked-reading, walked-then}
@@ -21,16 +21,16 @@ pub record ReadSoFar (files : List (List ℕ)) (file : List ℕ) (suite : Option
 -- statements `left`, which took the registry from `start` to `r`. By the relation `asks`, the calls
 -- lead from the tree's state `old` to its state `new`. `suite` is the test suite before `left`.
 abbrev pub Reading : {T : Type 0} → (T → Asked → T → Type 0) → T → T → Registry → List ℕ → Registry → Option (List ℕ) → List Stmt → Type 0
-Reading asks old new start file r suite left = IsWalk asks old new (ReadSoFar start.reading file suite left) (begun start file) (Ok r)
+Reading asks old new start file r suite left = LoadsMarks asks old new (ReadSoFar start.reading file suite left) (begun start file) (Ok r)
 
 -- After a file is opened, only its first statement has been read.
-pub reading_first : {T : Type 0} (asks : T → Asked → T → Type 0) (old new : T) (start : Registry) (file : List ℕ) (r : Registry) (stmts left : List Stmt) (suite : Option (List ℕ)) → Opened asks old new file (Ok stmts) → r ≡ begun start file → left ≡ drop 1 stmts → suite ≡ None
+pub reading_first : {T : Type 0} (asks : T → Asked → T → Type 0) (old new : T) (start : Registry) (file : List ℕ) (r : Registry) (stmts left : List Stmt) (suite : Option (List ℕ)) → OpensFile asks old new file (Ok stmts) → r ≡ begun start file → left ≡ drop 1 stmts → suite ≡ None
     → Reading asks old new start file r suite left
 reading_first asks old new start file r _ left suite (opens text first rest h s w) e d n =
-    through (Asks (Read file (Ok text)) ∷ []) r
+    through (CallMark (Read file (Ok text)) ∷ []) r
     (record {
       goes_on = λ parts marks p u. record {
-        parts = Says (Asks (Read file (Ok text))) ∷ parts;
+        parts = OneMark (CallMark (Read file (Ok text))) ∷ parts;
         says = opened text first rest parts s w (subst (λ (xs : List Stmt). StatementsGive file None xs parts) d (subst (λ (x : Option (List ℕ)). StatementsGive file x left parts) n p));
         unfolds = says _ _ _ _ u;
       };
@@ -51,7 +51,7 @@ module _ {T : Type 0} (asks : T → Asked → T → Type 0) (old mid new : T) (s
       → ReadSoFar start.reading file (suite_after suite meaning) rest (front ++ marks)
   one_more front marks g h = record {
     goes_on = λ parts more p u.
-        let own = said at h.there meaning in
+        let own = statement_parts at h.there meaning in
         let unfolds = subst (λ (xs : List (List ℕ)). Unfolds xs own marks) (walked-reading f) h.unfolds in
         subst (FileGives start.reading file) (sym (append_assoc front marks more))
         (g.goes_on (own ++ parts) (marks ++ more) (subst (λ (xs : List Stmt). StatementsGive file suite xs (own ++ parts)) (sym is) (one suite stmt rest h.there parts p))
@@ -59,12 +59,12 @@ module _ {T : Type 0} (asks : T → Asked → T → Type 0) (old mid new : T) (s
   }
 
   -- Executing a statement reads the file up to the next statement.
-  pub reading_next : (after : Registry) (named : Option (List ℕ)) → named ≡ suite_after suite meaning → IsWalk asks mid new (MeaningGives r.reading at meaning) r (Ok after)
+  pub reading_next : (after : Registry) (named : Option (List ℕ)) → named ≡ suite_after suite meaning → LoadsMarks asks mid new (MeaningGives r.reading at meaning) r (Ok after)
       → Reading asks old new start file after named rest
   reading_next after named n w = subst (λ (x : Option (List ℕ)). Reading asks old new start file after x rest) (sym n) (walked-then f w one_more)
 
   -- A statement with the mark that decides, or with a failed allocation, ends the file.
-  pub reading_stops : (fault : SuiteFault) → IsWalk asks mid new (MeaningGives r.reading at meaning) r (Err fault) → IsWalk asks old new (FileGives start.reading file) start (Err fault)
+  pub reading_stops : (fault : SuiteFault) → LoadsMarks asks mid new (MeaningGives r.reading at meaning) r (Err fault) → LoadsMarks asks old new (FileGives start.reading file) start (Err fault)
   reading_stops fault w =
       let others = some_parts file (suite_after suite meaning) rest in
       let more = some_marks (start.reading ++ file ∷ []) others.0 in
@@ -76,13 +76,13 @@ without xs x = take_at xs (x ∷ []) (length (xs ++ x ∷ []) - 1) (omega (arith
 -- If no statement remains, the whole file was read.
 pub reading_all : {T : Type 0} (asks : T → Asked → T → Type 0) (old new : T) (start : Registry) (file : List ℕ) (r after : Registry) (suite : Option (List ℕ)) (left : List Stmt) → length left ≡ 0
     → Reading asks old new start file r suite left → after ≡ (record r { reading = take (length r.reading - 1) r.reading })
-    → IsWalk asks old new (FileGives start.reading file) start (Ok after)
+    → LoadsMarks asks old new (FileGives start.reading file) start (Ok after)
 reading_all asks old new start file _ after suite left e (through front r g c k) a =
     let same : r.reading ≡ start.reading ++ file ∷ [] = (totals (begun start file) r front k).reading in
     let back : take (length r.reading - 1) r.reading ≡ start.reading = ap (λ (xs : List (List ℕ)). take (length xs - 1) xs) same ∙ without start.reading file in
     let whole : FileGives start.reading file (front ++ []) = g.goes_on [] [] (subst (λ (xs : List Stmt). StatementsGive file suite xs []) (sym (nil_from_length left e)) (none suite)) (end _) in
     through front after (subst (FileGives start.reading file) (append-nil front) whole) c
-    (subst (λ (x : Registry). Counted start front x) (sym (a ∙ ap (λ (xs : List (List ℕ)). record r { reading = xs }) back)) (counted-reading (begun start file) r front start.reading k))
+    (subst (λ (x : Registry). AddsMarks start front x) (sym (a ∙ ap (λ (xs : List (List ℕ)). record r { reading = xs }) back)) (counted-reading (begun start file) r front start.reading k))
 
 module _ {T : Type 0} (asks : T → Asked → T → Type 0) where
   -- A file is entered only if fewer files than the limit are open.

@@ -1,6 +1,6 @@
 -- A tree that does not change has one result.
 use Rattle.std.proofs.Common.{Option, Some, None, Ok, Err, ◌≡◌, ◌≤◌, ◌<◌, ◌+◌, ℕ, List, [], ◌∷◌, ◌++◌, length, arith, refl, sym, subst, ap, ◌∙◌}
-use Rattle.kt_suite.proofs.Common.{Contains, Contains-push, Contains-append_left, Contains-append_right, SuiteFault, Program, Asked, IsSameCall, HasStableResults, Site, Mark, Asks, File, ProgramMark, Fault, TreeGives, file_limit, program_limit, Outcome, calls_in, files_in, programs_in, faults_in, Decides, is_fault, file_too_many, program_too_many, Registered, all, stopped}
+use Rattle.kt_suite.proofs.Common.{Contains, Contains-push, Contains-append_left, Contains-append_right, SuiteFault, Program, Asked, IsSameCall, HasStableResults, Site, Mark, CallMark, File, ProgramMark, Fault, TreeGives, file_limit, program_limit, Outcome, calls_in, files_in, programs_in, faults_in, Decides, is_fault, file_too_many, program_too_many, Registered, all, stopped}
 use Rattle.kt_suite.proofs.Agreement.{Agree, both_end, same_mark, both_ask, trees_agree}
 
 -- `Cut files programs marks asked listed fault`: up to the mark that decides, the marks `marks`
@@ -8,7 +8,7 @@ use Rattle.kt_suite.proofs.Agreement.{Agree, both_end, same_mark, both_ask, tree
 -- is one. The marks before have `files` files and `programs` programs.
 data Cut : ℕ → ℕ → List Mark → List Asked → List Program → Option SuiteFault → Type 0 where
   c_end : (n k : ℕ) → Cut n k [] [] [] None
-  c_asks : (n k : ℕ) (q : Asked) (ms : List Mark) (qs : List Asked) (ps : List Program) (f : Option SuiteFault) → Cut n k ms qs ps f → Cut n k (Asks q ∷ ms) (q ∷ qs) ps f
+  c_asks : (n k : ℕ) (q : Asked) (ms : List Mark) (qs : List Asked) (ps : List Program) (f : Option SuiteFault) → Cut n k ms qs ps f → Cut n k (CallMark q ∷ ms) (q ∷ qs) ps f
   c_file : (n k : ℕ) (at : Site) (ms : List Mark) (qs : List Asked) (ps : List Program) (f : Option SuiteFault) → n < file_limit → Cut (n + 1) k ms qs ps f → Cut n k (File at ∷ ms) qs ps f
   c_listed : (n k : ℕ) (at : Site) (p : Program) (ms : List Mark) (qs : List Asked) (ps : List Program) (f : Option SuiteFault) → k < program_limit → Cut n (k + 1) ms qs ps f → Cut n k (ProgramMark at p ∷ ms) qs (p ∷ ps) f
   c_stop : (n k : ℕ) (m : Mark) (ms : List Mark) (fault : SuiteFault) → Decides n k m fault → Cut n k (m ∷ ms) [] [] (Some fault)
@@ -69,7 +69,7 @@ cuts_same n k _ _ _ _ _ _ _ _ (both_ask q r _ _ e a) s (c_stop _ _ _ ms x d) (c_
 
 cut_all : (n k : ℕ) (ms : List Mark) → faults_in ms ≡ [] → n + files_in ms ≤ file_limit → k + length (programs_in ms) ≤ program_limit → Cut n k ms (calls_in ms) (programs_in ms) None
 cut_all n k [] e f p = c_end n k
-cut_all n k (Asks q ∷ ms) e f p = c_asks n k q ms _ _ _ (cut_all n k ms e f p)
+cut_all n k (CallMark q ∷ ms) e f p = c_asks n k q ms _ _ _ (cut_all n k ms e f p)
 cut_all n k (File at ∷ ms) e f p = c_file n k at ms _ _ _ (omega (arith, f)) (cut_all (n + 1) k ms e (omega (arith, f)) p)
 cut_all n k (ProgramMark at x ∷ ms) e f p = c_listed n k at x ms _ _ _ (omega (arith, p)) (cut_all n (k + 1) ms e f (omega (arith, p)))
 cut_all n k (Fault x ∷ ms) e f p = absurd (cc)
@@ -80,7 +80,7 @@ cut_front n k [] back m fault u v a b e f p d =
     let a' : u ≡ n = omega (arith, a) in
     let b' : v ≡ k = omega (arith, b) in
     ([], c_stop n k m back fault (subst (λ (y : ℕ). Decides n y m fault) b' (subst (λ (x : ℕ). Decides x v m fault) a' d)))
-cut_front n k (Asks q ∷ ms) back m fault u v a b e f p d = let c = cut_front n k ms back m fault u v a b e f p d in (c.0, c_asks n k q _ _ _ _ c.1)
+cut_front n k (CallMark q ∷ ms) back m fault u v a b e f p d = let c = cut_front n k ms back m fault u v a b e f p d in (c.0, c_asks n k q _ _ _ _ c.1)
 cut_front n k (File at ∷ ms) back m fault u v a b e f p d = let c = cut_front (n + 1) k ms back m fault u v (omega (arith, a)) b e f p d in (c.0, c_file n k at _ _ _ _ (omega (arith, a, f)) c.1)
 cut_front n k (ProgramMark at x ∷ ms) back m fault u v a b e f p d = let c = cut_front n (k + 1) ms back m fault u v a (omega (arith, b)) e f p d in (x ∷ c.0, c_listed n k at x _ _ _ _ (omega (arith, b, p)) c.1)
 cut_front n k (Fault x ∷ ms) back m fault u v a b e f p d = absurd (cc)

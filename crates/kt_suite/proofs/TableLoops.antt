@@ -1,6 +1,6 @@
 -- The pairs of a table, one by one.
 use Rattle.std.proofs.Common.{Option, Some, None, Result, Ok, Err, ◌≡◌, List, [], ◌∷◌, ◌++◌, arith, sym, ap, ◌∙◌}
-use Rattle.kt_suite.proofs.Common.{append_assoc, Variable, Pair, SuiteCause, ProgramTable, table_with, option_or, definition, definitions, pair_fault, first_fault, table_of, unless, declared}
+use Rattle.kt_suite.proofs.Common.{append_assoc, Variable, Pair, SuiteCause, ProgramTable, table_with, option_or, definition, definitions, pair_fault, first_fault, table_of, cause_or_value, declared}
 
 -- `TableSoFar found rest pairs`: no pair of `pairs` before its suffix `rest` has an error, and
 -- `found` is the table that these pairs declare.
@@ -10,10 +10,10 @@ pub record TableSoFar (found : ProgramTable) (rest pairs : List Pair) : Type 0 w
   pub whole : before ++ definitions rest ≡ definitions pairs
   pub fault : first_fault (definitions rest) ≡ first_fault (definitions pairs)
 
-ok_unless : (fault : Option SuiteCause) (next table : ProgramTable) → ◌≡◌ {A = Result ProgramTable SuiteCause} (Ok next) (unless fault table) → (fault ≡ None) × (next ≡ table)
+ok_unless : (fault : Option SuiteCause) (next table : ProgramTable) → ◌≡◌ {A = Result ProgramTable SuiteCause} (Ok next) (cause_or_value fault table) → (fault ≡ None) × (next ≡ table)
 ok_unless fault next table e = (grind (arith, e), grind (arith, e))
 
-err_unless : (fault : Option SuiteCause) (cause : SuiteCause) (table : ProgramTable) → ◌≡◌ {A = Result ProgramTable SuiteCause} (Err cause) (unless fault table) → fault ≡ Some cause
+err_unless : (fault : Option SuiteCause) (cause : SuiteCause) (table : ProgramTable) → ◌≡◌ {A = Result ProgramTable SuiteCause} (Err cause) (cause_or_value fault table) → fault ≡ Some cause
 err_unless fault cause table e = grind (arith, e)
 
 -- The first error of the remaining pairs is the error of the next pair, or else of the others.
@@ -36,5 +36,5 @@ pub table_stops : (found : ProgramTable) (cause : SuiteCause) (pair : Pair) (aft
     → ◌≡◌ {A = Result ProgramTable SuiteCause} (Err cause) (table_with s.before (definition pair)) → ◌≡◌ {A = Result ProgramTable SuiteCause} (Err cause) (declared pairs)
 table_stops found cause pair after rest pairs e s h =
     let u = err_unless (pair_fault (definition pair)) cause (table_of (s.before ++ definition pair ∷ [])) h in
-    ap (λ (f : Option SuiteCause). unless f (table_of (definitions pairs)))
+    ap (λ (f : Option SuiteCause). cause_or_value f (table_of (definitions pairs)))
     (ap (λ (f : Option SuiteCause). option_or f (first_fault (definitions after))) (sym u) ∙ left_fault pair after rest pairs e s.fault)

@@ -23,7 +23,8 @@ calls =
 abbrev pub call_named : List ℕ → Call
 call_named name = unwrap_or (named calls name) call.Unknown
 
--- `key_named name`: the kind of the key `name` in the table of a call that registers a program.
+-- `key_named name`: the kind of the key `name` in the table of a call that registers a program, or
+-- `Unknown` if such a table may not have this key.
 abbrev pub key_named : List ℕ → Key
 key_named name =
     if bytes_eq name (codes "name") then key.Name

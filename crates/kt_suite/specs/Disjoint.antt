@@ -21,17 +21,17 @@ parts_cover program (Some own) other = bytes_eq program other.program && option_
 abbrev pub covers : Filter → Filter → Bool
 covers filter other = parts_cover filter.program filter.case_name other
 
--- `overlap filter other`: one of the filters `filter` and `other` matches each test case that the
--- other one matches.
-abbrev pub overlap : Filter → Filter → Bool
-overlap filter other = covers filter other || covers other filter
+-- `do_overlap filter other`: the filter `filter` matches each test case of the filter `other`, or
+-- `other` matches each test case of `filter`.
+abbrev pub do_overlap : Filter → Filter → Bool
+do_overlap filter other = covers filter other || covers other filter
 
 -- `ShareCase filter other`: there is a test case that both filters, `filter` and `other`, match.
 abbrev pub ShareCase : Filter → Filter → Type 0
 ShareCase filter other = (path case_name : List ℕ) × IsTrue (matches filter path case_name) × IsTrue (matches other path case_name)
 
--- `clash position filter earlier`: the error of the filter `filter` at the position `position`,
--- which overlaps with the earlier filter `earlier`.
+-- `clash position filter earlier`: the error of the filter `filter`, which is at the position
+-- `position` and overlaps with the earlier filter `earlier`.
 abbrev pub clash : ℕ → Filter → Filter → FilterFault
 clash position filter earlier = if is_same_filter filter earlier then Repeated position else NotDisjoint position
 
@@ -40,7 +40,7 @@ clash position filter earlier = if is_same_filter filter earlier then Repeated p
 -- it overlaps decides the error.
 abbrev pub overlap_fault : List Filter → ℕ → Option FilterFault
 overlap_fault filters position =
-    option_and_then (λ filter. option_map (clash position filter) (find (overlap filter) (take position filters))) (slice_get filters position)
+    option_and_then (λ filter. option_map (clash position filter) (find (do_overlap filter) (take position filters))) (slice_get filters position)
 
 -- `IsDisjoint filters`: no filter in the list `filters` overlaps with an earlier one.
 abbrev pub IsDisjoint : List Filter → Type 0

@@ -10,7 +10,8 @@ use Rattle.kt_suite.specs.declared.tree.ReadFault.TheVariants.{Memory}
 abbrev pub fault_at : List ℕ → ℕ → SuiteCause → SuiteFault
 fault_at file line cause = record { cause = cause; path = file; line = line }
 
--- `no_memory refusal`: the error of the failed allocation `refusal`, which has no file and no line.
+-- `no_memory refusal`: the error for the failed allocation `refusal`. The error has no file and no
+-- line.
 abbrev pub no_memory : Refusal → SuiteFault
 no_memory refusal = fault_at [] 0 (NoMemory refusal)
 

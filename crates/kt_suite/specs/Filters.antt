@@ -6,8 +6,8 @@ use Rattle.kt_suite.specs.declared.filter.FilterFault.TheVariants.{NoMemory, Emp
 use Rattle.kt_base.specs.Characters.{is_slash}
 use Rattle.kt_base.specs.Texts.{is_empty, before, after}
 
--- `counts component`: the path component `component` is neither empty nor `.`, so a plain path
--- contains it.
+-- `counts component`: the path component `component` is neither empty nor `.`, so `normalized_path`
+-- keeps it.
 abbrev pub counts : List ℕ → Bool
 counts component = not (is_empty component) && not (bytes_eq component (codes "."))
 
@@ -15,10 +15,10 @@ counts component = not (is_empty component) && not (bytes_eq component (codes ".
 abbrev pub components : List ℕ → List (List ℕ)
 components path = filter counts (slice_split is_slash path)
 
--- `plain_path path`: the path `path` without the components that are empty or `.`. A slash (47)
+-- `normalized_path path`: the path `path` without the components that are empty or `.`. A slash (47)
 -- separates the others.
-abbrev pub plain_path : List ℕ → List ℕ
-plain_path path = join_with_byte 47 (components path)
+abbrev pub normalized_path : List ℕ → List ℕ
+normalized_path path = join_with_byte 47 (components path)
 
 -- `case_fault case_name`: the error `EmptyCase` if the optional case `case_name` of a filter's text
 -- is present but empty, otherwise `None`.
@@ -52,7 +52,7 @@ fault_or_meaning (Some fault) meaning = Err fault
 -- (58) separates the path from the case.
 abbrev pub filter_meaning : List ℕ → Meaning
 filter_meaning text =
-    fault_or_meaning (parts_fault (before 58 text) (after 58 text)) (filter_of (plain_path (before 58 text)) (after 58 text))
+    fault_or_meaning (parts_fault (before 58 text) (after 58 text)) (filter_of (normalized_path (before 58 text)) (after 58 text))
 
 -- `Answers result meaning`: the result `result` of parsing a filter's text is the meaning `meaning`
 -- of the text, or a failed allocation.

@@ -5,7 +5,7 @@ pub mod Paths
 pub mod Tables
 pub mod Meanings
 pub mod Faults
-pub mod FaultWords
+pub mod FaultMessages
 pub mod Marks
 pub mod Registered
 pub mod Inner

@@ -2,14 +2,14 @@
 use Rattle.std.specs.Prelude.{ℕ, Bool, true, false, List, [], ◌∷◌, ◌++◌, ◌≡◌, length, nat_le, bytes_eq, Option, Some, None, Ok, Err, if◌then◌else◌}
 use Rattle.std.specs.List.{list_any}
 use Rattle.kt_suite.specs.Types.{IncludeLoop, Meaning, MissingProgram, NoSyntax, Program, ReadFault, Script, ScriptFault, Stmt, SuiteCause, SuiteFault, TooDeep}
-use Rattle.kt_script.specs.Spelling.{Spells, IsDue}
+use Rattle.kt_script.specs.Spelling.{Spells, HasFault}
 use Rattle.kt_suite.specs.declared.meaning.Meaning.TheVariants as meaning
 use Rattle.kt_suite.specs.Answers.{Asked, Read, Exists}
 use Rattle.kt_suite.specs.Faults.{fault_at, read_fault, script_line}
 use Rattle.kt_suite.specs.Meanings.{meaning_of, opening_fault}
-use Rattle.kt_suite.specs.Paths.{beside}
+use Rattle.kt_suite.specs.Paths.{sibling_of}
 
--- `depth_limit`: the maximum number of Kyuafiles that are open at once, each included by the one
+-- `depth_limit`: the maximum number of Kyuafiles that are open at once, each included by the file
 -- before.
 abbrev pub depth_limit : ℕ
 depth_limit = 32
@@ -26,32 +26,33 @@ site_fault at cause = fault_at at.file at.line cause
 -- `Mark`: an event of reading a tree: a call with its result, a file to read, a program, or an
 -- error.
 pub data Mark : Type 0 where
-  Asks : Asked → Mark
+  CallMark : Asked → Mark
   File : Site → Mark
   ProgramMark : Site → Program → Mark
   Fault : SuiteFault → Mark
 
--- `Part`: a part of the events of one file: a mark, or a statement that includes the file at this
--- path.
+-- `Part`: a part of the events of one file: a mark, or a statement at a site that includes the file
+-- at a path.
 pub data Part : Type 0 where
-  Says : Mark → Part
+  OneMark : Mark → Part
   Includes : Site → List ℕ → Part
 
--- `lookup_mark at program there`: the mark of looking for the file of the program `program`, which
--- the statement at the site `at` registers. `there` is true if a file is at the program's path.
+-- `lookup_mark at program there`: the mark for the program `program`, which the statement at the
+-- site `at` registers. The mark is the program, or the error `MissingProgram` if `there` is false.
+-- `there` is true if a file is at the program's path.
 abbrev pub lookup_mark : Site → Program → Bool → Mark
 lookup_mark at program true = ProgramMark at program
 lookup_mark at program false = Fault (site_fault at MissingProgram)
 
--- `said at there meaning`: the parts of a statement at the site `at` with the meaning `meaning`.
+-- `statement_parts at there meaning`: the parts of a statement at the site `at` with the meaning `meaning`.
 -- `there` is true if a file is at the path of the program that the statement registers.
-abbrev pub said : Site → Bool → Meaning → List Part
-said at there (meaning.Wrong cause) = Says (Fault (site_fault at cause)) ∷ []
-said at there (meaning.Suite name) = []
-said at there (meaning.Include name) = Includes at (beside at.file name) ∷ []
-said at there (meaning.Program interface name suite props) =
-    Says (Asks (Exists (beside at.file name) there))
-    ∷ Says (lookup_mark at (record { interface = interface; path = beside at.file name; suite = suite; props = props }) there) ∷ []
+abbrev pub statement_parts : Site → Bool → Meaning → List Part
+statement_parts at there (meaning.Wrong cause) = OneMark (Fault (site_fault at cause)) ∷ []
+statement_parts at there (meaning.Suite name) = []
+statement_parts at there (meaning.Include name) = Includes at (sibling_of at.file name) ∷ []
+statement_parts at there (meaning.Program interface name suite props) =
+    OneMark (CallMark (Exists (sibling_of at.file name) there))
+    ∷ OneMark (lookup_mark at (record { interface = interface; path = sibling_of at.file name; suite = suite; props = props }) there) ∷ []
 
 -- `suite_after suite meaning`: the test suite of the programs after a statement with the meaning
 -- `meaning`. `suite` is the test suite before the statement.
@@ -66,29 +67,29 @@ pub data StatementsGive (file : List ℕ) : Option (List ℕ) → List Stmt → 
   one : (suite : Option (List ℕ)) (stmt : Stmt) (rest : List Stmt) (there : Bool) (parts : List Part)
       → StatementsGive file (suite_after suite (meaning_of suite stmt.action)) rest parts
       → StatementsGive file suite (stmt ∷ rest)
-      (said (record { file = file; line = stmt.line }) there (meaning_of suite stmt.action) ++ parts)
+      (statement_parts (record { file = file; line = stmt.line }) there (meaning_of suite stmt.action) ++ parts)
 
 -- `FileGivesParts file parts`: `parts` are the parts of reading the file `file`, for some result of
 -- the read.
 pub data FileGivesParts (file : List ℕ) : List Part → Type 0 where
-  unread : (why : ReadFault)
-      → FileGivesParts file (Says (Asks (Read file (Err why))) ∷ Says (Fault (read_fault file why)) ∷ [])
-  no_script : (text : List ℕ) (why : ScriptFault) → IsDue text why
-      → FileGivesParts file (Says (Asks (Read file (Ok text))) ∷ Says (Fault (fault_at file (script_line why) (Script why))) ∷ [])
+  fault_of_read : (why : ReadFault)
+      → FileGivesParts file (OneMark (CallMark (Read file (Err why))) ∷ OneMark (Fault (read_fault file why)) ∷ [])
+  no_script : (text : List ℕ) (why : ScriptFault) → HasFault text why
+      → FileGivesParts file (OneMark (CallMark (Read file (Ok text))) ∷ OneMark (Fault (fault_at file (script_line why) (Script why))) ∷ [])
   no_statement : (text : List ℕ) → Spells text []
-      → FileGivesParts file (Says (Asks (Read file (Ok text))) ∷ Says (Fault (fault_at file 1 NoSyntax)) ∷ [])
+      → FileGivesParts file (OneMark (CallMark (Read file (Ok text))) ∷ OneMark (Fault (fault_at file 1 NoSyntax)) ∷ [])
   unopened : (text : List ℕ) (first : Stmt) (rest : List Stmt) (cause : SuiteCause)
       → Spells text (first ∷ rest) → opening_fault first.action ≡ Some cause
-      → FileGivesParts file (Says (Asks (Read file (Ok text))) ∷ Says (Fault (fault_at file first.line cause)) ∷ [])
+      → FileGivesParts file (OneMark (CallMark (Read file (Ok text))) ∷ OneMark (Fault (fault_at file first.line cause)) ∷ [])
   opened : (text : List ℕ) (first : Stmt) (rest : List Stmt) (parts : List Part)
       → Spells text (first ∷ rest) → opening_fault first.action ≡ None → StatementsGive file None rest parts
-      → FileGivesParts file (Says (Asks (Read file (Ok text))) ∷ parts)
+      → FileGivesParts file (OneMark (CallMark (Read file (Ok text))) ∷ parts)
 
--- `entry_fault files path`: the cause of the error if the file `path` is included while the files
--- `files` are open, or `None` if it may be included. It may not if it is one of `files`, or if 32
--- files are open.
-abbrev pub entry_fault : List (List ℕ) → List ℕ → Option SuiteCause
-entry_fault files path =
+-- `include_fault files path`: the cause of the error if the file `path` is included while the files
+-- `files` are open, or `None` if the file may be included. The include is an error if `path` is one
+-- of `files`, or if 32 files are open.
+abbrev pub include_fault : List (List ℕ) → List ℕ → Option SuiteCause
+include_fault files path =
     if list_any (bytes_eq path) files then Some IncludeLoop
     else if nat_le depth_limit (length files) then Some TooDeep else None
 
@@ -98,13 +99,13 @@ entry_fault files path =
 pub data Unfolds : List (List ℕ) → List Part → List Mark → Type 0 where
   end : (files : List (List ℕ)) → Unfolds files [] []
   says : (files : List (List ℕ)) (mark : Mark) (parts : List Part) (marks : List Mark)
-      → Unfolds files parts marks → Unfolds files (Says mark ∷ parts) (mark ∷ marks)
+      → Unfolds files parts marks → Unfolds files (OneMark mark ∷ parts) (mark ∷ marks)
   refused : (files : List (List ℕ)) (at : Site) (path : List ℕ) (cause : SuiteCause) (parts : List Part) (marks : List Mark)
-      → entry_fault files path ≡ Some cause → Unfolds files parts marks
+      → include_fault files path ≡ Some cause → Unfolds files parts marks
       → Unfolds files (Includes at path ∷ parts) (Fault (site_fault at cause) ∷ marks)
   entered : (files : List (List ℕ)) (at : Site) (path : List ℕ) (own : List Part) (inner : List Mark)
       (parts : List Part) (marks : List Mark)
-      → entry_fault files path ≡ None → FileGivesParts path own → Unfolds (files ++ path ∷ []) own inner → Unfolds files parts marks
+      → include_fault files path ≡ None → FileGivesParts path own → Unfolds (files ++ path ∷ []) own inner → Unfolds files parts marks
       → Unfolds files (Includes at path ∷ parts) (File at ∷ (inner ++ marks))
 
 -- `TreeGives root marks`: `marks` are the marks of reading the tree with the root Kyuafile `root`.

@@ -17,13 +17,13 @@ use Rattle.kt_suite.specs.Paths.{has_directory, is_plain_relative}
 use Rattle.kt_base.specs.Texts.{is_empty}
 
 -- `version_fault arg`: the cause of the error in a call of `syntax` with the argument `arg`, or
--- `None` if `arg` is 2.
+-- `None` if `arg` is the number 2.
 abbrev pub version_fault : Arg → Option SuiteCause
 version_fault (Value (Number n)) = if n == 2 then None else Some (WrongSyntax n)
 version_fault other = Some BadValue
 
--- `first_call_fault call arg`: the cause of the error if the first statement of a file is a call of
--- the kind `call` with the argument `arg`, or `None` for `syntax(2)`.
+-- `first_call_fault call arg`: the cause of the error if a file begins with a call of the kind
+-- `call` with the argument `arg`, or `None` for `syntax(2)`.
 abbrev pub first_call_fault : CallKind → Arg → Option SuiteCause
 first_call_fault call.Syntax arg = version_fault arg
 first_call_fault other arg = Some NoSyntax
@@ -34,15 +34,17 @@ abbrev pub opening_fault : Action → Option SuiteCause
 opening_fault (Call name arg) = first_call_fault (call_named name) arg
 opening_fault (Assign parts value) = Some NoSyntax
 
--- `suite_meaning arg`: the meaning of a call of `test_suite` with the argument `arg`, which must be
--- a value whose text is not empty.
+-- `suite_meaning arg`: the meaning of a call of `test_suite` with the argument `arg`. It is the
+-- error `BadValue` if `arg` is a table or has an empty text.
 abbrev pub suite_meaning : Arg → Meaning
 suite_meaning (Value v) = if is_empty (text_of v) then meaning.Wrong BadValue else meaning.Suite (text_of v)
 suite_meaning (Table pairs) = meaning.Wrong BadValue
 
 -- `program_with_suite interface name file own props`: the meaning of a table that declares a
--- program with the interface `interface`, the name `name` and the properties `props`. Its test
--- suite is `own` if the table has one, otherwise `file`, that of the file.
+-- program with the interface `interface`, the name `name` and the properties `props`. `own` is the
+-- test suite that the table sets, if any, and `file` is that of the file. The program has the test
+-- suite `own` if present, otherwise `file`. The meaning is an error if both are absent, or if `own`
+-- is empty.
 abbrev pub program_with_suite : Interface → List ℕ → Option (List ℕ) → Option (List ℕ) → List Variable → Meaning
 program_with_suite interface name file (Some own) props =
     if is_empty own then meaning.Wrong BadValue else meaning.Program interface name own props
@@ -50,9 +52,10 @@ program_with_suite interface name (Some suite) None props = meaning.Program inte
 program_with_suite interface name None None props = meaning.Wrong NoSuite
 
 -- `named interface file own props name`: the meaning of a table that declares a program with the
--- interface `interface`, the properties `props` and the optional name `name`. Its test suite is
--- `own` if the table has one, otherwise `file`, that of the file. It is an error if the name is
--- absent, is empty or has a directory.
+-- interface `interface`, the properties `props` and the optional name `name`. `own` is the test
+-- suite that the table sets, and `file` is the test suite that the Kyuafile sets, if any. The
+-- meaning is an error if the name is absent, is empty or has a directory. Otherwise it is
+-- `program_with_suite`.
 abbrev pub named : Interface → Option (List ℕ) → Option (List ℕ) → List Variable → Option (List ℕ) → Meaning
 named interface file own props None = meaning.Wrong BadValue
 named interface file own props (Some name) =
@@ -73,8 +76,9 @@ abbrev pub program_meaning : Interface → Option (List ℕ) → Arg → Meaning
 program_meaning interface file (Value v) = meaning.Wrong BadValue
 program_meaning interface file (Table pairs) = declared_meaning interface file (declared pairs)
 
--- `include_meaning arg`: the meaning of a call of `include` with the argument `arg`, which must be
--- a value whose text is a relative path without components that are empty, `.` or `..`.
+-- `include_meaning arg`: the meaning of a call of `include` with the argument `arg`. It is the
+-- error `BadInclude` unless `arg` is a value whose text is a relative path. A component of the path
+-- that is empty, `.` or `..` is an error, too.
 abbrev pub include_meaning : Arg → Meaning
 include_meaning (Value v) = if is_plain_relative (text_of v) then meaning.Include (text_of v) else meaning.Wrong BadInclude
 include_meaning (Table pairs) = meaning.Wrong BadInclude

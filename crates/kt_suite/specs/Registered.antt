@@ -3,7 +3,7 @@ use Rattle.std.specs.Prelude.{ℕ, List, [], ◌∷◌, ◌++◌, ◌≡◌, ◌
 use Rattle.kt_suite.specs.Types.{Program, SuiteFault, TooMany}
 use Rattle.kt_suite.specs.Answers.{Asked, IsSameCall}
 use Rattle.kt_suite.specs.Faults.{IsNoMemory}
-use Rattle.kt_suite.specs.Marks.{Site, site_fault, Mark, Asks, File, ProgramMark, Fault, TreeGives}
+use Rattle.kt_suite.specs.Marks.{Site, site_fault, Mark, CallMark, File, ProgramMark, Fault, TreeGives}
 
 -- `file_limit`: the maximum number of Kyuafiles that are read for a tree. A file that is read twice
 -- counts twice.
@@ -21,7 +21,7 @@ Outcome = Result (List Program) SuiteFault
 -- `calls_in marks`: the calls of the tree among `marks`, in order.
 abbrev pub calls_in : List Mark → List Asked
 calls_in [] = []
-calls_in (Asks question ∷ marks) = question ∷ calls_in marks
+calls_in (CallMark question ∷ marks) = question ∷ calls_in marks
 calls_in (other ∷ marks) = calls_in marks
 
 -- `files_in marks`: the number of files among `marks`.
@@ -42,9 +42,9 @@ faults_in [] = []
 faults_in (Fault fault ∷ marks) = fault ∷ faults_in marks
 faults_in (other ∷ marks) = faults_in marks
 
--- `IsUndecided marks`: none of the marks `marks` decides the result: none is an error, and no file
+-- `DecidesNothing marks`: none of the marks `marks` decides the result: none is an error, and no file
 -- or program exceeds its limit.
-pub record IsUndecided (marks : List Mark) : Type 0 where
+pub record DecidesNothing (marks : List Mark) : Type 0 where
   pub faultless : faults_in marks ≡ []
   pub files : files_in marks ≤ file_limit
   pub programs : length (programs_in marks) ≤ program_limit
@@ -58,25 +58,26 @@ pub data Decides (files programs : ℕ) : Mark → SuiteFault → Type 0 where
       → Decides files programs (ProgramMark at program) (site_fault at TooMany)
 
 -- `Registered asked root result`: loading the tree with the root Kyuafile `root` has the result
--- `result`. `asked` are the calls before the mark that decides, or all calls if no mark decides.
+-- `result`. `asked` are the calls of the tree before the mark that decides, or all its calls if no
+-- mark decides.
 pub data Registered (asked : List Asked) (root : List ℕ) : Outcome → Type 0 where
-  all : (marks : List Mark) → TreeGives root marks → IsUndecided marks → asked ≡ calls_in marks
+  all : (marks : List Mark) → TreeGives root marks → DecidesNothing marks → asked ≡ calls_in marks
       → Registered asked root (Ok (programs_in marks))
   stopped : (front back : List Mark) (mark : Mark) (fault : SuiteFault)
-      → TreeGives root (front ++ mark ∷ back) → IsUndecided front
+      → TreeGives root (front ++ mark ∷ back) → DecidesNothing front
       → Decides (files_in front) (length (programs_in front)) mark fault → asked ≡ calls_in front
       → Registered asked root (Err fault)
 
--- `IsNext marks asked`: the list `asked` of calls is empty, or contains only the call with which
+-- `IsAtMostNextCall marks asked`: the list `asked` of calls is empty, or contains only the call with which
 -- the marks `marks` begin, with any result.
-pub data IsNext : List Mark → List Asked → Type 0 where
-  no_question : (marks : List Mark) → IsNext marks []
+pub data IsAtMostNextCall : List Mark → List Asked → Type 0 where
+  no_question : (marks : List Mark) → IsAtMostNextCall marks []
   thrown_away : (question other : Asked) (marks : List Mark) → IsSameCall question other
-      → IsNext (Asks other ∷ marks) (question ∷ [])
+      → IsAtMostNextCall (CallMark other ∷ marks) (question ∷ [])
 
 -- `Unfinished asked root outcome`: loading the tree with the root Kyuafile `root` has the result
--- `outcome`, the error of an allocation that failed before a mark decided. `asked` is a prefix of
--- the tree's calls, whose last call may have any result.
+-- `outcome`, the error of an allocation that failed before a mark decided. `asked` are the calls of
+-- the tree before this failure. The last of them may have any result.
 pub record Unfinished (asked : List Asked) (root : List ℕ) (outcome : Outcome) : Type 0 where
   pub fault : SuiteFault
   pub no_memory : IsNoMemory fault
@@ -85,6 +86,6 @@ pub record Unfinished (asked : List Asked) (root : List ℕ) (outcome : Outcome)
   pub back : List Mark
   pub more : List Asked
   pub gives : TreeGives root (front ++ back)
-  pub undecided : IsUndecided front
-  pub next : IsNext back more
+  pub undecided : DecidesNothing front
+  pub next : IsAtMostNextCall back more
   pub is : asked ≡ calls_in front ++ more

@@ -44,8 +44,8 @@ key_fault key.Unknown pair = Some UnknownProperty
 abbrev pub pair_fault : Variable → Option SuiteCause
 pair_fault pair = key_fault (key_named pair.name) pair
 
--- `first_fault pairs`: the cause of the error in the first of the pairs `pairs` that has one, if
--- any.
+-- `first_fault pairs`: the cause of the error in the first invalid pair of `pairs`, or `None` if
+-- all pairs are valid.
 abbrev pub first_fault : List Variable → Option SuiteCause
 first_fault [] = None
 first_fault (pair ∷ pairs) = option_or (pair_fault pair) (first_fault pairs)
@@ -59,13 +59,13 @@ table_of pairs = record {
   props = last_values (filter is_property pairs);
 }
 
--- `unless cause value`: the error with the cause `cause` if it is present, otherwise the value
--- `value`.
-abbrev pub unless : {T : Type 0} → Option SuiteCause → T → Result T SuiteCause
-unless None there = Ok there
-unless (Some cause) there = Err cause
+-- `cause_or_value cause value`: the error with the cause `cause` if the cause is present, otherwise the
+-- value `value`.
+abbrev pub cause_or_value : {T : Type 0} → Option SuiteCause → T → Result T SuiteCause
+cause_or_value None there = Ok there
+cause_or_value (Some cause) there = Err cause
 
 -- `declared pairs`: the table that the pairs `pairs` declare, or the cause of the error in the
--- first pair that has one.
+-- first invalid pair.
 abbrev pub declared : List Pair → Result ProgramTable SuiteCause
-declared pairs = unless (first_fault (definitions pairs)) (table_of (definitions pairs))
+declared pairs = cause_or_value (first_fault (definitions pairs)) (table_of (definitions pairs))

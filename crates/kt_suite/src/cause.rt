@@ -1,7 +1,7 @@
 ghost use Rattle.std.specs.Prelude.{◌≡◌, is_err};
-ghost use Rattle.kt_base.specs.Shows.{Shows};
+ghost use Rattle.kt_base.specs.Emits.{Emits};
 ghost use Rattle.kt_base.specs.Utf8.{utf8};
-ghost use Rattle.kt_suite.specs.FaultWords.{cause_words, fixed_words};
+ghost use Rattle.kt_suite.specs.FaultMessages.{cause_message, fixed_message};
 ghost use Rattle.kt_suite.specs.declared.cause.SuiteCause.TheVariants as cause;
 
 use crate::ReadFault;
@@ -21,7 +21,7 @@ const NOT_SUPPORTED: &str = " not supported";
 ///
 /// `Display` prints the message of the cause.
 #[derive(Clone, Copy, Debug, Error)]
-#[error("{}", self.words())]
+#[error("{}", self.message())]
 pub enum SuiteCause {
     /// An allocation failed. The error has no file and no line.
     NoMemory(NoMemory),
@@ -35,8 +35,7 @@ pub enum SuiteCause {
     /// A key of a program's table is not `name`, `test_suite` or a property that a Kyuafile may
     /// set.
     UnknownProperty,
-    /// A call, a key or a property does not accept its value, or a program has no name or an empty
-    /// name.
+    /// A call, a key or a property has an invalid value, or a program has no name or an empty name.
     BadValue,
     /// Neither the program's table nor an earlier `test_suite` of the file names a test suite.
     NoSuite,
@@ -63,25 +62,25 @@ impl SuiteCause {
     /// Returns the message of the cause, or an empty text for `WrongSyntax`.
     ///
     /// The message of `WrongSyntax` contains a number, which [`SuiteCause::print`] prints.
-    pub fn words(&self) -> &'static str
-        ensures { result.now ≡ fixed_words self.now }
+    pub fn message(&self) -> &'static str
+        ensures { result.now ≡ fixed_message self.now }
     {
         match self {
             SuiteCause::NoMemory(_) => OUT_OF_MEMORY,
             SuiteCause::NoSyntax => "syntax(2) expected",
             SuiteCause::WrongSyntax(_) => "",
             SuiteCause::UnknownCall => "unknown call",
-            SuiteCause::UnknownProperty => PropFault::UnknownProperty.words(),
-            SuiteCause::BadValue => PropFault::BadValue.words(),
+            SuiteCause::UnknownProperty => PropFault::UnknownProperty.message(),
+            SuiteCause::BadValue => PropFault::BadValue.message(),
             SuiteCause::NoSuite => "no test suite",
             SuiteCause::PathHasDirectory => "program name has a directory",
             SuiteCause::BadInclude => "bad include path",
             SuiteCause::IncludeLoop => "include loop",
             SuiteCause::TooDeep => "includes too deep",
             SuiteCause::MissingProgram => "program not found",
-            SuiteCause::Unreadable => ReadFault::Failed.words(),
+            SuiteCause::Unreadable => ReadFault::Failed.message(),
             SuiteCause::TooMany => "too many programs or files",
-            SuiteCause::Script(fault) => fault.words(),
+            SuiteCause::Script(fault) => fault.message(),
         }
     }
 
@@ -91,8 +90,8 @@ impl SuiteCause {
     ///
     /// - `OutputFault`: a write to `out` fails.
     pub fn print<W: Write>(&self, out: &mut W) -> Result<(), OutputFault>
-        ensures { Shows (W.contents out.old) (W.contents out.new) (is_err result)
-            (utf8 (cause_words self.now)) }
+        ensures { Emits (W.contents out.old) (W.contents out.new) (is_err result)
+            (utf8 (cause_message self.now)) }
     {
         match self {
             SuiteCause::WrongSyntax(n) => {
@@ -106,7 +105,7 @@ impl SuiteCause {
                     out,
                 )
             }
-            _ => emit(self.words().as_bytes(), out),
+            _ => emit(self.message().as_bytes(), out),
         }
     }
 }

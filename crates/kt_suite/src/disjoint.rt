@@ -1,5 +1,5 @@
 ghost use Rattle.std.specs.Prelude.{◌≡◌, ◌↔◌, List, ℕ, IfErr, IsTrue, OnOk, option_copied, find};
-ghost use Rattle.kt_suite.specs.Common.{is_within, IsWithin, is_same_filter, covers, overlap, ShareCase, overlap_fault, IsDisjoint, IsFirstFault};
+ghost use Rattle.kt_suite.specs.Common.{is_within, IsWithin, is_same_filter, covers, do_overlap, ShareCase, overlap_fault, IsDisjoint, IsFirstFault};
 ghost use Rattle.kt_suite.specs.declared.filter.Filter.{Filter as OneFilter};
 
 use crate::within::is_within;
@@ -15,21 +15,24 @@ fn covers(filter: &Filter, other: &Filter) -> bool
     }
 }
 
-/// Returns `true` if `filter` or `other` matches each case that the other one matches.
-fn overlap(filter: &Filter, other: &Filter) -> bool
-    ensures { result ≡ overlap filter.now other.now }
+/// Returns `true` if `filter` matches each case of `other`, or if `other` matches each case of
+/// `filter`.
+fn do_overlap(filter: &Filter, other: &Filter) -> bool
+    ensures { result ≡ do_overlap filter.now other.now }
 {
     covers(filter, other) || covers(other, filter)
 }
 
-/// Returns the first of the filters `earlier` that overlaps with `filter`, or `None` if none does.
+/// Returns the first filter in `earlier` that overlaps with `filter`, if any.
 fn first_overlap<'a>(filter: &Filter, earlier: &'a [Filter]) -> Option<&'a Filter>
-    ensures { option_copied result ≡ find (overlap filter.now) earlier.now }
+    ensures { option_copied result ≡ find (do_overlap filter.now) earlier.now }
 {
-    earlier.iter().find(|other| overlap(filter, *other))
+    earlier.iter().find(|other| do_overlap(filter, *other))
 }
 
-/// Returns the error of the filter at `position`, or `None` if it overlaps with no earlier filter.
+/// Returns the error of the filter at `position` in `filters`, or `None` without an error.
+///
+/// A filter has an error if it overlaps with an earlier filter.
 fn overlap_fault(filters: &[Filter], position: usize) -> Option<FilterFault>
     ensures { result ≡ overlap_fault filters.now position }
 {
@@ -41,7 +44,7 @@ fn overlap_fault(filters: &[Filter], position: usize) -> Option<FilterFault>
     Some(FilterFault::NotDisjoint(position))
 }
 
-/// Checks that no two filters match the same case.
+/// Checks that no two of the filters `filters` match the same case.
 ///
 /// Two filters overlap if both match some case. An error has the position of the first filter that
 /// overlaps with an earlier one. Allocates nothing.
@@ -66,11 +69,11 @@ pub fn check_disjoint(filters: &[Filter]) -> Result<(), FilterFault>
 ///
 /// A path is within a directory if and only if it is the directory, or begins with the directory
 /// and a slash. Two filters are equal if and only if their paths and their cases are equal.
-pub fn filter_laws()
+pub fn theorem_of_overlaps()
     ensures within { (directory path : List ℕ) → IsTrue (is_within directory path)
         ↔ IsWithin directory path }
     ensures same { (filter other : OneFilter)
         → IsTrue (is_same_filter filter other) ↔ (filter ≡ other) }
-    ensures overlap { (filter other : OneFilter)
-        → IsTrue (overlap filter other) ↔ ShareCase filter other }
+    ensures do_overlap { (filter other : OneFilter)
+        → IsTrue (do_overlap filter other) ↔ ShareCase filter other }
 {}

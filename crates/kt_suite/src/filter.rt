@@ -1,6 +1,6 @@
 ghost use Rattle.std.specs.Prelude.{◌≡◌, ◌↔◌, IsTrue, IfOk, OnOk};
-ghost use Rattle.kt_suite.specs.Inner.Steps.{joined, with_component};
-ghost use Rattle.kt_suite.specs.Filters.{counts, plain_path, case_fault, parts_fault};
+ghost use Rattle.kt_suite.specs.Inner.Steps.{path_and_component, with_component};
+ghost use Rattle.kt_suite.specs.Filters.{counts, normalized_path, case_fault, parts_fault};
 ghost use Rattle.kt_suite.specs.declared.filter.FilterFault.TheVariants as fault;
 
 use crate::within::is_within;
@@ -13,7 +13,7 @@ use thiserror::Error;
 /// A number is a position in the list of filters, from 0. `Display` prints the message without the
 /// filter (this profile).
 #[derive(Clone, Copy, Debug, Error)]
-#[error("{}", self.words())]
+#[error("{}", self.message())]
 pub enum FilterFault {
     /// An allocation failed.
     NoMemory(NoMemory),
@@ -30,11 +30,11 @@ pub enum FilterFault {
 }
 
 impl FilterFault {
-    ghost use Rattle.kt_suite.specs.FaultWords.{filter_words};
+    ghost use Rattle.kt_suite.specs.FaultMessages.{filter_message};
 
     /// Returns the message of the error, which `Display` prints.
-    pub fn words(&self) -> &'static str
-        ensures { result.now ≡ filter_words self.now }
+    pub fn message(&self) -> &'static str
+        ensures { result.now ≡ filter_message self.now }
     {
         match self {
             FilterFault::NoMemory(_) => OUT_OF_MEMORY,
@@ -87,7 +87,7 @@ impl Filter {
         if let Some(fault) = parts_fault(&path, &case_name) {
             return Err(fault);
         }
-        let program = plain_path(alloc, &path)?;
+        let program = normalized_path(alloc, &path)?;
         if program.is_empty() {
             return Err(FilterFault::Empty);
         }
@@ -153,7 +153,7 @@ fn counts(component: &Text) -> bool
 
 /// Appends `component` to `path`, after a slash unless `path` is empty.
 fn push_component(path: &mut Text, component: &Text) -> Result<(), NoMemory>
-    ensures { OnOk result (path.new ≡ joined path.old component.now) }
+    ensures { OnOk result (path.new ≡ path_and_component path.old component.now) }
 {
     if path.is_empty() {
         path.push_str(component.as_str())?;
@@ -165,7 +165,7 @@ fn push_component(path: &mut Text, component: &Text) -> Result<(), NoMemory>
 }
 
 /// Appends `component` to `path`, unless `component` is empty or `.`.
-fn add_component(path: &mut Text, component: &Text) -> Result<(), NoMemory>
+fn push_normalized(path: &mut Text, component: &Text) -> Result<(), NoMemory>
     ensures { OnOk result (path.new ≡ with_component path.old component.now) }
 {
     if counts(component) {
@@ -175,13 +175,13 @@ fn add_component(path: &mut Text, component: &Text) -> Result<(), NoMemory>
 }
 
 /// Returns `path` without components that are empty or `.`.
-fn plain_path(alloc: Global, path: &Text) -> Result<Text, NoMemory>
-    ensures { IfOk result (λ plain. plain ≡ plain_path path.now) }
+fn normalized_path(alloc: Global, path: &Text) -> Result<Text, NoMemory>
+    ensures { IfOk result (λ plain. plain ≡ normalized_path path.now) }
 {
     let components = path.split('/')?;
     let mut plain = Text::new(alloc);
     for component in components.as_slice() {
-        add_component(&mut plain, component)?;
+        push_normalized(&mut plain, component)?;
     }
     Ok(plain)
 }

@@ -19,10 +19,10 @@ mod tree;
 mod within;
 
 pub use cause::SuiteCause;
-pub use disjoint::{check_disjoint, filter_laws};
+pub use disjoint::{check_disjoint, theorem_of_overlaps};
 pub use fault::SuiteFault;
 pub use filter::{Filter, FilterFault};
-pub use loader::{load, registers_once};
+pub use loader::{load, theorem_of_reloading};
 pub use paths::{parent_path, split_path};
 pub use program::Program;
 pub use selecting::{Item, SelectFault, Selection, select};

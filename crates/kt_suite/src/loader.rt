@@ -1,5 +1,5 @@
 ghost use Rattle.std.specs.Prelude.{◌≡◌, ◌⊎◌, ◌≤◌, ◌-◌, ◌++◌, [], ◌∷◌, List, ℕ, length, IfOk};
-ghost use Rattle.kt_suite.specs.Common.{Answered, Asked, HasStableResults, program_limit, Unfinished, Registered, Outcome, IsWalk, FileGives, Script, IsText, fault_at, read_fault, script_line, IsNoMemory, ChecksOpening, Opened};
+ghost use Rattle.kt_suite.specs.Common.{LeadsByCalls, Asked, HasStableResults, program_limit, Unfinished, Registered, Outcome, LoadsMarks, FileGives, Script, IsParseFault, fault_at, read_fault, script_line, IsNoMemory, ChecksOpening, OpensFile};
 
 use crate::fault::{fault_at, no_memory};
 use crate::registry::{LoadStep, Registry};
@@ -11,7 +11,7 @@ use kt_script::{ScriptFault, Stmt, parse};
 use std::alloc::Global;
 
 /// Returns the error of the Kyuafile `file`, whose read failed with the error `why`.
-fn unread(alloc: Global, file: &Text, why: ReadFault) -> SuiteFault
+fn fault_of_read(alloc: Global, file: &Text, why: ReadFault) -> SuiteFault
     ensures { IsNoMemory result ⊎ (result ≡ read_fault file.now why) }
 {
     match why {
@@ -21,7 +21,7 @@ fn unread(alloc: Global, file: &Text, why: ReadFault) -> SuiteFault
 }
 
 /// Returns the line of the error `why` of a script, from 1, or 0 if the error has no line.
-fn line_of(why: ScriptFault) -> u32
+fn script_fault_line(why: ScriptFault) -> u32
     ensures { result ≡ script_line why }
 {
     match why {
@@ -31,18 +31,18 @@ fn line_of(why: ScriptFault) -> u32
     }
 }
 
-/// Returns the error of the Kyuafile `file`, which is not a script because of the error `why`.
-fn unparsed(alloc: Global, file: &Text, why: ScriptFault) -> SuiteFault
+/// Returns the error of the Kyuafile `file`, whose parsing failed with the error `why`.
+fn fault_of_parse(alloc: Global, file: &Text, why: ScriptFault) -> SuiteFault
     ensures { IsNoMemory result
-        ⊎ (IsText why × (result ≡ fault_at file.now (script_line why) (Script why))) }
+        ⊎ (IsParseFault why × (result ≡ fault_at file.now (script_line why) (Script why))) }
 {
     match why {
         ScriptFault::NoMemory(refusal) => no_memory(alloc, refusal),
-        _ => fault_at(file, alloc, line_of(why), SuiteCause::Script(why)),
+        _ => fault_at(file, alloc, script_fault_line(why), SuiteCause::Script(why)),
     }
 }
 
-/// Checks that the statements of `file` begin with `syntax(2)`, and returns them.
+/// Checks that `stmts`, the statements of `file`, begin with `syntax(2)`, and returns them.
 fn check_opening(alloc: Global, file: &Text, stmts: Items<Stmt>) -> Result<Items<Stmt>, SuiteFault>
     ensures { ChecksOpening file.now stmts result }
 {
@@ -63,24 +63,24 @@ fn check_opening(alloc: Global, file: &Text, stmts: Items<Stmt>) -> Result<Items
 ///
 /// - [`SuiteFault`]: the file can't be read, is not a script, or does not begin with `syntax(2)`.
 /// - [`SuiteFault`] with the cause `NoMemory`: an allocation fails.
-pub fn open_file<T: Tree>(
+pub fn parse_kyuafile<T: Tree>(
     alloc: Global,
     tree: &mut T,
     file: &Text,
 ) -> Result<Items<Stmt>, SuiteFault>
-    ensures { Opened T.asks tree.old tree.new file.now result }
+    ensures { OpensFile T.asks tree.old tree.new file.now result }
 {
     match tree.read(file) {
-        Err(why) => Err(unread(alloc, file, why)),
+        Err(why) => Err(fault_of_read(alloc, file, why)),
         Ok(text) => match parse(alloc, text.as_slice()) {
-            Err(why) => Err(unparsed(alloc, file, why)),
+            Err(why) => Err(fault_of_parse(alloc, file, why)),
             Ok(stmts) => check_opening(alloc, file, stmts),
         },
     }
 }
 
 /// Appends `file` to the open files of `registry`, and returns the registry.
-fn begin(registry: Registry, file: &Text) -> Result<Registry, NoMemory>
+fn push_open_file(registry: Registry, file: &Text) -> Result<Registry, NoMemory>
     ensures { IfOk result (λ next. next
         ≡ (record registry { reading = registry.reading ++ file.now ∷ [] })) }
 {
@@ -93,20 +93,20 @@ fn begin(registry: Registry, file: &Text) -> Result<Registry, NoMemory>
 ///
 /// Returns `registry` with these files and programs. The caller has counted `file` in `registry`,
 /// and has checked that it is not open.
-fn read_file<T: Tree>(
+fn load_file<T: Tree>(
     alloc: Global,
     tree: &mut T,
     registry: Registry,
     file: &Text,
 ) -> Result<Registry, SuiteFault>
-    ensures { IsWalk T.asks tree.old tree.new (FileGives registry.reading file.now)
+    ensures { LoadsMarks T.asks tree.old tree.new (FileGives registry.reading file.now)
         registry result }
 {
-    let stmts = match open_file(alloc, tree, file) {
+    let stmts = match parse_kyuafile(alloc, tree, file) {
         Ok(stmts) => stmts,
         Err(fault) => return Err(fault),
     };
-    let mut registry = match begin(registry, file) {
+    let mut registry = match push_open_file(registry, file) {
         Ok(registry) => registry,
         Err(refusal) => return Err(no_memory(alloc, refusal)),
     };
@@ -120,7 +120,7 @@ fn read_file<T: Tree>(
         match turn {
             LoadStep::Next(next) => registry = next,
             LoadStep::Enter(next, path) => {
-                registry = match read_file(alloc, tree, next, &path) {
+                registry = match load_file(alloc, tree, next, &path) {
                     Ok(next) => next,
                     Err(fault) => return Err(fault),
                 };
@@ -145,7 +145,8 @@ fn read_file<T: Tree>(
 /// - [`SuiteFault`] with the cause `NoMemory`: an allocation fails.
 pub fn load<T: Tree>(alloc: Global, tree: &mut T, root: &Text) -> Result<Items<Program>, SuiteFault>
     // The calls of the tree are the calls that decide the result, in their order, and no others.
-    ensures loaded { Answered T.asks tree.old tree.new (λ asked. Registered asked root.now result
+    ensures loaded { LeadsByCalls T.asks tree.old tree.new (λ asked. Registered asked root.now
+        result
         ⊎ Unfinished asked root.now result) }
     ensures few { IfOk result (λ programs. length programs ≤ program_limit) }
 {
@@ -154,16 +155,17 @@ pub fn load<T: Tree>(alloc: Global, tree: &mut T, root: &Text) -> Result<Items<P
         files: 1,
         programs: Items::new(alloc),
     };
-    match read_file(alloc, tree, registry, root) {
+    match load_file(alloc, tree, registry, root) {
         Err(fault) => Err(fault),
         Ok(registry) => Ok(registry.into_programs()),
     }
 }
 
 /// Theorem: loading an unchanged tree twice gives the same result, unless an allocation fails.
-pub fn registers_once()
+pub fn theorem_of_reloading()
     ensures steady { (first second : List Asked) (root : List ℕ) (r s : Outcome)
-        → HasStableResults (first ++ second) → Registered first root r → Registered second root s → r ≡ s }
+        → HasStableResults (first ++ second) → Registered first root r → Registered second root s
+        → r ≡ s }
 
     // The same calls with the same results give one result, whether or not the tree changed.
     ensures decided { (asked : List Asked) (root : List ℕ) (r s : Outcome)

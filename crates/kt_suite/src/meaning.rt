@@ -2,7 +2,7 @@ use crate::SuiteCause;
 use kt_base::{Interface, Text};
 use kt_metadata::Props;
 
-/// The meaning of a statement after the first one of a Kyuafile: its effect, or its error.
+/// A meaning of a statement after the first statement of a Kyuafile: its effect, or its error.
 ///
 /// The meaning does not depend on the files of the tree.
 #[derive(Drop)]

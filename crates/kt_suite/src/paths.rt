@@ -1,12 +1,12 @@
 ghost use Rattle.std.specs.Prelude.{◌≡◌, chars, IfOk};
-ghost use Rattle.kt_suite.specs.Common.{directory_of, parent_of, name_in, beside, has_directory, is_component, is_plain_relative};
+ghost use Rattle.kt_suite.specs.Common.{directory_of, parent_of, name_in, sibling_of, has_directory, is_component, is_plain_relative};
 
 use kt_base::{NoMemory, Text, has_slash};
 use std::alloc::Global;
 
 /// Splits `path` after its last slash.
 ///
-/// The first part contains the slash. Without a slash, the first part is empty.
+/// The first part ends with the slash. If `path` has no slash, the first part is empty.
 fn split_after_slash(path: &str) -> (&str, &str)
     ensures directory { chars result.0.now ≡ directory_of (chars path.now) }
     ensures name { chars result.1.now ≡ name_in (chars path.now) }
@@ -66,7 +66,7 @@ pub fn parent_path(alloc: Global, path: &Text) -> Result<Text, NoMemory>
 ///
 /// - `NoMemory`: an allocation fails.
 pub fn sibling_path(alloc: Global, file: &Text, name: &Text) -> Result<Text, NoMemory>
-    ensures { IfOk result (λ path. path ≡ beside file.now name.now) }
+    ensures { IfOk result (λ path. path ≡ sibling_of file.now name.now) }
 {
     let (directory, _) = split_after_slash(file.as_str());
     let mut path = Text::from_str(alloc, directory)?;

@@ -6,7 +6,7 @@ use kt_metadata::Props;
 pub struct Program {
     /// The interface by which the program reports its test cases and results.
     pub interface: Interface,
-    /// The path, relative to the directory of the root Kyuafile.
+    /// The path of the program, relative to the directory of the root Kyuafile.
     pub path: Text,
     /// The name of the test suite of the program, which is not empty.
     pub suite: Text,

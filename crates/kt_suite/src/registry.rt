@@ -3,12 +3,14 @@ ghost use Rattle.std.specs.Prelude.{◌≡◌, ◌-◌, length, take, drop};
 use crate::Program;
 use kt_base::{Items, Text};
 
-/// A state of the loader: the open Kyuafiles, the number of Kyuafiles, and the registered programs.
+/// A state of the loader: the open Kyuafiles, the number of Kyuafiles so far, and the registered
+/// programs.
 pub struct Registry {
     /// The paths of the open Kyuafiles: the root first, then each file after the file that includes
     /// it.
     pub reading: Items<Text>,
-    /// The number of Kyuafiles that are open or were read, or that are read next, at most 10,000.
+    /// The number of Kyuafiles so far, with the root, at most 10,000. A file is counted before it
+    /// is opened.
     pub files: usize,
     /// The registered programs in order, at most 10,000.
     pub programs: Items<Program>,
@@ -38,7 +40,7 @@ impl Registry {
         programs
     }
 
-    /// Removes the last of the open files, which has been read, and returns the registry.
+    /// Removes the last open file, whose statements were all executed, and returns the registry.
     pub fn end(self) -> Registry
         ensures { result ≡ (record self { reading = take (length self.reading - 1) self.reading }) }
     {

@@ -14,7 +14,7 @@ use thiserror::Error;
 ///
 /// `Display` prints the message (this profile).
 #[derive(Clone, Copy, Debug, Error)]
-#[error("{}", self.words())]
+#[error("{}", self.message())]
 pub enum SelectFault {
     /// An allocation failed.
     NoMemory(NoMemory),
@@ -23,11 +23,11 @@ pub enum SelectFault {
 }
 
 impl SelectFault {
-    ghost use Rattle.kt_suite.specs.FaultWords.{select_words};
+    ghost use Rattle.kt_suite.specs.FaultMessages.{select_message};
 
     /// Returns the message of the error, which `Display` prints.
-    pub fn words(&self) -> &'static str
-        ensures { result.now ≡ select_words self.now }
+    pub fn message(&self) -> &'static str
+        ensures { result.now ≡ select_message self.now }
     {
         match self {
             SelectFault::NoMemory(_) => OUT_OF_MEMORY,
@@ -53,7 +53,7 @@ pub struct Item {
     pub case_name: Text,
 }
 
-/// The result of [`select`]: positions of items and of filters.
+/// A result of [`select`]: the positions of the selected items and of the unmatched filters.
 #[derive(Drop)]
 pub struct Selection {
     /// The positions of the selected items, ascending, from 0.
@@ -72,7 +72,8 @@ fn matches_item(item: &Item, filter: &Filter) -> bool
     filter.matches(&item.path, &item.case_name)
 }
 
-/// Returns the position of the first filter that matches `item`, or `None` if no filter matches it.
+/// Returns the position of the first filter in `filters` that matches `item`, or `None` if no
+/// filter matches it.
 fn first_match(filters: &[Filter], item: &Item) -> Option<usize>
     ensures { result ≡ first_match filters.now item.now }
 {
@@ -105,7 +106,8 @@ fn is_miss(filters: &[Filter], item: &Item, first: usize, place: usize) -> bool
 
 /// Removes the positions of the filters that match `item` from the positions `unmatched`.
 ///
-/// `first` is the position of the first filter that matches `item`.
+/// The positions are those in `filters`. `first` is the position of the first filter that matches
+/// `item`.
 fn remove_matches(unmatched: &mut Vec<usize>, filters: &[Filter], item: &Item, first: usize)
     requires { first_match filters.now item.now ≡ Some first }
     ensures { unmatched.new.items ≡ filter (is_miss filters.now item.now) unmatched.old.items }
@@ -117,9 +119,10 @@ fn remove_matches(unmatched: &mut Vec<usize>, filters: &[Filter], item: &Item, f
 ///
 /// Removes the positions of the filters that match `item` from `unmatched`. Without filters, each
 /// item is selected. Each filter is compared with `item` at most once.
-fn compare_item(filters: &[Filter], item: &Item, unmatched: &mut Vec<usize>) -> bool
+fn select_item(filters: &[Filter], item: &Item, unmatched: &mut Vec<usize>) -> bool
     ensures selected { result ≡ is_selected filters.now item.now }
-    ensures unmatched { unmatched.new.items ≡ filter (is_miss filters.now item.now) unmatched.old.items }
+    ensures unmatched { unmatched.new.items ≡ filter (is_miss filters.now item.now)
+        unmatched.old.items }
 {
     match first_match(filters, item) {
         None => filters.is_empty(),
@@ -147,15 +150,16 @@ fn all_positions(alloc: Global, filters: &[Filter]) -> Result<Vec<usize>, NoMemo
 ///
 /// Reads `items` once. A filter counts as unmatched until an item matches it.
 #[tactic(auto, using(crate::proofs::Picking::unmatched_of_all))]
-fn compare_items(alloc: Global, items: &[Item], filters: &[Filter]) -> Result<Selection, NoMemory>
+fn select_items(alloc: Global, items: &[Item], filters: &[Filter]) -> Result<Selection, NoMemory>
     ensures cases { IfOk result (λ s. s.cases.items ≡ selected_positions items.now filters.now) }
-    ensures unmatched { IfOk result (λ s. s.unmatched.items ≡ unmatched_positions items.now filters.now) }
+    ensures unmatched { IfOk result (λ s. s.unmatched.items
+        ≡ unmatched_positions items.now filters.now) }
 {
     let mut cases = Vec::new(alloc);
     let mut unmatched = all_positions(alloc, filters)?;
     let mut place = 0;
     for item in items {
-        if compare_item(filters, item, &mut unmatched) {
+        if select_item(filters, item, &mut unmatched) {
             cases.push(place)?;
         }
         place += 1;
@@ -174,7 +178,8 @@ fn compare_items(alloc: Global, items: &[Item], filters: &[Filter]) -> Result<Se
 /// - `NoMemory`: an allocation fails.
 pub fn select(alloc: Global, items: &[Item], filters: &[Filter]) -> Result<Selection, SelectFault>
     ensures cases { IfOk result (λ s. s.cases.items ≡ selected_positions items.now filters.now) }
-    ensures unmatched { IfOk result (λ s. s.unmatched.items ≡ unmatched_positions items.now filters.now) }
+    ensures unmatched { IfOk result (λ s. s.unmatched.items
+        ≡ unmatched_positions items.now filters.now) }
 
     // `TooMany` depends only on the number of items.
     ensures too_many { (result ≡ Err TooMany) ↔ (item_limit < length items.now) }
@@ -182,6 +187,6 @@ pub fn select(alloc: Global, items: &[Item], filters: &[Filter]) -> Result<Selec
     if items.len() > ITEM_LIMIT {
         return Err(SelectFault::TooMany);
     }
-    let selection = compare_items(alloc, items, filters)?;
+    let selection = select_items(alloc, items, filters)?;
     Ok(selection)
 }

@@ -2,10 +2,10 @@ ghost use Rattle.std.specs.Prelude.{◌≡◌, IfOk};
 ghost use Rattle.kt_suite.specs.Meanings.{opening_fault, suite_meaning, include_meaning, meaning_of};
 
 use crate::SuiteCause;
-use crate::call::{Call, call_of};
+use crate::call::{Call, call_kind};
 use crate::meaning::Meaning;
 use crate::paths::is_plain_relative;
-use crate::table::read_program;
+use crate::table::program_call_meaning;
 use kt_base::{NoMemory, Text};
 use kt_script::{Action, Arg, Literal};
 use std::alloc::Global;
@@ -19,7 +19,7 @@ pub fn opening_cause(action: &Action) -> Option<SuiteCause>
     let Action::Call(name, arg) = action else {
         return Some(SuiteCause::NoSyntax);
     };
-    match (call_of(name), arg) {
+    match (call_kind(name), arg) {
         (Call::Syntax, Arg::Value(Literal::Number(2))) => None,
         (Call::Syntax, Arg::Value(Literal::Number(n))) => Some(SuiteCause::WrongSyntax(*n)),
         (Call::Syntax, _) => Some(SuiteCause::BadValue),
@@ -47,8 +47,8 @@ fn suite_call_meaning(alloc: Global, arg: &Arg) -> Result<Meaning, NoMemory>
 
 /// Returns the meaning of a call of `include` with the argument `arg`.
 ///
-/// The meaning is the error `BadInclude` if `arg` is a table, or if its text is an absolute path or
-/// has a component that is empty, `.` or `..`.
+/// The meaning is the error `BadInclude` if `arg` is a table or an absolute path. It is the same
+/// error if a component of the path is empty, `.` or `..`.
 fn include_call_meaning(alloc: Global, arg: &Arg) -> Result<Meaning, NoMemory>
     ensures { IfOk result (λ found. found ≡ include_meaning arg.now) }
 {
@@ -71,7 +71,7 @@ fn include_call_meaning(alloc: Global, arg: &Arg) -> Result<Meaning, NoMemory>
 /// # Errors
 ///
 /// - `NoMemory`: an allocation fails.
-pub fn read_statement(
+pub fn statement_meaning(
     alloc: Global,
     file: &Option<Text>,
     action: &Action,
@@ -80,10 +80,10 @@ pub fn read_statement(
 {
     match action {
         Action::Assign(_, _) => Ok(Meaning::Wrong(SuiteCause::UnknownCall)),
-        Action::Call(name, arg) => match call_of(name) {
+        Action::Call(name, arg) => match call_kind(name) {
             Call::TestSuite => suite_call_meaning(alloc, arg),
             Call::Include => include_call_meaning(alloc, arg),
-            Call::Program(interface) => read_program(alloc, interface, file, arg),
+            Call::Program(interface) => program_call_meaning(alloc, interface, file, arg),
             Call::Syntax | Call::Unknown => Ok(Meaning::Wrong(SuiteCause::UnknownCall)),
         },
     }

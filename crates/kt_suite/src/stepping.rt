@@ -1,11 +1,11 @@
 ghost use Rattle.std.specs.Prelude.{◌≡◌, Err, IfErr, IfOk, OnOk};
-ghost use Rattle.kt_suite.specs.Common.{list_any, bytes_eq, beside, entry_fault, meaning_of, suite_after, Adds, EntersFile, Enters, StepsTo};
+ghost use Rattle.kt_suite.specs.Common.{list_any, bytes_eq, sibling_of, include_fault, meaning_of, suite_after, RegistersProgram, EntersFile, Enters, StepsTo};
 
 use crate::fault::{fault_at, no_memory};
 use crate::meaning::Meaning;
 use crate::paths::sibling_path;
 use crate::registry::{LoadStep, Registry};
-use crate::statement::read_statement;
+use crate::statement::statement_meaning;
 use crate::{Program, SuiteCause, SuiteFault, Tree};
 use kt_base::Text;
 use kt_script::Stmt;
@@ -22,19 +22,19 @@ const FILE_LIMIT: usize = 10_000;
 const DEPTH_LIMIT: usize = 32;
 
 /// Returns `true` if `files` contains `path`.
-fn is_among(files: &[Text], path: &Text) -> bool
+fn contains_path(files: &[Text], path: &Text) -> bool
     ensures { result ≡ list_any (bytes_eq path.now) files.now }
 {
     files.iter().any(|file| *path == *file)
 }
 
-/// Returns the cause of the error of including the file at `path` while `files` are open.
+/// Returns the cause of the error if the file at `path` is included while `files` are open.
 ///
 /// Returns `None` if the file may be included.
-fn entry_cause(files: &[Text], path: &Text) -> Option<SuiteCause>
-    ensures { result ≡ entry_fault files.now path.now }
+fn include_cause(files: &[Text], path: &Text) -> Option<SuiteCause>
+    ensures { result ≡ include_fault files.now path.now }
 {
-    if is_among(files, path) {
+    if contains_path(files, path) {
         Some(SuiteCause::IncludeLoop)
     } else if files.len() >= DEPTH_LIMIT {
         Some(SuiteCause::TooDeep)
@@ -43,11 +43,11 @@ fn entry_cause(files: &[Text], path: &Text) -> Option<SuiteCause>
     }
 }
 
-/// Counts the included file at `path` in `registry`, or returns the error if it may not be
+/// Returns `registry` with the included file at `path` counted, or the error if the file may not be
 /// included.
 ///
 /// The `include` statement is in the line `line` of `file`.
-fn enter(
+fn count_include(
     alloc: Global,
     file: &Text,
     line: u32,
@@ -56,7 +56,7 @@ fn enter(
 ) -> Result<Registry, SuiteFault>
     ensures { Enters (record { file = file.now; line = line }) registry path.now result }
 {
-    if let Some(cause) = entry_cause(registry.reading.as_slice(), path) {
+    if let Some(cause) = include_cause(registry.reading.as_slice(), path) {
         return Err(fault_at(file, alloc, line, cause));
     }
     if registry.files >= FILE_LIMIT {
@@ -67,10 +67,11 @@ fn enter(
     Ok(registry)
 }
 
-/// Returns the step that reads the included file `name`, or the error if it may not be included.
+/// Returns the step that reads the included file `name`, or the error if the file may not be
+/// included.
 ///
-/// The `include` statement is in the line `line` of `file`. `name` is relative to the directory of
-/// `file`.
+/// The step has `registry`, with the included file counted. The `include` statement is in the line
+/// `line` of `file`. `name` is relative to the directory of `file`.
 fn include(
     alloc: Global,
     file: &Text,
@@ -79,13 +80,13 @@ fn include(
     name: &Text,
 ) -> Result<LoadStep, SuiteFault>
     ensures ok { IfOk result (λ step. EntersFile (record { file = file.now; line = line })
-        registry (beside file.now name.now) step) }
+        registry (sibling_of file.now name.now) step) }
     ensures err { IfErr result (λ fault. Enters (record { file = file.now; line = line })
-        registry (beside file.now name.now) (Err fault)) }
+        registry (sibling_of file.now name.now) (Err fault)) }
 {
     match sibling_path(alloc, file, name) {
         Err(refusal) => Err(no_memory(alloc, refusal)),
-        Ok(path) => match enter(alloc, file, line, registry, &path) {
+        Ok(path) => match count_include(alloc, file, line, registry, &path) {
             Err(fault) => Err(fault),
             Ok(next) => Ok(LoadStep::Enter(next, path)),
         },
@@ -94,10 +95,10 @@ fn include(
 
 /// Registers the program `named`, and returns the registry with this program.
 ///
-/// The path in `named` is a name in the directory of `file`, and the statement is in the line
-/// `line` of `file`. Fails if no regular file is at the path of the program, if 10,000 programs are
-/// already registered, or if an allocation fails.
-fn register<T: Tree>(
+/// The path in `named` is a name in the directory of `file`. The statement that registers the
+/// program is in the line `line` of `file`. Fails if no regular file is at the path of the program,
+/// if 10,000 programs are already registered, or if an allocation fails.
+fn register_program<T: Tree>(
     alloc: Global,
     tree: &mut T,
     file: &Text,
@@ -105,8 +106,8 @@ fn register<T: Tree>(
     registry: Registry,
     named: Program,
 ) -> Result<Registry, SuiteFault>
-    ensures { Adds T.asks tree.old tree.new (record { file = file.now; line = line })
-        registry (record named { path = beside file.now named.path }) result }
+    ensures { RegistersProgram T.asks tree.old tree.new (record { file = file.now; line = line })
+        registry (record named { path = sibling_of file.now named.path }) result }
 {
     let path = match sibling_path(alloc, file, &named.path) {
         Err(refusal) => return Err(no_memory(alloc, refusal)),
@@ -127,13 +128,14 @@ fn register<T: Tree>(
     }
 }
 
-/// Executes `stmt`, a statement after the first one of `file`, and returns the next step.
+/// Executes `stmt`, a statement after the first one of `file`, and returns the loader's next step.
 ///
-/// `suite` is the test suite that `file` has set so far. The statement may change it.
+/// `registry` is the state of the loader before the statement. `suite` is the test suite that
+/// `file` has set so far. The statement may change it.
 ///
 /// # Errors
 ///
-/// - [`SuiteFault`] with the line of the statement: the statement is wrong, the file may not be
+/// - [`SuiteFault`] with the line of the statement: the statement has an error, the file may not be
 ///   included, or the program can't be registered.
 /// - [`SuiteFault`] with the cause `NoMemory`: an allocation fails.
 pub fn step<T: Tree>(
@@ -150,7 +152,7 @@ pub fn step<T: Tree>(
     ensures suite { OnOk result (suite.new
         ≡ suite_after suite.old (meaning_of suite.old stmt.now.action)) }
 {
-    match read_statement(alloc, &*suite, &stmt.action) {
+    match statement_meaning(alloc, &*suite, &stmt.action) {
         Err(refusal) => Err(no_memory(alloc, refusal)),
         Ok(Meaning::Wrong(cause)) => Err(fault_at(file, alloc, stmt.line, cause)),
         Ok(Meaning::Suite(name)) => {
@@ -165,7 +167,7 @@ pub fn step<T: Tree>(
                 suite: own,
                 props,
             };
-            match register(alloc, tree, file, stmt.line, registry, named) {
+            match register_program(alloc, tree, file, stmt.line, registry, named) {
                 Err(fault) => Err(fault),
                 Ok(next) => Ok(LoadStep::Next(next)),
             }

@@ -14,19 +14,20 @@ use std::alloc::Global;
 /// A kind of key in the table of a call that registers a program.
 #[derive(Clone, Copy)]
 enum Key {
-    /// The name of the program.
+    /// The key `name`, whose value is the name of the program.
     Name,
-    /// The test suite of the program.
+    /// The key `test_suite`, whose value is the test suite of the program.
     TestSuite,
-    /// A property that a Kyuafile may set.
+    /// The name of a property that a Kyuafile may set.
     Property,
     /// A key that a table may not have.
     Unknown,
 }
 
-/// Returns the kind of the key `name` in the table of a call that registers a program.
+/// Returns the kind of a key that is spelled `name`, in the table of a call that registers a
+/// program.
 #[tactic(auto, unfolding(crate::proofs::Common::chars))]
-fn key_of(name: &Text) -> Key
+fn key_kind(name: &Text) -> Key
     ensures { result ≡ key_named name.now }
 {
     if name.is_word("name") {
@@ -40,7 +41,7 @@ fn key_of(name: &Text) -> Key
     }
 }
 
-/// The declarations in the table of a call that registers a program.
+/// A table of a call that registers a program, with the last value of each key.
 pub struct ProgramTable {
     /// The name of the program, which may be empty, or `None` if the table has no key `name`.
     pub name: Option<Text>,
@@ -67,7 +68,8 @@ impl ProgramTable {
 
     /// Returns the meaning of the table: the program that it declares, or the cause of its error.
     ///
-    /// `file` is the test suite that the file has set for programs without their own, if any.
+    /// The program has the interface `interface`. `file` is the test suite that the file has set
+    /// for programs without their own, if any.
     fn meaning(self, interface: Interface, file: &Option<Text>) -> Result<Meaning, NoMemory>
         ensures { IfOk result (λ meaning. meaning
             ≡ named interface file.now self.suite self.props self.name) }
@@ -95,15 +97,16 @@ impl ProgramTable {
     }
 }
 
-/// Returns the table `found` with the property `name` set to `value`.
+/// Returns the table `found` with the property `name` set to `value`, or the cause `BadValue`.
 ///
-/// Returns the cause `BadValue` if the property does not accept `value`.
+/// The cause is returned if the property does not accept `value`.
 fn set_property(
     found: ProgramTable,
     name: &Text,
     value: &Text,
 ) -> Result<Result<ProgramTable, SuiteCause>, NoMemory>
-    ensures { (before : List Variable) → found.props ≡ last_values before → IfOk result (λ next. next
+    ensures { (before : List Variable) → found.props ≡ last_values before
+        → IfOk result (λ next. next
         ≡ with_props found (props_with before (record { name = name.now; value = value.now }))) }
 {
     let mut found = found;
@@ -117,7 +120,7 @@ fn set_property(
 /// Returns the table `found` with the declaration of `pair`, or the cause of the error in `pair`.
 ///
 /// The declaration replaces an earlier declaration of its key.
-fn declare_pair(
+fn set_pair(
     alloc: Global,
     found: ProgramTable,
     pair: &Pair,
@@ -127,7 +130,7 @@ fn declare_pair(
 {
     let mut found = found;
     let value = pair.value.text(alloc)?;
-    match key_of(&pair.name) {
+    match key_kind(&pair.name) {
         Key::Unknown => Ok(Err(SuiteCause::UnknownProperty)),
         Key::Name => {
             found.name = Some(value);
@@ -141,8 +144,8 @@ fn declare_pair(
     }
 }
 
-/// Returns the declarations of a table, or the cause of the error in its first pair that has one.
-fn read_table(alloc: Global, pairs: &[Pair]) -> Result<Result<ProgramTable, SuiteCause>, NoMemory>
+/// Returns the table that `pairs` declare, or the cause of the error in the first invalid pair.
+fn build_table(alloc: Global, pairs: &[Pair]) -> Result<Result<ProgramTable, SuiteCause>, NoMemory>
     ensures { IfOk result (λ found. found ≡ declared pairs.now) }
 {
     let mut found = ProgramTable {
@@ -151,7 +154,7 @@ fn read_table(alloc: Global, pairs: &[Pair]) -> Result<Result<ProgramTable, Suit
         props: Props::new(alloc),
     };
     for pair in pairs {
-        match declare_pair(alloc, found, pair)? {
+        match set_pair(alloc, found, pair)? {
             Ok(next) => found = next,
             Err(cause) => return Ok(Err(cause)),
         }
@@ -167,7 +170,7 @@ fn read_table(alloc: Global, pairs: &[Pair]) -> Result<Result<ProgramTable, Suit
 /// # Errors
 ///
 /// - `NoMemory`: an allocation fails.
-pub fn read_program(
+pub fn program_call_meaning(
     alloc: Global,
     interface: Interface,
     file: &Option<Text>,
@@ -177,7 +180,7 @@ pub fn read_program(
 {
     match arg {
         Arg::Value(_) => Ok(Meaning::Wrong(SuiteCause::BadValue)),
-        Arg::Table(pairs) => match read_table(alloc, pairs.as_slice())? {
+        Arg::Table(pairs) => match build_table(alloc, pairs.as_slice())? {
             Err(cause) => Ok(Meaning::Wrong(cause)),
             Ok(found) => found.meaning(interface, file),
         },

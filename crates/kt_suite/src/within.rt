@@ -3,9 +3,9 @@ ghost use Rattle.kt_suite.specs.Common.{is_within};
 
 use kt_base::Text;
 
-/// Returns `true` if a component of `path` can end at the index `place`.
+/// Returns `true` if the byte of `path` at the index `place` is a slash, or if there is no byte.
 ///
-/// The byte at `place` is a slash, or `path` has no byte there.
+/// A component of `path` can end only at such an index.
 fn ends_component_at(path: &[u8], place: usize) -> bool
     ensures { result ≡ is_within [] (drop place path.now) }
 {
@@ -15,7 +15,7 @@ fn ends_component_at(path: &[u8], place: usize) -> bool
     }
 }
 
-/// Returns `true` if a component can end before `rest`, which is empty or begins with a slash.
+/// Returns `true` if `rest` is empty or begins with a slash, so that a component can end before it.
 fn ends_component(rest: &str) -> bool
     ensures { result ≡ is_within [] (chars rest.now) }
 {
@@ -27,8 +27,8 @@ fn ends_component(rest: &str) -> bool
 
 /// Returns `true` if the path `path` is `directory` or is below `directory`.
 ///
-/// The paths are compared as texts. The byte of `path` at the index of the length of `directory` is
-/// compared first, since this rejects most paths.
+/// The paths are compared as texts. The byte of `path` after the length of `directory` is checked
+/// first, since this rejects most paths.
 pub fn is_within(directory: &Text, path: &Text) -> bool
     ensures { result ≡ is_within directory.now path.now }
 {

@@ -3,7 +3,7 @@ use Rattle.std.specs.Prelude.{◌≡◌, ℕ, ◌+◌, ◌≤◌, Bool, true, fa
 use Rattle.std.specs.List.{list_any, filter_map}
 use Rattle.kt_base.specs.Lines.{is_newline, lines}
 use Rattle.kt_claim.specs.Inner.LineStates.{LineState, IsStateAfter}
-use Rattle.kt_claim.specs.TapStream.{is_bail, is_test, is_unexcused, plan, count, heard, without_return}
+use Rattle.kt_claim.specs.TapStream.{is_bail_out, is_test, is_unexcused, plan, count, lines_before_bail_out, without_cr}
 use Rattle.kt_claim.specs.declared.begun.OpenLine.{OpenLine}
 use Rattle.kt_claim.specs.declared.tally.Tally.{Tally}
 
@@ -25,22 +25,22 @@ has_second _ = false
 -- `IsTally tally lines`: `tally` has the counts and plans of `lines` before the first bail out, and
 -- whether a line bails out.
 pub record IsTally (tally : Tally) (lines : List (List ℕ)) : Type 0 where
-  pub bailed : tally.bailed ≡ list_any is_bail lines
-  pub planned : tally.plan ≡ first (filter_map plan (heard lines))
-  pub second : tally.second ≡ has_second (filter_map plan (heard lines))
-  pub tests : tally.tests ≡ count is_test (heard lines)
-  pub failures : tally.failures ≡ count is_unexcused (heard lines)
+  pub bailed : tally.bailed ≡ list_any is_bail_out lines
+  pub planned : tally.plan ≡ first (filter_map plan (lines_before_bail_out lines))
+  pub second : tally.second ≡ has_second (filter_map plan (lines_before_bail_out lines))
+  pub tests : tally.tests ≡ count is_test (lines_before_bail_out lines)
+  pub failures : tally.failures ≡ count is_unexcused (lines_before_bail_out lines)
 
 -- `state_of line`: the state of the open line `line`, with its kept bytes as a list.
 abbrev pub state_of : OpenLine → LineState
 state_of line = record { begun = line.begun; kept = line.kept.items; held = line.held }
 
--- `HasLines tally line fed`: `fed` is complete lines with the counts of `tally`, then an open line
--- in the state `line`.
+-- `HasLines tally line fed`: the bytes `fed` are complete lines with the counts of `tally`,
+-- followed by an open line in the state `line`.
 pub record HasLines (tally : Tally) (line : LineState) (fed : List ℕ) : Type 0 where
   pub whole : List (List ℕ)
   pub open_line : List ℕ
-  pub tallied : IsTally tally (map without_return whole)
+  pub tallied : IsTally tally (map without_cr whole)
   pub one_line : list_any is_newline open_line ≡ false
   pub rest : (more : List ℕ) → lines (fed ++ more) ≡ whole ++ lines (open_line ++ more)
   pub fits : length whole + length open_line ≤ length fed

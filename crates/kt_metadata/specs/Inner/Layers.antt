@@ -19,19 +19,19 @@ pair_in entry = record { name = chars (string_bytes entry.0); value = entry.1.te
 abbrev pub pairs_in : {Z : Type 0} → List (String Z × PropertyDefinition) → List Variable
 pairs_in entries = map pair_in entries
 
--- `IsRead name it`: the definition `it` of the property `name` is consistent: its value is the one
--- that its text represents.
-abbrev pub IsRead : List ℕ → PropertyDefinition → Type 0
-IsRead name it = value_of_text name it.text ≡ Some it.value
+-- `IsConsistent name it`: the definition `it` of the property `name` is consistent: its value is
+-- the value that its text represents.
+abbrev pub IsConsistent : List ℕ → PropertyDefinition → Type 0
+IsConsistent name it = value_of_text name it.text ≡ Some it.value
 
 -- `HaveParsedValues entries`: each of the entries `entries` of a layer's map is consistent: the
--- value in its definition is the one that its text represents.
+-- value in its definition is the value that its text represents.
 abbrev pub HaveParsedValues : {Z : Type 0} → List (String Z × PropertyDefinition) → Type 0
 HaveParsedValues [] = Unit {0}
-HaveParsedValues (entry ∷ entries) = IsRead (chars (string_bytes entry.0)) entry.1 × HaveParsedValues entries
+HaveParsedValues (entry ∷ entries) = IsConsistent (chars (string_bytes entry.0)) entry.1 × HaveParsedValues entries
 
 -- `AreConsistent entries`: the entries `entries` of a layer's map are consistent: each name occurs
--- at most once, and each value is the one that its text represents.
+-- at most once, and each value is the value that its text represents.
 pub record AreConsistent {Z : Type 0} (entries : List (String Z × PropertyDefinition)) : Type 0 where
   pub settled : pairs_in entries ≡ last_values (pairs_in entries)
   pub read : HaveParsedValues entries

@@ -1,40 +1,41 @@
 -- The steps of a report whose details are read one entry at a time.
 use Rattle.std.specs.Prelude.{ℕ, Bool, true, false, List, [], ◌≡◌, Option, Result, Ok, Err}
-use Rattle.kt_base.specs.Shows.{Shows}
+use Rattle.kt_base.specs.Emits.{Emits}
 use Rattle.kt_base.specs.declared.entry.Entry.{Entry}
 use Rattle.kt_base.specs.declared.verdict.Kind.{Kind}
-use Rattle.kt_report.specs.Details.{EndsOverDetails, Filled}
+use Rattle.kt_report.specs.Details.{EndsReport, ReadsDetails}
 use Rattle.kt_report.specs.Layouts.{Layout}
 use Rattle.kt_report.specs.Texts.{last_kind, sections_layout, titled_lines}
-use Rattle.kt_report.specs.declared.report_stop.ReportStop.{ReportStop}
-use Rattle.kt_report.specs.declared.report_stop.ReportStop.TheVariants.{Details, Report}
+use Rattle.kt_report.specs.declared.write_report_error.WriteReportError.{WriteReportError}
+use Rattle.kt_report.specs.declared.write_report_error.WriteReportError.TheVariants.{Details, Report}
 
 module _ {S F : Type 0} (reads : S → Entry → Result Entry F → S → Type 0) (old : S) (was now : Option (List ℕ)) (new : S) where
-  -- `WritesFirst layout due`: the beginning of a report was written, up to the end of the entries
-  -- `due`, with the details of each entry.
+  -- `WritesFirst layout due`: the beginning of a report with the layout `layout` was written, up to
+  -- the end of the entries `due`, with the details of each entry. The reads lead from the state
+  -- `old` to the state `new`, and the writes change the writer's contents from `was` to `now`.
   abbrev pub WritesFirst : Layout → List Entry → Type 0
-  WritesFirst layout due = (shown : List Entry) × Filled reads old due shown new × Shows was now false (layout.first shown)
+  WritesFirst layout due = (shown : List Entry) × ReadsDetails reads old due shown new × Emits was now false (layout.first shown)
 
   module _ {E : Type 0} (text : Entry → List ℕ) where
-    -- `EndsEntry e answer`: the text of the entry `e` was written with the details that were read
-    -- for it, or `answer` is the error that ended it.
-    abbrev pub EndsEntry : Entry → Result (Unit {0}) (ReportStop F E) → Type 0
-    EndsEntry e (Ok done) = (full : Entry) × reads old e (Ok full) new × (full.verdict.kind ≡ e.verdict.kind) × Shows was now false (text full)
+    -- `EndsEntry e answer`: the details of the entry `e` were read, and its text `text` was
+    -- written. Otherwise, `answer` is the error of the read or of the write.
+    abbrev pub EndsEntry : Entry → Result (Unit {0}) (WriteReportError F E) → Type 0
+    EndsEntry e (Ok done) = (full : Entry) × reads old e (Ok full) new × (full.verdict.kind ≡ e.verdict.kind) × Emits was now false (text full)
     EndsEntry e (Err (Details fault)) = reads old e (Err fault) new × (now ≡ was)
-    EndsEntry e (Err (Report fault)) = (full : Entry) × reads old e (Ok full) new × (full.verdict.kind ≡ e.verdict.kind) × Shows was now true (text full)
+    EndsEntry e (Err (Report fault)) = (full : Entry) × reads old e (Ok full) new × (full.verdict.kind ≡ e.verdict.kind) × Emits was now true (text full)
 
-    -- `WritesEntry e answer`: `EndsEntry`, as a record.
-    pub record WritesEntry (e : Entry) (answer : Result (Unit {0}) (ReportStop F E)) : Type 0 where
+    -- `WritesEntry e answer`: the fact `EndsEntry e answer`, as a record.
+    pub record WritesEntry (e : Entry) (answer : Result (Unit {0}) (WriteReportError F E)) : Type 0 where
       pub ends : EndsEntry e answer
 
   module _ {E : Type 0} (verbose : Bool) (before : Option Kind) (due : List Entry) where
     -- `EndsEntries answer`: the lines of `due` were written after an entry of the kind `before`,
     -- with their titles and the details of each entry. `answer` is the kind of the last entry, or
-    -- the error that ended them.
-    abbrev pub EndsEntries : Result (Option Kind) (ReportStop F E) → Type 0
-    EndsEntries (Ok last) = (shown : List Entry) × Filled reads old due shown new × (last ≡ last_kind before shown) × Shows was now false (titled_lines verbose before shown)
-    EndsEntries (Err stop) = EndsOverDetails reads (sections_layout verbose before []) due old was now new (Err stop)
+    -- the error of a read or of a write.
+    abbrev pub EndsEntries : Result (Option Kind) (WriteReportError F E) → Type 0
+    EndsEntries (Ok last) = (shown : List Entry) × ReadsDetails reads old due shown new × (last ≡ last_kind before shown) × Emits was now false (titled_lines verbose before shown)
+    EndsEntries (Err stop) = EndsReport reads (sections_layout verbose before []) due old was now new (Err stop)
 
-    -- `WritesEntries answer`: `EndsEntries`, as a record.
-    pub record WritesEntries (answer : Result (Option Kind) (ReportStop F E)) : Type 0 where
+    -- `WritesEntries answer`: the fact `EndsEntries answer`, as a record.
+    pub record WritesEntries (answer : Result (Option Kind) (WriteReportError F E)) : Type 0 where
       pub ends : EndsEntries answer

@@ -1,11 +1,11 @@
 -- The effects of the scheduler's steps on its cases.
 use Rattle.std.specs.Prelude.{ℕ, Bool, true, false, List, ◌≡◌, ◌-◌, Option, Some, None, filter, map, not, ◌&&◌, slice_get, slice_set, if◌then◌else◌}
-use Rattle.kt_sched.specs.Types.{Body, Case, CaseRecord, Cleaning, Cleanup, Decided, Ended, EndedBody, Entry, Finished, Job, Judged, Output, Owing, Refused, Role, Running, Stage, Started, Taken, Waiting}
+use Rattle.kt_sched.specs.Types.{Body, Case, CaseRecord, Cleaning, Cleanup, Decided, Ended, EndedBody, Entry, Finished, Job, VerdictValue, Output, PendingCleanup, Refused, Role, Running, Stage, Started, Taken, Waiting}
 use Rattle.kt_status.specs.declared.cleanup_end.CleanupEnd.TheVariants as end
 use Rattle.kt_status.specs.Tables.{IsVerdict, IsVerdictOfRefusal, IsVerdictAfterCleanup}
-use Rattle.kt_sched.specs.EntryOf.{no_output}
+use Rattle.kt_sched.specs.EntryOf.{empty_output}
 use Rattle.kt_sched.specs.Trace.{Event, Start, End}
-use Rattle.kt_sched.specs.SchedState.{decided_record, ended_body, entry_with, record_in}
+use Rattle.kt_sched.specs.SchedState.{unstarted_record, ended_body, entry_with, record_in}
 
 -- `stage_runs role stage`: a case in the stage `stage` has a running child in the role `role`.
 abbrev pub stage_runs : Role → Stage → Bool
@@ -13,19 +13,19 @@ stage_runs Body (Running m) = true
 stage_runs Cleanup (Cleaning b) = true
 stage_runs role other = false
 
--- `first_stage decided`: the stage of a case with the decided verdict `decided`, if any, before the
--- first response.
-abbrev pub first_stage : Option Judged → Stage
-first_stage None = Waiting
-first_stage (Some verdict) = Decided
+-- `initial_stage decided`: the stage of a case with the decided verdict `decided`, if any, before
+-- the first response.
+abbrev pub initial_stage : Option VerdictValue → Stage
+initial_stage None = Waiting
+initial_stage (Some verdict) = Decided
 
--- `first_case job`: the case of `job` before the first response.
-abbrev pub first_case : Job → Case
-first_case job = record { job = job; stage = first_stage job.decided }
+-- `initial_case job`: the case of `job` before the first response.
+abbrev pub initial_case : Job → Case
+initial_case job = record { job = job; stage = initial_stage job.decided }
 
--- `Replaced old new i stage was`: `new` are the cases `old`, but case `i` has the stage `stage`
+-- `ReplacesStage old new i stage was`: `new` are the cases `old`, but case `i` has the stage `stage`
 -- instead of `was`.
-pub record Replaced (old new : List Case) (i : ℕ) (stage was : Stage) : Type 0 where
+pub record ReplacesStage (old new : List Case) (i : ℕ) (stage was : Stage) : Type 0 where
   pub job : Job
   pub found : slice_get old i ≡ Some (record { job = job; stage = was })
   pub changed : new ≡ slice_set old i (record { job = job; stage = stage })
@@ -42,44 +42,45 @@ pub record TakesEntry (old new : List Case) (i : ℕ) (entry : Entry) : Type 0 w
   pub is : entry ≡ entry_with had case_record
   pub changed : new ≡ slice_set old i (record { job = left; stage = Taken })
 
--- `record_of verdict body last output`: the record of a case with the verdict `verdict` and the
+-- `record_after_cleanup verdict body last output`: the record of a case with the verdict `verdict` and the
 -- ended body `body`. Its cleanup has the output `output`, and was over at the timestamp `last`.
-abbrev pub record_of : Judged → EndedBody → ℕ → Output → CaseRecord
-record_of verdict body last output =
+abbrev pub record_after_cleanup : VerdictValue → EndedBody → ℕ → Output → CaseRecord
+record_after_cleanup verdict body last output =
     record { verdict = verdict; started = body.started; millis = last - body.started; body = body.output; cleanup = output }
 
--- `plain_record verdict started e`: the record of a case with the verdict `verdict` and without a
+-- `record_without_cleanup verdict started e`: the record of a case with the verdict `verdict` and without a
 -- declared cleanup. Its body started at the timestamp `started` and ended with `e`.
-abbrev pub plain_record : Judged → ℕ → Ended → CaseRecord
-plain_record verdict started e =
-    record { verdict = verdict; started = started; millis = e.moment - started; body = e.output; cleanup = no_output }
+abbrev pub record_without_cleanup : VerdictValue → ℕ → Ended → CaseRecord
+record_without_cleanup verdict started e =
+    record { verdict = verdict; started = started; millis = e.moment - started; body = e.output; cleanup = empty_output }
 
 -- `can_start role stage`: a case in the stage `stage` can be started in the role `role`.
 abbrev pub can_start : Role → Stage → Bool
 can_start Body Waiting = true
-can_start Cleanup (Owing b) = true
+can_start Cleanup (PendingCleanup b) = true
 can_start role other = false
 
--- `IsAfter cleanup was event now`: `event` moves a case from the stage `was` to the stage `now`.
--- `cleanup` is true if the case declares a cleanup.
-abbrev pub IsAfter : Bool → Stage → Event → Stage → Type 0
-IsAfter cleanup Waiting (Start i Body (Started m)) (Running k) = k ≡ m
-IsAfter cleanup Waiting (Start i Body (Refused c)) (Finished t) = IsVerdictOfRefusal c t.verdict × (t ≡ decided_record t.verdict)
-IsAfter cleanup (Owing b) (Start i Cleanup (Started m)) (Cleaning x) = x ≡ b
-IsAfter cleanup (Owing b) (Start i Cleanup (Refused c)) (Finished t) =
-    IsVerdictAfterCleanup b.verdict end.Refused t.verdict × (t ≡ record_of t.verdict b b.ended no_output)
-IsAfter cleanup (Running m) (End e) (Owing b) =
+-- `ChangesStage cleanup was event now`: `event` moves a case from the stage `was` to the stage
+-- `now`. `cleanup` is true if the case declares a cleanup.
+abbrev pub ChangesStage : Bool → Stage → Event → Stage → Type 0
+ChangesStage cleanup Waiting (Start i Body (Started m)) (Running k) = k ≡ m
+ChangesStage cleanup Waiting (Start i Body (Refused c)) (Finished t) = IsVerdictOfRefusal c t.verdict × (t ≡ unstarted_record t.verdict)
+ChangesStage cleanup (PendingCleanup b) (Start i Cleanup (Started m)) (Cleaning x) = x ≡ b
+ChangesStage cleanup (PendingCleanup b) (Start i Cleanup (Refused c)) (Finished t) =
+    IsVerdictAfterCleanup b.verdict end.Refused t.verdict × (t ≡ record_after_cleanup t.verdict b b.ended empty_output)
+ChangesStage cleanup (Running m) (End e) (PendingCleanup b) =
     (stage_runs e.role (Running m) ≡ true) × (cleanup ≡ true) × IsVerdict e.evidence e.outcome b.verdict × (b ≡ ended_body b.verdict m e)
-IsAfter cleanup (Running m) (End e) (Finished t) =
-    (stage_runs e.role (Running m) ≡ true) × (cleanup ≡ false) × IsVerdict e.evidence e.outcome t.verdict × (t ≡ plain_record t.verdict m e)
-IsAfter cleanup (Cleaning b) (End e) (Finished t) =
-    (stage_runs e.role (Cleaning b) ≡ true) × IsVerdictAfterCleanup b.verdict (end.Ended e.outcome) t.verdict × (t ≡ record_of t.verdict b e.moment e.output)
-IsAfter cleanup was e now = ⊥
+ChangesStage cleanup (Running m) (End e) (Finished t) =
+    (stage_runs e.role (Running m) ≡ true) × (cleanup ≡ false) × IsVerdict e.evidence e.outcome t.verdict × (t ≡ record_without_cleanup t.verdict m e)
+ChangesStage cleanup (Cleaning b) (End e) (Finished t) =
+    (stage_runs e.role (Cleaning b) ≡ true) × IsVerdictAfterCleanup b.verdict (end.Ended e.outcome) t.verdict × (t ≡ record_after_cleanup t.verdict b e.moment e.output)
+ChangesStage cleanup was e now = ⊥
 
--- `owing_at stage i`: `i` if a case in the stage `stage` owes its cleanup, else `None`.
-abbrev pub owing_at : Stage → ℕ → Option ℕ
-owing_at (Owing b) i = Some i
-owing_at _ i = None
+-- `pending_at stage i`: `i` if the cleanup of a case in the stage `stage` is to be started, else
+-- `None`.
+abbrev pub pending_at : Stage → ℕ → Option ℕ
+pending_at (PendingCleanup b) i = Some i
+pending_at _ i = None
 
 -- `is_over stage`: a case in the stage `stage` has a whole history.
 abbrev pub is_over : Stage → Bool
@@ -93,12 +94,12 @@ is_over _ = false
 abbrev pub ready_at : Stage → Bool → ℕ → Option ℕ
 ready_at stage failed i = if is_over stage && not failed then Some i else None
 
--- `same_flag flag other`: `flag` and `other` are equal.
-abbrev pub same_flag : Bool → Bool → Bool
-same_flag true b = b
-same_flag false b = not b
+-- `is_same_flag flag other`: `flag` and `other` are equal.
+abbrev pub is_same_flag : Bool → Bool → Bool
+is_same_flag true b = b
+is_same_flag false b = not b
 
 -- `positions_where flag jobs`: the positions of the exclusive jobs among `jobs` if `flag` is true,
 -- else of the ordinary jobs.
 abbrev pub positions_where : Bool → List Job → List ℕ
-positions_where flag jobs = map (λ (job : Job). job.position) (filter (λ (job : Job). same_flag flag job.exclusive) jobs)
+positions_where flag jobs = map (λ (job : Job). job.position) (filter (λ (job : Job). is_same_flag flag job.exclusive) jobs)

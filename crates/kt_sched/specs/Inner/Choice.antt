@@ -1,20 +1,21 @@
--- The case at the turn, and the chosen step.
+-- The next case in turn order, and the chosen step.
 use Rattle.std.specs.Prelude.{ℕ, true, ◌≡◌, ◌<◌, ◌≤◌, ◌⊎◌, length, slice_get, Option, Some, None}
 use Rattle.kt_sched.specs.Types.{Body, Cleanup, Next}
 use Rattle.kt_sched.specs.declared.next.Next.TheVariants as next
-use Rattle.kt_sched.specs.SchedState.{SchedState, HasExclusive, HasTurn}
+use Rattle.kt_sched.specs.SchedState.{SchedState, HasExclusiveFlag, HasTurn}
 
--- `HasNoTurn b`: no case can be started or put at its turn in the state `b`. Either a put failed,
--- no case is left, or there is no free slot for the case at the turn.
+-- `HasNoTurn b`: in the state `b`, the next case in turn order can't be started or put. Either a
+-- put failed, no case is left, or there is no free slot for this case.
 abbrev pub HasNoTurn : SchedState → Type 0
 HasNoTurn b =
-    (b.failed ≡ true) ⊎ ((length b.order ≤ b.turn) ⊎ ((b.width ≤ b.active) ⊎ ((0 < b.active) × ((i : ℕ) × (slice_get b.order b.turn ≡ Some i) × HasExclusive b.cases i true))))
+    (b.failed ≡ true) ⊎ ((length b.order ≤ b.turn) ⊎ ((b.width ≤ b.active) ⊎ ((0 < b.active) × ((i : ℕ) × (slice_get b.order b.turn ≡ Some i) × HasExclusiveFlag b.cases i true))))
 
--- `IsTurn b case`: in the state `b`, `case` is the position of the case at the turn if no put
--- failed and there is a free slot for it, else `None`.
-abbrev pub IsTurn : SchedState → Option ℕ → Type 0
-IsTurn b None = HasNoTurn b
-IsTurn b (Some i) = HasTurn b i
+-- `IsStartableCase b case`: in the state `b`, `case` is the position of the next case in turn
+-- order. It is `None` if a put failed, if no case is left, or if there is no free slot for the
+-- case.
+abbrev pub IsStartableCase : SchedState → Option ℕ → Type 0
+IsStartableCase b None = HasNoTurn b
+IsStartableCase b (Some i) = HasTurn b i
 
 -- `IsChosen b next`: the scheduler chooses the step `next` in the state `b`.
 abbrev pub IsChosen : SchedState → Next → Type 0

@@ -7,7 +7,7 @@ use Rattle.kt_base.specs.declared.child.Outcome.TheVariants.{Exited, Signaled, T
 use Rattle.kt_base.specs.declared.failed_start.Refused.{Refused}
 use Rattle.kt_base.specs.Reasons.{outcome_text, reason_text, refused_reason}
 use Rattle.kt_base.specs.Kinds.{good}
-use Rattle.kt_base.specs.Verdicts.{Judged, passed, skipped, expected_failure, failed, broken}
+use Rattle.kt_base.specs.Verdicts.{VerdictValue, passed, skipped, expected_failure, failed, broken}
 use Rattle.kt_claim.specs.declared.evidence.Claim.{Claim}
 use Rattle.kt_claim.specs.declared.evidence.Claim.TheVariants.{Missing, Unreadable, Malformed, Passed, Failed, Skipped, ExpectedFailure, ExpectedDeath, ExpectedTimeout, ExpectedExit, ExpectedSignal}
 use Rattle.kt_claim.specs.declared.evidence.Tap.{Tap}
@@ -18,32 +18,32 @@ use Rattle.kt_status.specs.Tables.{claim_fault_text, tap_fault_text}
 use Rattle.kt_status.specs.declared.cleanup_end.CleanupEnd.{CleanupEnd}
 use Rattle.kt_status.specs.declared.cleanup_end.CleanupEnd.TheVariants as cleanup
 
--- `exits_with n ending`: a process with the outcome `ending` exited with status `n`.
+-- `exits_with n ending`: a process with the outcome `ending` exited with the status `n`.
 abbrev pub exits_with : ℕ → Outcome → Bool
 exits_with n (Exited code) = nat_eq code n
 exits_with n _ = false
 
--- `expected_exit due reason ending`: the verdict if the result file claims an expected exit for
+-- `exit_claim_verdict due reason ending`: the verdict if the result file claims an expected exit for
 -- `reason`, and the outcome is `ending`. The claimed status is `due`, or any status if `due` is
 -- `None`.
-abbrev pub expected_exit : Option ℕ → List ℕ → Outcome → Judged
-expected_exit None reason (Exited _) = expected_failure reason
-expected_exit (Some due) reason (Exited code) =
+abbrev pub exit_claim_verdict : Option ℕ → List ℕ → Outcome → VerdictValue
+exit_claim_verdict None reason (Exited _) = expected_failure reason
+exit_claim_verdict (Some due) reason (Exited code) =
     if nat_eq due code then expected_failure reason else failed (codes "Expected exit code " ++ decimal due ++ codes " but got " ++ decimal code)
-expected_exit _ _ ending = broken (codes "Expected clean exit but " ++ outcome_text ending)
+exit_claim_verdict _ _ ending = broken (codes "Expected clean exit but " ++ outcome_text ending)
 
--- `expected_signal due reason ending`: the verdict if the result file claims an expected signal for
+-- `signal_claim_verdict due reason ending`: the verdict if the result file claims an expected signal for
 -- `reason`, and the outcome is `ending`. The claimed signal is `due`, or any signal if `due` is
 -- `None`.
-abbrev pub expected_signal : Option ℕ → List ℕ → Outcome → Judged
-expected_signal None reason (Signaled _ _) = expected_failure reason
-expected_signal (Some due) reason (Signaled signal _) =
+abbrev pub signal_claim_verdict : Option ℕ → List ℕ → Outcome → VerdictValue
+signal_claim_verdict None reason (Signaled _ _) = expected_failure reason
+signal_claim_verdict (Some due) reason (Signaled signal _) =
     if nat_eq due signal then expected_failure reason else failed (codes "Expected signal " ++ decimal due ++ codes " but got " ++ decimal signal)
-expected_signal _ _ ending = broken (codes "Expected signal but " ++ outcome_text ending)
+signal_claim_verdict _ _ ending = broken (codes "Expected signal but " ++ outcome_text ending)
 
--- `atf_exit_verdict claim ending`: the verdict on an ATF case with the claim `claim` whose body exited or
--- received a signal. `ending` is the exit status or the signal.
-abbrev pub atf_exit_verdict : Claim → Outcome → Judged
+-- `atf_exit_verdict claim ending`: the verdict on an ATF case with the claim `claim` whose body
+-- exited or received a signal. `ending` is the exit status or the signal.
+abbrev pub atf_exit_verdict : Claim → Outcome → VerdictValue
 atf_exit_verdict Missing ending = broken (codes "Premature exit; test case " ++ outcome_text ending)
 atf_exit_verdict Unreadable ending = broken (codes "Results file could not be read")
 atf_exit_verdict (Malformed fault) ending = broken (codes "Invalid result file: " ++ claim_fault_text fault)
@@ -53,32 +53,33 @@ atf_exit_verdict (ExpectedFailure reason) ending =
     if exits_with 0 ending then expected_failure reason else broken (codes "Expected failure should have reported success but " ++ outcome_text ending)
 atf_exit_verdict (Failed reason) ending = if exits_with 1 ending then failed reason else broken (codes "Failed test case should have reported failure but " ++ outcome_text ending)
 atf_exit_verdict (ExpectedDeath reason) ending = expected_failure reason
-atf_exit_verdict (ExpectedExit due reason) ending = expected_exit due reason ending
-atf_exit_verdict (ExpectedSignal due reason) ending = expected_signal due reason ending
+atf_exit_verdict (ExpectedExit due reason) ending = exit_claim_verdict due reason ending
+atf_exit_verdict (ExpectedSignal due reason) ending = signal_claim_verdict due reason ending
 atf_exit_verdict (ExpectedTimeout reason) ending = broken (codes "Expected timeout but " ++ outcome_text ending)
 
--- `atf_timeout_verdict claim`: the verdict on an ATF case with the claim `claim` whose body timed out.
-abbrev pub atf_timeout_verdict : Claim → Judged
+-- `atf_timeout_verdict claim`: the verdict on an ATF case with the claim `claim` whose body timed
+-- out.
+abbrev pub atf_timeout_verdict : Claim → VerdictValue
 atf_timeout_verdict (ExpectedTimeout reason) = expected_failure reason
 atf_timeout_verdict _ = broken (codes "Test case body timed out")
 
 -- `atf_verdict claim ending`: the verdict on an ATF case with the claim `claim` whose body has the
 -- outcome `ending`.
-abbrev pub atf_verdict : Claim → Outcome → Judged
+abbrev pub atf_verdict : Claim → Outcome → VerdictValue
 atf_verdict claim WaitFailed = broken (codes "Test case could not be waited for")
 atf_verdict claim TimedOut = atf_timeout_verdict claim
 atf_verdict claim ending = atf_exit_verdict claim ending
 
 -- `plain_verdict ending`: the verdict on the case of a plain program with the outcome `ending`.
-abbrev pub plain_verdict : Outcome → Judged
+abbrev pub plain_verdict : Outcome → VerdictValue
 plain_verdict WaitFailed = broken (codes "Test case could not be waited for")
 plain_verdict TimedOut = broken (codes "Test case timed out")
 plain_verdict (Signaled signal _) = broken (codes "Received signal " ++ decimal signal)
 plain_verdict (Exited code) = if nat_eq code 0 then passed else failed (codes "Returned non-success exit status " ++ decimal code)
 
--- `tap_exit_verdict tap code`: the verdict on the case of a TAP program that printed the results `tap`
--- and exited with status `code`.
-abbrev pub tap_exit_verdict : Tap → ℕ → Judged
+-- `tap_exit_verdict tap code`: the verdict on the case of a TAP program that printed the results
+-- `tap` and exited with status `code`.
+abbrev pub tap_exit_verdict : Tap → ℕ → VerdictValue
 tap_exit_verdict BailedOut code = failed (codes "Bailed out")
 tap_exit_verdict (Invalid fault) code = broken (codes "TAP test program yielded invalid data: " ++ tap_fault_text fault)
 tap_exit_verdict (SkipAll reason) code = skipped reason
@@ -89,7 +90,7 @@ tap_exit_verdict (Counted some all) code =
 
 -- `tap_verdict tap ending`: the verdict on the case of a TAP program that printed the results `tap`
 -- and has the outcome `ending`.
-abbrev pub tap_verdict : Tap → Outcome → Judged
+abbrev pub tap_verdict : Tap → Outcome → VerdictValue
 tap_verdict tap WaitFailed = broken (codes "Test case could not be waited for")
 tap_verdict tap TimedOut = broken (codes "Test case timed out")
 tap_verdict tap (Signaled signal _) = broken (codes "Received signal " ++ decimal signal)
@@ -97,25 +98,25 @@ tap_verdict tap (Exited code) = tap_exit_verdict tap code
 
 -- `verdict_of evidence ending`: the verdict on a body with this `evidence` and the outcome
 -- `ending`, by the table for ATF, TAP or plain programs.
-abbrev pub verdict_of : Evidence → Outcome → Judged
+abbrev pub verdict_of : Evidence → Outcome → VerdictValue
 verdict_of (evidence.Atf claim) ending = atf_verdict claim ending
 verdict_of (evidence.Tap tap) ending = tap_verdict tap ending
 verdict_of evidence.Plain ending = plain_verdict ending
 
--- `verdict_of_refusal r`: the verdict on a case if its body, or the program for its list, failed to
--- start with the error `r`.
-abbrev pub verdict_of_refusal : Refused → Judged
+-- `verdict_of_refusal r`: the verdict on a case if the start of its body, or of the program that
+-- lists its cases, failed with the error `r`.
+abbrev pub verdict_of_refusal : Refused → VerdictValue
 verdict_of_refusal r = broken (reason_text (refused_reason r))
 
--- `cleaned body end`: the verdict on a case whose body has the good verdict `body`, after a cleanup
--- with the result `end`.
-abbrev pub cleaned : Judged → CleanupEnd → Judged
-cleaned body (cleanup.Ended (Exited code)) = if nat_eq code 0 then body else broken (codes "Test case cleanup did not terminate successfully")
-cleaned body (cleanup.Ended TimedOut) = broken (codes "Test case cleanup timed out")
-cleaned body (cleanup.Ended _) = broken (codes "Test case cleanup did not terminate successfully")
-cleaned body cleanup.Refused = broken (codes "Test case cleanup could not be started")
+-- `verdict_if_body_good body end`: the verdict on a case whose body has the good verdict `body`,
+-- after a cleanup with the result `end`.
+abbrev pub verdict_if_body_good : VerdictValue → CleanupEnd → VerdictValue
+verdict_if_body_good body (cleanup.Ended (Exited code)) = if nat_eq code 0 then body else broken (codes "Test case cleanup did not terminate successfully")
+verdict_if_body_good body (cleanup.Ended TimedOut) = broken (codes "Test case cleanup timed out")
+verdict_if_body_good body (cleanup.Ended _) = broken (codes "Test case cleanup did not terminate successfully")
+verdict_if_body_good body cleanup.Refused = broken (codes "Test case cleanup could not be started")
 
 -- `verdict_after_cleanup body end`: the verdict on a case whose body has the verdict `body`, after
 -- a cleanup with the result `end`. A bad verdict on the body is kept.
-abbrev pub verdict_after_cleanup : Judged → CleanupEnd → Judged
-verdict_after_cleanup body end = if good body.kind then cleaned body end else body
+abbrev pub verdict_after_cleanup : VerdictValue → CleanupEnd → VerdictValue
+verdict_after_cleanup body end = if good body.kind then verdict_if_body_good body end else body

@@ -10,13 +10,13 @@ use Rattle.kt_script.specs.declared.fault.ScriptFault.TheVariants as script
 use Rattle.kt_suite.specs.Faults.{IsNoMemory, fault_at}
 use Rattle.kt_suite.specs.Filters.{counts}
 use Rattle.kt_suite.specs.Selecting.{places, matches_item}
-use Rattle.kt_suite.specs.Tables.{value_cause, pair_fault, table_of, unless}
+use Rattle.kt_suite.specs.Tables.{value_cause, pair_fault, table_of, cause_or_value}
 
--- `props_with before pair`: the properties after the pairs `before` and then the pair `pair` have
--- set them, or the cause of the error in `pair`.
+-- `props_with before pair`: the properties that the pairs `before` and then the pair `pair` set, or
+-- the cause of the error in `pair`.
 abbrev pub props_with : List Variable → Variable → Result (List Variable) SuiteCause
 props_with before pair =
-    unless (value_cause (definition_fault pair.name pair.value)) (last_values (before ++ pair ∷ []))
+    cause_or_value (value_cause (definition_fault pair.name pair.value)) (last_values (before ++ pair ∷ []))
 
 -- `with_props found props`: the table `found` with the properties that `props` contains, or the
 -- cause of the error if `props` is an error.
@@ -27,18 +27,18 @@ with_props found (Err cause) = Err cause
 -- `table_with before pair`: the table of the pairs `before`, followed by the pair `pair`, or the
 -- cause of the error in `pair`.
 abbrev pub table_with : List Variable → Variable → Result ProgramTable SuiteCause
-table_with before pair = unless (pair_fault pair) (table_of (before ++ pair ∷ []))
+table_with before pair = cause_or_value (pair_fault pair) (table_of (before ++ pair ∷ []))
 
--- `joined path component`: the path `path` with the component `component` appended. A slash (47)
+-- `path_and_component path component`: the path `path` with the component `component` appended. A slash (47)
 -- separates them unless `path` is empty.
-abbrev pub joined : List ℕ → List ℕ → List ℕ
-joined [] component = component
-joined (c ∷ path) component = c ∷ path ++ 47 ∷ component
+abbrev pub path_and_component : List ℕ → List ℕ → List ℕ
+path_and_component [] component = component
+path_and_component (c ∷ path) component = c ∷ path ++ 47 ∷ component
 
 -- `with_component path component`: the path `path` with the component `component` appended, or
 -- `path` alone if `component` is empty or `.`.
 abbrev pub with_component : List ℕ → List ℕ → List ℕ
-with_component path component = if counts component then joined path component else path
+with_component path component = if counts component then path_and_component path component else path
 
 -- `all_positions filters`: the positions of all filters in the list `filters`, ascending, from 0.
 abbrev pub all_positions : List Filter → List ℕ
@@ -59,12 +59,12 @@ is_match filters item place = option_map_or (matches_item item) (slice_get filte
 abbrev pub is_miss : List Filter → Item → ℕ → Bool
 is_miss filters item place = not (is_match filters item place)
 
--- `Blames file line cause fault`: `fault` is the error with the cause `cause` in the line `line` of
+-- `IsFaultAt file line cause fault`: `fault` is the error with the cause `cause` in the line `line` of
 -- the file `file`, or the error of a failed allocation.
-abbrev pub Blames : List ℕ → ℕ → SuiteCause → SuiteFault → Type 0
-Blames file line cause fault = IsNoMemory fault ⊎ (fault ≡ fault_at file line cause)
+abbrev pub IsFaultAt : List ℕ → ℕ → SuiteCause → SuiteFault → Type 0
+IsFaultAt file line cause fault = IsNoMemory fault ⊎ (fault ≡ fault_at file line cause)
 
--- `IsText fault`: the error `fault` of a script is not a failed allocation.
-abbrev pub IsText : ScriptFault → Type 0
-IsText (script.NoMemory refusal) = ⊥
-IsText fault = Unit {0}
+-- `IsParseFault fault`: the error `fault` of a script is not a failed allocation.
+abbrev pub IsParseFault : ScriptFault → Type 0
+IsParseFault (script.NoMemory refusal) = ⊥
+IsParseFault fault = Unit {0}

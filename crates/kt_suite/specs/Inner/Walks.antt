@@ -9,35 +9,36 @@ use Rattle.kt_suite.specs.declared.registry.LoadStep.TheVariants.{Next, Enter}
 use Rattle.kt_base.specs.Chains.{Chain}
 use Rattle.kt_suite.specs.Answers.{Asked, Read, Exists}
 use Rattle.kt_suite.specs.Faults.{fault_at, IsNoMemory}
-use Rattle.kt_suite.specs.Marks.{Site, site_fault, lookup_mark, Mark, Asks, File, ProgramMark, Fault, Part, Says, Includes, said, FileGivesParts, entry_fault, Unfolds}
+use Rattle.kt_suite.specs.Marks.{Site, site_fault, lookup_mark, Mark, CallMark, File, ProgramMark, Fault, Part, OneMark, Includes, statement_parts, FileGivesParts, include_fault, Unfolds}
 use Rattle.kt_suite.specs.Meanings.{opening_fault}
-use Rattle.kt_suite.specs.Registered.{file_limit, program_limit, calls_in, Decides, IsNext}
+use Rattle.kt_suite.specs.Registered.{file_limit, program_limit, calls_in, Decides, IsAtMostNextCall}
 
--- `Counted r marks after`: the registry `after` is the registry `r` with the files and programs of
+-- `AddsMarks r marks after`: the registry `after` is the registry `r` with the files and programs of
 -- `marks` added. No mark is an error, and no file or program exceeds its limit.
-abbrev pub Counted : Registry → List Mark → Registry → Type 0
-Counted r [] after = after ≡ r
-Counted r (Asks question ∷ marks) after = Counted r marks after
-Counted r (File at ∷ marks) after = (r.files < file_limit) × Counted (record r { files = r.files + 1 }) marks after
-Counted r (ProgramMark at program ∷ marks) after =
-    (length r.programs < program_limit) × Counted (record r { programs = r.programs ++ program ∷ [] }) marks after
-Counted r (Fault fault ∷ marks) after = ⊥
+abbrev pub AddsMarks : Registry → List Mark → Registry → Type 0
+AddsMarks r [] after = after ≡ r
+AddsMarks r (CallMark question ∷ marks) after = AddsMarks r marks after
+AddsMarks r (File at ∷ marks) after = (r.files < file_limit) × AddsMarks (record r { files = r.files + 1 }) marks after
+AddsMarks r (ProgramMark at program ∷ marks) after =
+    (length r.programs < program_limit) × AddsMarks (record r { programs = r.programs ++ program ∷ [] }) marks after
+AddsMarks r (Fault fault ∷ marks) after = ⊥
 
--- `IsWalk leads old new Gives r result`: marks that have the property `Gives` were added to the
+-- `LoadsMarks leads old new Gives r result`: marks that have the property `Gives` were added to the
 -- registry `r`, one by one. `result` is the registry after the last mark, the error of the mark
 -- that decides, or the error of a failed allocation. By the relation `leads`, the calls among the
--- added marks lead from the tree's state `old` to its state `new`.
-pub data IsWalk {S : Type 0} (leads : S → Asked → S → Type 0) (old new : S) (Gives : List Mark → Type 0) (r : Registry)
+-- added marks lead from the tree's state `old` to its state `new`. Before a failed allocation, the
+-- next call may have been made, too.
+pub data LoadsMarks {S : Type 0} (leads : S → Asked → S → Type 0) (old new : S) (Gives : List Mark → Type 0) (r : Registry)
     : Result Registry SuiteFault → Type 0 where
   through : (marks : List Mark) (after : Registry)
-      → Gives marks → Chain leads old (calls_in marks) new → Counted r marks after
-      → IsWalk leads old new Gives r (Ok after)
+      → Gives marks → Chain leads old (calls_in marks) new → AddsMarks r marks after
+      → LoadsMarks leads old new Gives r (Ok after)
   stops : (front back : List Mark) (mark : Mark) (mid : Registry) (fault : SuiteFault)
-      → Gives (front ++ mark ∷ back) → Chain leads old (calls_in front) new → Counted r front mid
-      → Decides mid.files (length mid.programs) mark fault → IsWalk leads old new Gives r (Err fault)
+      → Gives (front ++ mark ∷ back) → Chain leads old (calls_in front) new → AddsMarks r front mid
+      → Decides mid.files (length mid.programs) mark fault → LoadsMarks leads old new Gives r (Err fault)
   short : (front back : List Mark) (more : List Asked) (mid : Registry) (fault : SuiteFault)
-      → Gives (front ++ back) → IsNext back more → Chain leads old (calls_in front ++ more) new → Counted r front mid
-      → IsNoMemory fault → IsWalk leads old new Gives r (Err fault)
+      → Gives (front ++ back) → IsAtMostNextCall back more → Chain leads old (calls_in front ++ more) new → AddsMarks r front mid
+      → IsNoMemory fault → LoadsMarks leads old new Gives r (Err fault)
 
 -- `FileGives files file marks`: `marks` are the marks of reading the file `file` while the files
 -- `files` are open.
@@ -50,43 +51,43 @@ pub record FileGives (files : List (List ℕ)) (file : List ℕ) (marks : List M
 -- `at` with the meaning `meaning` while the files `files` are open.
 pub record MeaningGives (files : List (List ℕ)) (at : Site) (meaning : Meaning) (marks : List Mark) : Type 0 where
   pub there : Bool
-  pub unfolds : Unfolds files (said at there meaning) marks
+  pub unfolds : Unfolds files (statement_parts at there meaning) marks
 
 module _ {S : Type 0} (leads : S → Asked → S → Type 0) (old new : S) where
-  -- `Adds at r program result`: the statement at the site `at` registers the program `program`.
-  -- `result` is the registry `r` with the program appended, or the error if its file is missing, if
-  -- it exceeds the limit, or if an allocation failed.
-  abbrev pub Adds : Site → Registry → Program → Result Registry SuiteFault → Type 0
-  Adds at r program result =
-      IsWalk leads old new (λ marks. (there : Bool) × (marks ≡ Asks (Exists program.path there) ∷ lookup_mark at program there ∷ [])) r result
+  -- `RegistersProgram at r program result`: the statement at the site `at` registers the program `program`.
+  -- `result` is the registry `r` with the program appended, or an error: the program's file is
+  -- missing, the program exceeds the limit, or an allocation failed.
+  abbrev pub RegistersProgram : Site → Registry → Program → Result Registry SuiteFault → Type 0
+  RegistersProgram at r program result =
+      LoadsMarks leads old new (λ marks. (there : Bool) × (marks ≡ CallMark (Exists program.path there) ∷ lookup_mark at program there ∷ [])) r result
 
 -- `Enters at r path result`: the statement at the site `at` includes the file at the path `path`.
 -- `result` is the registry `r` with this file counted, or the error if the file may not be included
 -- or an allocation failed.
 pub data Enters (at : Site) (r : Registry) (path : List ℕ) : Result Registry SuiteFault → Type 0 where
-  refuses : (cause : SuiteCause) → entry_fault r.reading path ≡ Some cause → Enters at r path (Err (site_fault at cause))
-  exceeds : entry_fault r.reading path ≡ None → file_limit ≤ r.files → Enters at r path (Err (site_fault at TooMany))
-  counts : entry_fault r.reading path ≡ None → r.files < file_limit
+  refuses : (cause : SuiteCause) → include_fault r.reading path ≡ Some cause → Enters at r path (Err (site_fault at cause))
+  exceeds : include_fault r.reading path ≡ None → file_limit ≤ r.files → Enters at r path (Err (site_fault at TooMany))
+  counts : include_fault r.reading path ≡ None → r.files < file_limit
       → Enters at r path (Ok (record r { files = r.files + 1 }))
   scant : (fault : SuiteFault) → IsNoMemory fault → Enters at r path (Err fault)
 
 -- `EntersFile at r path step`: the step `step` of the statement at the site `at` reads the file at
--- the path `path` next. This file is counted in the step's registry, which is `r` otherwise.
+-- the path `path` next. The step's registry is `r` with this file counted.
 abbrev pub EntersFile : Site → Registry → List ℕ → LoadStep → Type 0
 EntersFile at r path step = (next : Registry) × Enters at r path (Ok next) × (step ≡ Enter next path)
 
 -- `StepsTo leads old new r at meaning result`: a statement at the site `at` with the meaning
 -- `meaning` was executed with the registry `r`. By the relation `leads`, its calls lead from the
--- tree's state `old` to its state `new`. `result` is the next step of the loader, or the error of
--- the statement.
+-- tree's state `old` to its state `new`. `result` is the next step of the loader, or an error: that
+-- of the statement, or that of a failed allocation.
 pub data StepsTo {S : Type 0} (leads : S → Asked → S → Type 0) (old new : S) (r : Registry) (at : Site)
     (meaning : Meaning) : Result LoadStep SuiteFault → Type 0 where
-  goes : (after : Registry) → IsWalk leads old new (MeaningGives r.reading at meaning) r (Ok after)
+  goes : (after : Registry) → LoadsMarks leads old new (MeaningGives r.reading at meaning) r (Ok after)
       → StepsTo leads old new r at meaning (Ok (Next after))
-  enters : (path : List ℕ) → said at true meaning ≡ Includes at path ∷ []
-      → entry_fault r.reading path ≡ None → r.files < file_limit → new ≡ old
+  enters : (path : List ℕ) → statement_parts at true meaning ≡ Includes at path ∷ []
+      → include_fault r.reading path ≡ None → r.files < file_limit → new ≡ old
       → StepsTo leads old new r at meaning (Ok (Enter (record r { files = r.files + 1 }) path))
-  fails : (fault : SuiteFault) → IsWalk leads old new (MeaningGives r.reading at meaning) r (Err fault)
+  fails : (fault : SuiteFault) → LoadsMarks leads old new (MeaningGives r.reading at meaning) r (Err fault)
       → StepsTo leads old new r at meaning (Err fault)
 
 -- `ChecksOpening file stmts result`: `result` has the statements `stmts` of the file `file` if they
@@ -101,16 +102,17 @@ pub data ChecksOpening (file : List ℕ) (stmts : List Stmt) : Result (List Stmt
       → ChecksOpening file stmts (Err (fault_at file first.line cause))
   unclear : (fault : SuiteFault) → IsNoMemory fault → ChecksOpening file stmts (Err fault)
 
--- `Opened leads old new file result`: the file `file` was read, by a call that leads from the
+-- `OpensFile leads old new file result`: the file `file` was read, by a call that leads from the
 -- tree's state `old` to its state `new` by the relation `leads`. `result` has the file's
--- statements, which begin with `syntax(2)`, is its error, or is the error of a failed allocation.
-pub data Opened {S : Type 0} (leads : S → Asked → S → Type 0) (old new : S) (file : List ℕ)
+-- statements, which begin with `syntax(2)`, or is an error: that of the file, or of a failed
+-- allocation.
+pub data OpensFile {S : Type 0} (leads : S → Asked → S → Type 0) (old new : S) (file : List ℕ)
     : Result (List Stmt) SuiteFault → Type 0 where
   opens : (text : List ℕ) (first : Stmt) (rest : List Stmt)
       → leads old (Read file (Ok text)) new → Spells text (first ∷ rest) → opening_fault first.action ≡ None
-      → Opened leads old new file (Ok (first ∷ rest))
+      → OpensFile leads old new file (Ok (first ∷ rest))
   declines : (answer : Result (List ℕ) ReadFault) (fault : SuiteFault)
-      → leads old (Read file answer) new → FileGivesParts file (Says (Asks (Read file answer)) ∷ Says (Fault fault) ∷ [])
-      → Opened leads old new file (Err fault)
+      → leads old (Read file answer) new → FileGivesParts file (OneMark (CallMark (Read file answer)) ∷ OneMark (Fault fault) ∷ [])
+      → OpensFile leads old new file (Err fault)
   lacks : (answer : Result (List ℕ) ReadFault) (fault : SuiteFault)
-      → leads old (Read file answer) new → IsNoMemory fault → Opened leads old new file (Err fault)
+      → leads old (Read file answer) new → IsNoMemory fault → OpensFile leads old new file (Err fault)

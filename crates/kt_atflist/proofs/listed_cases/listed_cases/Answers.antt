@@ -15,4 +15,4 @@ pub returns-in-TooLong : goal.returns-in-TooLong
 returns-in-TooLong c = too_long_by _ _ _ c.in-Ended.is c.in-None.ensures c.in-TooLong.is
 
 pub returns-in-Read : goal.returns-in-Read
-returns-in-Read c = IfOk-weaker c.read_bytes.result _ _ (λ found e. read_by _ _ _ _ found c.in-Ended.is c.in-None.ensures c.in-Read.is e) c.read_bytes.ensures
+returns-in-Read c = IfOk-weaker c.parse_list_bytes.result _ _ (λ found e. read_by _ _ _ _ found c.in-Ended.is c.in-None.ensures c.in-Read.is e) c.parse_list_bytes.ensures

@@ -5,4 +5,4 @@ use Rattle.kt_atflist.proofs.program_cases.cases.Goals as goal
 
 pub returns-in-Tap : goal.returns-in-Tap
 unfolding chars
-returns-in-Tap c = IfOk-weaker c.one_case.result _ _ (λ cases e. main_by c.args.props.now c.args.interface c.args.listing.now cases c.in-Tap.is e) c.one_case.ensures
+returns-in-Tap c = IfOk-weaker c.single_case_list.result _ _ (λ cases e. main_by c.args.props.now c.args.interface c.args.listing.now cases c.in-Tap.is e) c.single_case_list.ensures

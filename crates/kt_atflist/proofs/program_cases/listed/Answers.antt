@@ -5,11 +5,11 @@ use Rattle.kt_atflist.proofs.program_cases.listed.Goals as goal
 
 pub returns-in-Ok : goal.returns-in-Ok
 returns-in-Ok c =
-    IfOk-weaker c.overlay_all.result _ _
-    (λ cases e. listed_by c.args.props.now c.args.listing.now c.in_ok-found.found c.in-Ok.found cases c.in_ok-found.ensures c.in-Ok.is e) c.overlay_all.ensures
+    IfOk-weaker c.overlay_shared.result _ _
+    (λ cases e. listed_by c.args.props.now c.args.listing.now c.in_ok-found.found c.in-Ok.found cases c.in_ok-found.ensures c.in-Ok.is e) c.overlay_shared.ensures
 
 pub returns-in-Err : goal.returns-in-Err
 unfolding chars
 returns-in-Err c =
-    IfOk-weaker c.one_case.result _ _
-    (λ cases e. unlisted_by c.args.props.now c.args.listing.now c.in_ok-found.found c.in-Err.reason cases c.in_ok-found.ensures c.in-Err.is e) c.one_case.ensures
+    IfOk-weaker c.single_case_list.result _ _
+    (λ cases e. unlisted_by c.args.props.now c.args.listing.now c.in_ok-found.found c.in-Err.reason cases c.in_ok-found.ensures c.in-Err.is e) c.single_case_list.ensures

@@ -8,5 +8,5 @@ returns-in-None c = sym (non_empty_suffix-none c.args.front.now c.args.text.now 
 pub returns-in-Some : goal.returns-in-Some
 returns-in-Some c =
     let cut = c.in-Some.ensures.cases in
-    c.filled.ensures ∙ sym (non_empty_suffix-found c.args.front.now c.args.text.now c.in-Some.part.now c.utf8.front
+    c.non_empty_text.ensures ∙ sym (non_empty_suffix-found c.args.front.now c.args.text.now c.in-Some.part.now c.utf8.front
     (cut.1.1 ∙ ap (λ (rest : List ℕ). c.args.front.now ++ rest) (sym cut.2)))

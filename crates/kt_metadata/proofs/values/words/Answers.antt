@@ -13,4 +13,4 @@ loop-c-preserved c =
     )
 
 pub returns : goal.returns
-returns c = c.in_ok-end_word.ensures ∙ rw (chars_of_empty _ c.in-None.ensures.steps.0.0) at c.loop-c.invariant.1
+returns c = c.in_ok-push_non_empty.ensures ∙ rw (chars_of_empty _ c.in-None.ensures.steps.0.0) at c.loop-c.invariant.1

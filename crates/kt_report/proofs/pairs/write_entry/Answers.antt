@@ -5,7 +5,7 @@ use Rattle.kt_report.proofs.pairs.write_entry.Goals as goal
 pub returns-then-verbose : goal.returns-then-verbose
 returns-then-verbose g c =
     let on : c.args.verbose ≡ true = search rules in
-    line_read g.D.Details.reads_pairs c.args.verbose on c.write_with_pairs.ensures
+    line_read g.D.Details.reads_pairs c.args.verbose on c.write_verbose_entry.ensures
 
 pub returns-in-Ok : goal.returns-in-Ok
 returns-in-Ok g c =

@@ -1,4 +1,4 @@
-use Rattle.kt_sched.proofs.Common.{sym, ◌∙◌, ap, subst, Result, err_from_is_err_and, Totals, counted, Ran}
+use Rattle.kt_sched.proofs.Common.{sym, ◌∙◌, ap, subst, Result, err_from_is_err_and, Totals, counted, RunsPlan}
 use Rattle.kt_sched.specs.declared.run_fault.RunFault.{RunFault}
 use Rattle.kt_sched.proofs.Loop.{loop_can_count, loop_end, loop_failed, loop_first, loop_may_start, loop_may_wait, loop_put, loop_runs, loop_start, loop_storable}
 use Rattle.kt_sched.proofs.Exits.{ran_not, ran_short, ran_well}
@@ -69,7 +69,7 @@ loop-i-preserved g c =
 pub returns-in-Done-clause-ran : goal.returns-in-Done-clause-ran
 returns-in-Done-clause-ran g c =
     let e = c.in-Done.ensures in
-    let T = λ (r : Result Totals RunFault). Ran g.L.Launcher g.S.Sink c.args.plan c.args.width c.args.launcher.now c.loop-i.launcher c.args.sink.now
+    let T = λ (r : Result Totals RunFault). RunsPlan g.L.Launcher g.S.Sink c.args.plan c.args.width c.args.launcher.now c.loop-i.launcher c.args.sink.now
     c.loop-i.sink r in
     elim c.match-fault.branch [
       | in-None w ↦ subst T (sym w.result-is) (ran_well c.requires.plan c.loop-i.invariant e.next e.follows w.in-None.is)

@@ -1,5 +1,5 @@
 use Rattle.std.proofs.Common.{◌≡◌, List, take, arith, length, ap, subst, sym, ◌∙◌, IsUtf8}
-use Rattle.kt_script.proofs.Common.{nil_from_length, IsUtf8-drop, line_past, ScriptState, Stmt}
+use Rattle.kt_script.proofs.Common.{nil_from_length, IsUtf8-drop, line_at_end, ScriptState, Stmt}
 use Rattle.std.proofs.lemmas.Result.{err_from_is_err_and}
 use Rattle.kt_script.proofs.PieceCuts.{piece_cut}
 use Rattle.kt_script.proofs.Going.{goes_on, stops, ends_ok, ends_fault}
@@ -25,7 +25,7 @@ loop-rest-preserved c =
     let cut = piece_cut c.in_ok-piece.piece c.loop-rest.rest.now c.loop-rest.invariant.1 (grind arith) c.in_ok-piece.ensures in
     let read : c.as_bytes.result.now ≡ take c.in_ok-piece.piece.length c.loop-rest.rest.now = c.as_bytes.ensures.value ∙ c.split_at.ensures.front in (
       goes_on c.loop-rest.place _ c.loop-rest.parser _ c.loop-rest.line _ c.loop-rest.rest.now _ _ c.in_ok-piece.piece c.loop-rest.invariant.0 c.in_ok-piece.ensures cut.some cut.boundary.0 c.in_ok-place.ensures.ok
-          c.split_at.ensures.back (c.line_past-line.ensures.value ∙ ap (line_past c.loop-rest.line) read) (omega (arith, c.line_past-line.ensures.within, ap length read)),
+          c.split_at.ensures.back (c.line_at_end-line.ensures.value ∙ ap (line_at_end c.loop-rest.line) read) (omega (arith, c.line_at_end-line.ensures.within, ap length read)),
       subst IsUtf8 (sym c.split_at.ensures.back) (IsUtf8-drop c.loop-rest.rest.now c.in_ok-piece.piece.length c.loop-rest.invariant.1 cut.boundary),
     )
 

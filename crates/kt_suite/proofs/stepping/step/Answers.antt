@@ -22,10 +22,10 @@ returns-in-Ok-Include-clause-step g c =
     let e : meaning.Include c.in-Ok-Include.name ≡ meaning_of c.args.suite.now c.args.stmt.now.action = search rules in
     step_included g.T.Tree.asks _ c.args.registry (record { file = c.args.file.now; line = c.args.stmt.now.line }) _ _ c.include.result e c.include.ensures.ok c.include.ensures.err
 
-pub returns-in-Err-register-clause-step : goal.returns-in-Err-register-clause-step
-returns-in-Err-register-clause-step g c =
+pub returns-in-Err-register_program-clause-step : goal.returns-in-Err-register_program-clause-step
+returns-in-Err-register_program-clause-step g c =
     let e : meaning.Program c.in-Ok-Program.interface c.in-Ok-Program.name c.in-Ok-Program.own c.in-Ok-Program.props ≡ meaning_of c.args.suite.now c.args.stmt.now.action = search rules in
-    step_not_added g.T.Tree.asks _ _ _ (record { file = c.args.file.now; line = c.args.stmt.now.line }) _ _ _ _ _ _ e c.in-Err-register.ensures
+    step_not_added g.T.Tree.asks _ _ _ (record { file = c.args.file.now; line = c.args.stmt.now.line }) _ _ _ _ _ _ e c.in-Err-register_program.ensures
 
 pub returns-in-Ok-clause-step : goal.returns-in-Ok-clause-step
 returns-in-Ok-clause-step g c =

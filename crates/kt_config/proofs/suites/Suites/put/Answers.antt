@@ -19,7 +19,7 @@ returns-in-Some-clause-ok c = adds-there c.as_str.result.now c.args.suite c.args
 pub returns-clause-ok : goal.returns-clause-ok
 returns-clause-ok c =
     let one = c.in_ok-put-2.ensures.ok ∙ ap (λ (xs : List Variable). last_values (xs ++ c.args.variable ∷ [])) c.new-variables.ensures in
-    let entries = c.in_ok-insert.ensures.entries ∙ ap (λ m. insert_entry string_eq m.entries c.key_of.result c.put-2.new.self) c.get_mut.follows.holds-at-none in
-    adds-new c.as_str.result.now c.args.suite c.key_of.result c.args.variable c.put-2.new.self
+    let entries = c.in_ok-insert.ensures.entries ∙ ap (λ m. insert_entry string_eq m.entries c.into_key.result c.put-2.new.self) c.get_mut.follows.holds-at-none in
+    adds-new c.as_str.result.now c.args.suite c.into_key.result c.args.variable c.put-2.new.self
     c.self.inside.groups.entries c.insert.new.self.entries c.args.self.now c.as_str.utf8 c.as_str.ensures.characters
-    c.self.view_is (sym c.in_default.ensures.value) c.key_of.ensures one entries
+    c.self.view_is (sym c.in_default.ensures.value) c.into_key.ensures one entries

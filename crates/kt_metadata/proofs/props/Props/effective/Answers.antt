@@ -1,11 +1,11 @@
 use Rattle.std.proofs.Common.{◌≡◌, ◌∙◌, ℕ, Bool, List, [], Option, ap, refl, sym, subst, codes, unwrap_or}
 use Rattle.kt_metadata.proofs.Common.{fun_ext, chars, value_of, value_is, given, words_in, truth_in, size_in, user_in, timeout_in, meta_of, texts_of}
 use Rattle.kt_metadata.specs.declared.meta.Meta.{Meta}
-use Rattle.kt_metadata.specs.declared.value.User.{User}
+use Rattle.kt_metadata.specs.declared.value.RequiredUser.{RequiredUser}
 use Rattle.kt_metadata.proofs.Timeouts.{IsTimeout, timeout-within}
 use Rattle.kt_metadata.proofs.props.Props.effective.Goals as goal
 
-meta-is : (texts : List ℕ → Option (List ℕ)) {a b f h i : List (List ℕ)} {d : List ℕ} {t x : Bool} {k m s : ℕ} {u : User}
+meta-is : (texts : List ℕ → Option (List ℕ)) {a b f h i : List (List ℕ)} {d : List ℕ} {t x : Bool} {k m s : ℕ} {u : RequiredUser}
     → a ≡ words_in (given texts (codes "allowed_architectures")) → b ≡ words_in (given texts (codes "allowed_platforms")) → d ≡ unwrap_or (texts (codes "description")) []
     → t ≡ truth_in (given texts (codes "has_cleanup")) → x ≡ truth_in (given texts (codes "is_exclusive")) → f ≡ words_in (given texts (codes "required_configs"))
     → k ≡ size_in (given texts (codes "required_disk_space")) → h ≡ words_in (given texts (codes "required_files")) → m ≡ size_in (given texts (codes "required_memory"))

@@ -21,4 +21,4 @@ returns-in-Some-clause-defined c = λ definitions last.
 
 pub returns-in_default-clause-defined : goal.returns-in_default-clause-defined
 returns-in_default-clause-defined c = λ definitions last.
-    subst (λ (all : List Variable). IfOk c.own_listing.result (λ (pairs : List Variable). pairs ≡ all)) (ap listing last ∙ listing-settled definitions) c.own_listing.ensures
+    subst (λ (all : List Variable). IfOk c.create_listing.result (λ (pairs : List Variable). pairs ≡ all)) (ap listing last ∙ listing-settled definitions) c.create_listing.ensures

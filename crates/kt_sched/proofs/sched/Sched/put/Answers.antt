@@ -1,4 +1,4 @@
-use Rattle.kt_sched.proofs.Common.{sym, ◌∙◌, ap, subst, SchedState, Stands}
+use Rattle.kt_sched.proofs.Common.{sym, ◌∙◌, ap, subst, SchedState, RepresentsRun}
 use Rattle.kt_sched.proofs.Opened.{put}
 use Rattle.kt_sched.proofs.sched.Sched.put.Goals as goal
 
@@ -8,4 +8,4 @@ invariant_of-self c =
 
 pub returns-clause-stands : goal.returns-clause-stands
 returns-clause-stands c = λ plan n fed h.
-    put (subst (Stands plan n fed) (sym c.self.view_is) h) c.args.i (ap (λ (b : SchedState). b.asked) c.self.view_is ∙ c.requires) c.args.failed
+    put (subst (RepresentsRun plan n fed) (sym c.self.view_is) h) c.args.i (ap (λ (b : SchedState). b.asked) c.self.view_is ∙ c.requires) c.args.failed

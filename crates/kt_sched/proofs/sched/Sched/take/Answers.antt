@@ -1,4 +1,4 @@
-use Rattle.kt_sched.proofs.Common.{◌<◌, ℕ, sym, ◌∙◌, ap, subst, SchedState, Stands, work}
+use Rattle.kt_sched.proofs.Common.{◌<◌, ℕ, sym, ◌∙◌, ap, subst, SchedState, RepresentsRun, work}
 use Rattle.kt_sched.proofs.Begin.{entry_taken, stands_taken, less_taken}
 use Rattle.kt_sched.proofs.sched.Sched.take.Goals as goal
 
@@ -9,11 +9,11 @@ invariant_of-self c =
 
 pub returns-clause-stands : goal.returns-clause-stands
 returns-clause-stands c = λ plan n fed h.
-    stands_taken (subst (Stands plan n fed) (sym c.self.view_is) h) c.take_entry-taken.ensures
+    stands_taken (subst (RepresentsRun plan n fed) (sym c.self.view_is) h) c.take_entry-taken.ensures
     (ap (λ (b : SchedState). b.asked) c.self.view_is ∙ c.requires.asked)
 
 pub returns-clause-entry : goal.returns-clause-entry
-returns-clause-entry c = λ plan n fed h. entry_taken (subst (Stands plan n fed) (sym c.self.view_is) h) c.take_entry-taken.ensures
+returns-clause-entry c = λ plan n fed h. entry_taken (subst (RepresentsRun plan n fed) (sym c.self.view_is) h) c.take_entry-taken.ensures
 
 pub returns-clause-less : goal.returns-clause-less
 returns-clause-less c =

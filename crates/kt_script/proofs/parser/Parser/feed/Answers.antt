@@ -14,4 +14,4 @@ pub returns-in-Some-2-clause-ok : goal.returns-in-Some-2-clause-ok
 returns-in-Some-2-clause-ok c =
     let token : Token = record { line = c.args.line; kind = c.in-Some.kind } in
     rw (c.in-Some.is)
-    (fed c.args.self.now _ c.args.place c.in-Some-2.place token (next c.args.place token) refl (sym c.in-Some-2.is ∙ c.in_ok-next.ensures.place) c.in_ok-next.ensures.ended c.in_ok-follow.ensures)
+    (fed c.args.self.now _ c.args.place c.in-Some-2.place token (next c.args.place token) refl (sym c.in-Some-2.is ∙ c.in_ok-next.ensures.place) c.in_ok-next.ensures.ended c.in_ok-update_brackets.ensures)

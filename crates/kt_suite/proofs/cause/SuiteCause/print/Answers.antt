@@ -1,6 +1,6 @@
 use Rattle.std.proofs.Common.{codes, ap, sym, ◌∙◌}
 use Rattle.kt_suite.proofs.Common.{encode, decimal, utf8, shows_as}
-use Rattle.kt_suite.proofs.FaultWords.{utf8-cause, fixed-cause}
+use Rattle.kt_suite.proofs.FaultMessages.{utf8-cause, fixed-cause}
 use Rattle.kt_suite.proofs.cause.SuiteCause.print.Goals as goal
 use Rattle.kt_base.proofs.Showing.{utf8_three}
 
@@ -13,5 +13,5 @@ returns-in-WrongSyntax g c =
 
 pub returns-in_default : goal.returns-in_default
 returns-in_default g c =
-    let words = c.as_bytes-in_default.ensures.value ∙ c.words.ensures ∙ sym (utf8-cause c.args.self.now) ∙ ap utf8 (fixed-cause c.args.self.now c.in_default.not-WrongSyntax) in
+    let words = c.as_bytes-in_default.ensures.value ∙ c.message.ensures ∙ sym (utf8-cause c.args.self.now) ∙ ap utf8 (fixed-cause c.args.self.now c.in_default.not-WrongSyntax) in
     shows_as words c.emit.ensures

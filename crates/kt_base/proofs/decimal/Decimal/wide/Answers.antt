@@ -1,5 +1,0 @@
-use Rattle.kt_base.proofs.Common.{decimal, encodes-IsAscii}
-use Rattle.kt_base.proofs.decimal.Decimal.wide.Goals as goal
-
-pub returns-clause-ascii : goal.returns-clause-ascii
-returns-clause-ascii c = encodes-IsAscii (decimal c.args.n) c.write-start.ensures.ascii

@@ -1,6 +1,0 @@
-use Rattle.kt_base.proofs.Common.{chars, decimal}
-use Rattle.kt_base.proofs.PartTexts.{two_numbers_text}
-use Rattle.kt_base.proofs.parts.parts_of_two_numbers.Goals as goal
-
-pub returns : goal.returns
-returns c = two_numbers_text (chars c.args.head.now) (decimal c.args.first) (chars c.args.between.now) (decimal c.args.second) (chars c.args.tail.now)

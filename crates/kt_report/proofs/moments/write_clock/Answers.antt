@@ -1,4 +1,0 @@
-use Rattle.kt_report.proofs.moments.write_clock.Goals as goal
-
-pub returns : goal.returns
-returns g c = rw (c.two_digits-hours.ensures, c.two_digits-minutes.ensures, c.two_digits-seconds.ensures, c.three_digits-rest.ensures) at c.emit_all.ensures

@@ -1,0 +1,139 @@
+//! Executes each command line as a process over a scripted results host, scripted files and a
+//! scripted system.
+
+use crate::printing::push_page;
+use crate::scripted_files::ScriptedFiles;
+use crate::scripted_results_host::ScriptedResultsHost;
+use crate::words::parse_command_line;
+use kt_args::{Command, CommandFault};
+use kt_cli::{HostHandles, LineOutput, run_command};
+use kt_doubles::{Scene, ScriptedSystem, shortage};
+use kt_examples::{ExampleLine, ExampleOutput, Result, ScriptedWriter, due};
+use kt_store::ResultStore;
+use std::alloc::Global;
+use std::io::Write;
+
+/// The state after the execution of command lines: the results host, both outputs, the exit
+/// statuses and the calls on systems.
+pub struct CommandsRun<R: ResultStore + Drop> {
+    /// The results host, which has the results store.
+    pub platform: ScriptedResultsHost<R>,
+    /// Standard output.
+    pub page: ScriptedWriter,
+    /// Standard error.
+    pub errors: ScriptedWriter,
+    /// The exit statuses of the command lines, in order.
+    pub exits: Vec<u8>,
+    /// The calls of the command lines on their systems, one per line.
+    pub log: ExampleOutput,
+}
+
+impl<R: ResultStore + Drop> Drop for CommandsRun<R> {
+    fn drop(self) {
+        let CommandsRun {
+            platform: _,
+            page: _,
+            errors: _,
+            exits: _,
+            log: _,
+        } = self;
+    }
+}
+
+/// Executes a command over a new system, and returns its exit status and the host files. The calls
+/// on the system are appended to `log`.
+fn execute_command<'a, R: ResultStore + Drop, W: Write, E: Write>(
+    log: &mut ExampleOutput,
+    scene: &'a Scene,
+    machine: ScriptedFiles<'a>,
+    platform: &mut ScriptedResultsHost<R>,
+    command: Result<Command, CommandFault>,
+    out: &mut W,
+    errors: &mut E,
+) -> Result<(u8, ScriptedFiles<'a>)> {
+    let alloc = log.alloc;
+    let os = ScriptedSystem::new(scene);
+    let outside = HostHandles { alloc, machine, os };
+    let mut lines = LineOutput::new(out, true);
+    let (exit, outside) = run_command(outside, platform, command, &mut lines, errors);
+    log.push(outside.os.log.text_so_far()?);
+    Ok((exit.status, outside.machine))
+}
+
+/// Appends `error: ` and the text on standard error, or only `error: usage` for a usage message.
+fn push_errors(out: &mut ExampleOutput, errors: &ScriptedWriter) -> Result<()> {
+    let mut page = ExampleOutput::new(out.alloc);
+    push_page(&mut page, errors)?;
+    let text = page.text_so_far()?;
+    if text.contains("Usage:") {
+        out.push("error: usage\n");
+    } else if !text.is_empty() {
+        write!(out, "error: {text}");
+    }
+    Ok(())
+}
+
+impl<R: ResultStore + Drop> CommandsRun<R> {
+    /// Creates the state before the first command line, over the results host `platform`.
+    pub fn new(alloc: Global, platform: ScriptedResultsHost<R>) -> CommandsRun<R> {
+        CommandsRun {
+            platform,
+            page: ScriptedWriter::new(alloc),
+            errors: ScriptedWriter::new(alloc),
+            exits: Vec::new(alloc),
+            log: ExampleOutput::new(alloc),
+        }
+    }
+
+    /// Executes the command lines among `lines`. `do WORDS` and `line WORDS` have the arguments.
+    /// For `words no-memory` the allocation of the arguments fails.
+    ///
+    /// # Errors
+    ///
+    /// - `InvalidExample`: an argument has an invalid escape or isn't UTF-8.
+    /// - `NoMemory`: an allocation outside the command failed.
+    pub fn execute_lines(&mut self, lines: &[ExampleLine<'_>], scene: &Scene) -> Result<()> {
+        let alloc = self.log.alloc;
+        let mut machine = ScriptedFiles { scene, told: 0 };
+        for line in lines {
+            let command = match line.word {
+                "do" | "line" => parse_command_line(alloc, line.text)?,
+                "words" => Err(CommandFault::from(shortage(alloc)?)),
+                _ => continue,
+            };
+            let (log, platform) = (&mut self.log, &mut self.platform);
+            let (out, errors) = (&mut self.page, &mut self.errors);
+            let (status, left) = execute_command(
+                log, scene, machine, platform, command, out, errors,
+            )?;
+            machine = left;
+            self.exits.push(status)?;
+        }
+        Ok(())
+    }
+
+    /// Appends the texts on standard output and standard error, and the exit statuses of the
+    /// command lines.
+    ///
+    /// # Errors
+    ///
+    /// - `NoMemory`: an allocation failed.
+    pub fn push_result(&self, out: &mut ExampleOutput) -> Result<()> {
+        push_page(out, &self.page)?;
+        push_errors(out, &self.errors)?;
+        out.push("exit");
+        for status in self.exits.as_slice() {
+            write!(out, " {status}");
+        }
+        Ok(())
+    }
+
+    /// Returns the results store that was closed last.
+    ///
+    /// # Errors
+    ///
+    /// - `InvalidExample`: the store isn't closed.
+    pub fn into_results(mut self) -> Result<R> {
+        due(self.platform.results.take(), "there is no store")
+    }
+}

@@ -1,0 +1,86 @@
+use kt_base::{Entry, Variables};
+use kt_doubles::{FailingCalls, MemRuns};
+use kt_examples::Example;
+use kt_store::{CaseOutputs, ResultStore, RunHead, StoreFault, StoreSpec};
+use std::alloc::Global;
+
+/// A `ResultStore` in memory, some of whose calls fail.
+#[derive(Drop)]
+pub struct FailingStore {
+    /// The store that executes the calls that don't fail.
+    runs: MemRuns,
+    /// The counter that makes calls fail.
+    refusals: FailingCalls,
+}
+
+impl FailingStore {
+    /// Creates a store without runs, whose calls fail as the lines `refused CALLS` and
+    /// `refused-memory CALLS` of an example require.
+    ///
+    /// # Errors
+    ///
+    /// - `InvalidExample`: CALLS isn't one or two numbers, or the real error for the calls can't be
+    ///   provoked.
+    /// - `NoMemory`: an allocation failed.
+    pub fn of(alloc: Global, row: &Example<'_>) -> kt_examples::Result<FailingStore> {
+        Ok(FailingStore {
+            runs: MemRuns::new(alloc),
+            refusals: FailingCalls::of(alloc, row)?,
+        })
+    }
+}
+
+impl StoreSpec for FailingStore {
+    ghost use Rattle.std.specs.Prelude.{⊤};
+    ghost use Rattle.kt_doubles.specs.MemoryRuns.{RepresentsInMemory};
+
+    // The contract of each call states its result, so the relation is trivial.
+    ghost answers = { λ _ _ _. Unit {0} };
+
+    ghost stands = { λ s runs. RepresentsInMemory s.runs runs };
+
+    ghost sound = { λ s. ⊤ };
+
+    ghost leaves = { λ s may. ⊤ };
+
+    ghost numbered = { λ s runs h. h.1 };
+
+    ghost ordered = { λ s runs h sound. h.2 };
+}
+
+impl ResultStore for FailingStore {
+    fn begin(&mut self, total: u32, moment: u64) -> Result<u64, StoreFault> {
+        self.refusals.ask()?;
+        self.runs.begin(total, moment)
+    }
+
+    fn put(&mut self, run: u64, entry: &Entry) -> Result<(), StoreFault> {
+        self.refusals.ask()?;
+        self.runs.put(run, entry)
+    }
+
+    fn finish(&mut self, run: u64) -> Result<(), StoreFault> {
+        self.refusals.ask()?;
+        self.runs.finish(run)
+    }
+
+    fn head(&mut self, number: Option<u64>) -> Result<Option<RunHead>, StoreFault> {
+        self.refusals.ask()?;
+        self.runs.head(number)
+    }
+
+    fn outline(&mut self, run: u64) -> Result<Vec<Entry>, StoreFault> {
+        self.refusals.ask()?;
+        self.runs.outline(run)
+    }
+
+    fn pairs(&mut self, run: u64, position: u32) -> Result<Variables, StoreFault> {
+        self.refusals.ask()?;
+        self.runs.pairs(run, position)
+    }
+
+    fn outputs(&mut self, run: u64, position: u32) -> Result<CaseOutputs, StoreFault> {
+        self.refusals.ask()?;
+        self.runs.outputs(run, position)
+    }
+}

@@ -1,0 +1,53 @@
+-- The responses of a scheduler so far, and the next possible responses.
+use Rattle.std.specs.Prelude.{ℕ, Bool, true, false, List, [], ◌∷◌, ◌≡◌, ◌+◌, Option, Some, None, is_some, ⊤}
+use Rattle.kt_sched.specs.Types.{Answer, Body, Cleanup, Next, Refused, Role, Started}
+use Rattle.kt_sched.specs.declared.next.Next.TheVariants as next
+use Rattle.kt_sched.specs.declared.next.Answer.TheVariants as answer
+use Rattle.kt_sched.specs.Trace.{Start, End, Trace, NoEvent, Then, event_count}
+use Rattle.kt_sched.specs.History.{EventKind, BodyStarted, BodyEnded, CleanupStarted, history}
+
+-- `Responses`: the responses in a run so far: the trace of the launcher, and the number of stored
+-- entries. If a put failed, `stopped` is the number of events before this put.
+pub record Responses : Type 0 where
+  pub trace : Trace
+  pub stored : ℕ
+  pub stopped : Option ℕ
+
+-- `no_responses`: no response so far.
+abbrev pub no_responses : Responses
+no_responses = record { trace = NoEvent; stored = 0; stopped = None }
+
+-- `has_failed fed`: one of the responses `fed` reports a failed put.
+abbrev pub has_failed : Responses → Bool
+has_failed fed = is_some fed.stopped
+
+-- `responses_after fed asked answer`: the responses `fed`, followed by the response `answer` to the
+-- step `asked`.
+abbrev pub responses_after : Responses → Next → Answer → Responses
+responses_after fed (next.Start i role) (answer.Started moment) = record fed { trace = Then fed.trace (Start i role (Started moment)) }
+responses_after fed (next.Start i role) (answer.Refused cause) = record fed { trace = Then fed.trace (Start i role (Refused cause)) }
+responses_after fed next.Wait (answer.Ended ended) = record fed { trace = Then fed.trace (End ended) }
+responses_after fed (next.Put i) answer.Stored = record fed { stored = fed.stored + 1 }
+responses_after fed (next.Put i) answer.StoreFailed = record fed { stopped = Some (event_count fed.trace) }
+responses_after fed asked other = fed
+
+-- `role_runs role history`: a case with the history `history` has a running child in the role
+-- `role`.
+abbrev pub role_runs : Role → List EventKind → Bool
+role_runs Body (BodyStarted ∷ []) = true
+role_runs Cleanup (BodyStarted ∷ BodyEnded ∷ CleanupStarted ∷ []) = true
+role_runs role other = false
+
+-- `runs i role T`: the child of case `i` in the role `role` runs after the events `T`.
+abbrev pub runs : ℕ → Role → Trace → Bool
+runs i role T = role_runs role (history i T)
+
+-- `IsAnswerTo T asked answer`: `answer` is a possible response to the step `asked` after the events
+-- `T`. An end is the end of a running child.
+abbrev pub IsAnswerTo : Trace → Next → Answer → Type 0
+IsAnswerTo T (next.Start i role) (answer.Started moment) = ⊤
+IsAnswerTo T (next.Start i role) (answer.Refused cause) = ⊤
+IsAnswerTo T next.Wait (answer.Ended ended) = runs ended.position ended.role T ≡ true
+IsAnswerTo T (next.Put i) answer.Stored = ⊤
+IsAnswerTo T (next.Put i) answer.StoreFailed = ⊤
+IsAnswerTo T asked other = ⊥

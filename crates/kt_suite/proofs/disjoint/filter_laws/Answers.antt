@@ -1,8 +1,0 @@
-use Rattle.kt_suite.proofs.Overlaps.{within_is, is-within, shares, sharing}
-use Rattle.kt_suite.proofs.disjoint.filter_laws.Goals as goal
-
-pub returns-clause-within : goal.returns-clause-within
-returns-clause-within c = λ directory path. (within_is directory path, is-within directory path)
-
-pub returns-clause-overlap : goal.returns-clause-overlap
-returns-clause-overlap c = λ filter other. (shares filter other, sharing filter other)
