@@ -68,13 +68,13 @@ pub use Rattle.sqlite_wal.proofs.StateLemmas.{open_from}
 pub use Rattle.sqlite_wal.specs.Files.{outcomes, seen_image}
 pub use Rattle.sqlite_wal.specs.Reads.{AreClean, are_clean}
 pub use Rattle.sqlite_wal.specs.Recovery.{AreWhole, IsIgnored, only_page}
-pub use Rattle.kt_store.specs.Attaching.{Current}
-pub use Rattle.kt_store.specs.Files.{Closed, Ends, FailsToEnd, HasTrees, StaysNumbered}
-pub use Rattle.kt_store.specs.Runs.{IsRun, HasSchemaNumber, Tables, entry_rows, prop_rows, finish, new_run, pair_rows, with_entry}
+pub use Rattle.kt_store.specs.Attaching.{Schema2}
+pub use Rattle.kt_store.specs.Files.{OpensAndCloses, Ends, FailsToClose, HasTrees, StaysNumbered}
+pub use Rattle.kt_store.specs.Runs.{IsValidRun, HasSchemaNumber, Tables, entry_rows, prop_rows, finish, new_run, pair_rows, with_entry}
 pub use Rattle.kt_store.specs.Serving.{Agrees, SurvivesCrash, runs_after}
 pub use Rattle.kt_store.specs.StoreCalls.{StoreCall}
-pub use Rattle.kt_store.specs.TrustedContents.{IsOfRuns, objects_2}
-pub use Rattle.kt_store.specs.Tables.{entries_table, index_of, meta_1, props_1, runs_1}
+pub use Rattle.kt_store.specs.TrustedContents.{IsTrustedImage, schema_2_objects}
+pub use Rattle.kt_store.specs.Tables.{entries_table, index_of, meta_table, props_table, runs_table}
 pub use Rattle.kt_store.specs.Seeks.{OpensRuns}
 pub use Rattle.kt_store.specs.Heads.{entry_at, pairs_of}
 pub use Rattle.kt_store.specs.Inner.Heads.{entry_columns, head_columns, pair_columns}
@@ -83,9 +83,9 @@ pub use Rattle.kt_store.specs.declared.result_store.CaseOutputs.{CaseOutputs}
 pub use Rattle.kt_store.specs.declared.result_store.RunHead.{RunHead}
 pub use Rattle.kt_store.specs.declared.store_fault.StoreFault.{StoreFault}
 pub use Rattle.kt_store.specs.declared.store_fault.StoreFault.TheVariants.{NoRun}
-pub use Rattle.kt_dbfile.specs.Inner.Cursors.{IsAt, OnlyMovesCursors, Places, SelectsColumns, begins}
+pub use Rattle.kt_dbfile.specs.Inner.Cursors.{IsUniqueRow, OnlyMovesCursors, IndexesRows, SelectsColumns, has_prefix}
 pub use Rattle.kt_dbfile.specs.Inner.Edits.{WritesEntryRows, IsSettledStore, new_run_row}
-pub use Rattle.kt_dbfile.specs.Inner.Known.{HasRuns, by_trees, readings, runs_file}
+pub use Rattle.kt_dbfile.specs.Inner.Known.{HasRuns, spec_over_trees, read_only_spec, runs_file}
 pub use Rattle.kt_dbfile.specs.Inner.NewFiles.{HoldsEmpty, IsNewNameOf}
-pub use Rattle.kt_dbfile.specs.Common.{AreNamed, AreNumbered, AreOrdered, AreRuns, AreWide, Began, CanAdd, CountsUnderKey, EndsTransaction, Finished, HasCommitted, Head, HoldsCommit, HoldsRuns, IsComplete, IsPair, IsStoreFault, IsAttached, IsAttachedFiles, Keeps, IsSchema2OfOne, ListsRuns, OnlyReadsStore, ObeysSchema, Outline, Outputs, Pairs, Put, PutsRows, Serves, SelectsUnderKey, StandsFor, WritesRows, finished_run_row, entries_of, entry_row, has_position, head_of, in_columns, outlined, outputs_of, pair_row, pair_rows_from, run_at, run_row, schema_2, seen_as, unnumbered}
+pub use Rattle.kt_dbfile.specs.Common.{AreNamed, AreNumbered, AreOrdered, AreValidRuns, AreWide, Began, CanAdd, CountsUnderKey, EndsTransaction, Finished, HasCommitted, Head, KeepsLastCommit, HoldsRuns, IsComplete, IsEncodableProperty, IsDatabaseFault, IsAttached, IsAttachedFiles, IsSchema2Of, IsSchema2OfOne, ListsRuns, OnlyReadsStore, ObeysSchema, Outline, Outputs, Pairs, Put, PutsRows, Serves, SelectsUnderKey, StandsFor, WritesRows, finished_run_row, entries_of, entry_row, has_position, head_of, selected_columns, outline_entry, outputs_of, pair_row, pair_rows_from, run_at, run_row, schema_2, map_success, row_without_rowid}
 pub use Rattle.kt_dbfile.specs.Inner.Opening.{OpensOver}

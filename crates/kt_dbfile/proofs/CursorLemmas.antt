@@ -1,5 +1,5 @@
 -- The rows of a run in the order of an index.
-use Rattle.kt_dbfile.proofs.Common.{AllByRecursion, Bool, Entry, Equal, Greater, Int, IsAscending, IsAt, IsIndex, IsIndexOf, IsPermutation, IsPermutation-filter, IsPermutation-map, IsPermutation-sym, IsPermutation-trans, IsShaped, IsTable, IsTrue, Keeps, Less, List, Null, Ordering, Places, Row, Run, Schema, Trees, Value, Variable, [], all-filter, all-permutation, all_weaker, ap, ap₂, ascending-filter, ascending-map, ascending_from_map, ascending_weaker, begins, drop, entries_of, entry_at, entry_cmp, entry_of, entry_row, entry_rows, false, filter, filter-map, filter_all, filter_none, filter_passes, first_key, has_rowid, id_in, int_is, is_eq, is_gt, is_int, is_lt, map, map-id, not, ordering_then, pair_row, pair_rows_from, pairs_of, plain, pos, prefix_cmp, prop_rows, pull_back, recursion_from_All, refl, rowid, run_at, sorted_unique, subst, sym, then-Equal, true, value_cmp, value_cmp_total, ℕ, ◌&&◌, ◌++◌, ◌<◌, ◌==◌, ◌∙◌, ◌∷◌, ◌≡◌}
+use Rattle.kt_dbfile.proofs.Common.{AllByRecursion, Bool, Entry, Equal, Greater, Int, IsAscending, IsUniqueRow, IsIndex, IsIndexOf, IsPermutation, IsPermutation-filter, IsPermutation-map, IsPermutation-sym, IsPermutation-trans, IsShaped, IsTable, IsTrue, IsSchema2Of, Less, List, Null, Ordering, IndexesRows, Row, Run, Schema, Trees, Value, Variable, [], all-filter, all-permutation, all_weaker, ap, ap₂, ascending-filter, ascending-map, ascending_from_map, ascending_weaker, has_prefix, drop, entries_of, entry_at, entry_cmp, entry_of, entry_row, entry_rows, false, filter, filter-map, filter_all, filter_none, filter_passes, first_key, has_rowid, id_in, int_is, is_eq, is_gt, is_int, is_lt, map, map-id, not, ordering_then, pair_row, pair_rows_from, pairs_of, plain, pos, prefix_cmp, prop_rows, pull_back, recursion_from_All, refl, rowid, run_at, sorted_unique, subst, sym, then-Equal, true, value_cmp, value_cmp_total, ℕ, ◌&&◌, ◌++◌, ◌<◌, ◌==◌, ◌∙◌, ◌∷◌, ◌≡◌}
 use Rattle.std.proofs.lemmas.Cmp.{tied_itself}
 use Rattle.sqlite_trees.specs.declared.store.Shape.TheVariants.{Table}
 use Rattle.sqlite_trees.proofs.TreeLemmas.{IsSortedTree, prefix_cmp_follows, from_key-filter, sorted_index, later_rowids}
@@ -18,7 +18,7 @@ keep_head p x xs here none = rw here (ap (λ l. x ∷ l) none)
 drop_head : (p : Row → Bool) (x : Row) (xs ys : List Row) → p x ≡ false → filter p xs ≡ ys → filter p (x ∷ xs) ≡ ys
 drop_head p x xs ys other is = rw other is
 
-alone : (rows : List Row) → IsTable rows → AllByRecursion (λ r. IsTrue (is_int (rowid r))) rows → AllByRecursion (IsAt rows) rows
+alone : (rows : List Row) → IsTable rows → AllByRecursion (λ r. IsTrue (is_int (rowid r))) rows → AllByRecursion (IsUniqueRow rows) rows
 alone [] up ints = tt
 alone (x ∷ xs) up ints =
     let id = id_in (rowid x) in
@@ -27,7 +27,7 @@ alone (x ∷ xs) up ints =
     let none = filter_none (has_rowid id) xs (later_rowids (Int id) x xs (ap is_lt tie) up.0) in
     ((id, is, keep_head (has_rowid id) x xs (ap is_eq tie) none), each xs up.0 (alone xs up.1 ints.1))
   where
-    each : (ys : List Row) → AllByRecursion (λ y. value_cmp (rowid x) (rowid y) ≡ Less) ys → AllByRecursion (IsAt xs) ys → AllByRecursion (IsAt (x ∷ xs)) ys
+    each : (ys : List Row) → AllByRecursion (λ y. value_cmp (rowid x) (rowid y) ≡ Less) ys → AllByRecursion (IsUniqueRow xs) ys → AllByRecursion (IsUniqueRow (x ∷ xs)) ys
     each [] less at = tt
     each (y ∷ ys) less at = ((at.0.0, at.0.1, drop_head (has_rowid at.0.0) x xs (y ∷ []) (ap (λ v. is_eq (value_cmp (rowid x) v)) (sym at.0.1) ∙ ap is_eq less.0) at.0.2), each ys less.1 at.1)
 
@@ -61,21 +61,21 @@ module _ (key : Row) where
   abbrev pub beyond : Row → Bool
   beyond e = is_gt (prefix_cmp plain e key)
 
-  parts : (es : List Row) → IsSortedTree plain es → filter least es ≡ filter (begins key) es ++ filter beyond es
+  parts : (es : List Row) → IsSortedTree plain es → filter least es ≡ filter (has_prefix key) es ++ filter beyond es
   parts [] up = refl
   parts (e ∷ es) up = by (prefix_cmp plain e key) refl (parts es up.1)
     where
-      by : (o : Ordering) → prefix_cmp plain e key ≡ o → filter least es ≡ filter (begins key) es ++ filter beyond es → filter least (e ∷ es) ≡ filter (begins key) (e ∷ es) ++ filter beyond (e ∷ es)
-      by Less c more = low least (begins key) beyond e es (ap (λ o. not (is_lt o)) c) (ap is_eq c) (ap is_gt c) more
-      by Equal c more = here least (begins key) beyond e es (ap (λ o. not (is_lt o)) c) (ap is_eq c) (ap is_gt c) more
+      by : (o : Ordering) → prefix_cmp plain e key ≡ o → filter least es ≡ filter (has_prefix key) es ++ filter beyond es → filter least (e ∷ es) ≡ filter (has_prefix key) (e ∷ es) ++ filter beyond (e ∷ es)
+      by Less c more = low least (has_prefix key) beyond e es (ap (λ o. not (is_lt o)) c) (ap is_eq c) (ap is_gt c) more
+      by Equal c more = here least (has_prefix key) beyond e es (ap (λ o. not (is_lt o)) c) (ap is_eq c) (ap is_gt c) more
       by Greater c more =
           let all : AllByRecursion (λ x. beyond x ≡ true) es = all_weaker _ (λ x. beyond x ≡ true) (λ x h. (prefix_cmp_follows plain key e x h).1 (ap is_gt c)) es up.0 in
-          high least (begins key) beyond e es (ap (λ o. not (is_lt o)) c) (ap is_eq c) (ap is_gt c)
+          high least (has_prefix key) beyond e es (ap (λ o. not (is_lt o)) c) (ap is_eq c) (ap is_gt c)
           (filter_all least es (all_weaker _ (λ x. least x ≡ true) (λ x h. not_least (prefix_cmp plain x key) h) es all))
-          (filter_none (begins key) es (all_weaker _ (λ x. begins key x ≡ false) (λ x h. not_equal (prefix_cmp plain x key) h) es all)) (filter_all beyond es all)
+          (filter_none (has_prefix key) es (all_weaker _ (λ x. has_prefix key x ≡ false) (λ x h. not_equal (prefix_cmp plain x key) h) es all)) (filter_all beyond es all)
 
-  past : (es : List Row) → AllByRecursion (λ e. begins key e ≡ false) (filter beyond es)
-  past es = all_weaker _ (λ e. begins key e ≡ false) (λ e h. not_equal (prefix_cmp plain e key) h) (filter beyond es) (all_kept beyond es)
+  past : (es : List Row) → AllByRecursion (λ e. has_prefix key e ≡ false) (filter beyond es)
+  past es = all_weaker _ (λ e. has_prefix key e ≡ false) (λ e h. not_equal (prefix_cmp plain e key) h) (filter beyond es) (all_kept beyond es)
 
 -- ---- the rows whose index entries begin with a key
 
@@ -83,29 +83,29 @@ same_rest : (r : Row) → drop 1 r ≡ drop 1 (back (drop 1 r))
 same_rest [] = refl
 same_rest (x ∷ r) = refl
 
-module _ (columns : List ℕ) (key : Row) (all mine table index : List Row) (are : IsPermutation all (map (drop 1) table)) (same : (r : Row) → begins key (entry_of columns r) ≡ begins key (entry_of columns (back (drop 1 r))))
-    (mine_is : filter (λ r. begins key (entry_of columns (back r))) all ≡ mine) (rising : (rows : List Row) → map (drop 1) rows ≡ mine → IsIndex plain (map (entry_of columns) rows)) where
-  pub places : IsShaped Table table → IsPermutation (map (entry_of columns) table) index → IsIndex plain index → Places columns key mine table index
+module _ (columns : List ℕ) (key : Row) (all mine table index : List Row) (are : IsPermutation all (map (drop 1) table)) (same : (r : Row) → has_prefix key (entry_of columns r) ≡ has_prefix key (entry_of columns (back (drop 1 r))))
+    (mine_is : filter (λ r. has_prefix key (entry_of columns (back r))) all ≡ mine) (rising : (rows : List Row) → map (drop 1) rows ≡ mine → IsIndex plain (map (entry_of columns) rows)) where
+  pub places : IsShaped Table table → IsPermutation (map (entry_of columns) table) index → IsIndex plain index → IndexesRows columns key mine table index
   places shaped indexed up =
-      let picked = filter (λ r. begins key (entry_of columns r)) table in
+      let picked = filter (λ r. has_prefix key (entry_of columns r)) table in
       let stored : IsPermutation (map (drop 1) picked) mine =
-      IsPermutation-sym _ _ (subst (λ l. IsPermutation l (map (drop 1) picked)) (map-id _ ∙ mine_is) (of_stored table all are (λ r. begins key (entry_of columns r)) (drop 1) same same_rest)) in
+      IsPermutation-sym _ _ (subst (λ l. IsPermutation l (map (drop 1) picked)) (map-id _ ∙ mine_is) (of_stored table all are (λ r. has_prefix key (entry_of columns r)) (drop 1) same same_rest)) in
       let it = pull_back (drop 1) _ mine stored picked refl in
       let rows = it.0 in
-      let chosen : IsPermutation (map (entry_of columns) rows) (filter (begins key) index) =
+      let chosen : IsPermutation (map (entry_of columns) rows) (filter (has_prefix key) index) =
       IsPermutation-trans _ _ _ (IsPermutation-sym _ _ (IsPermutation-map (entry_of columns) picked rows it.1))
-      (subst (λ l. IsPermutation l (filter (begins key) index)) (filter-map (begins key) (entry_of columns) table) (IsPermutation-filter (begins key) _ _ indexed)) in
+      (subst (λ l. IsPermutation l (filter (has_prefix key) index)) (filter-map (has_prefix key) (entry_of columns) table) (IsPermutation-filter (has_prefix key) _ _ indexed)) in
       let sorted = sorted_index plain index up in
-      let unique : filter (begins key) index ≡ map (entry_of columns) rows =
+      let unique : filter (has_prefix key) index ≡ map (entry_of columns) rows =
       sorted_unique (entry_cmp plain) (entry_cmp_total plain) _ _ (rising rows (sym it.2)) chosen
-      (sorted_from_ascending (entry_cmp plain) (entry_cmp_total plain) _ (ascending-filter (λ a b. is_gt (entry_cmp plain a b) ≡ false) (begins key) index sorted)) in
+      (sorted_from_ascending (entry_cmp plain) (entry_cmp_total plain) _ (ascending-filter (λ a b. is_gt (entry_cmp plain a b) ≡ false) (has_prefix key) index sorted)) in
       record {
         rows = rows;
         are = sym it.2;
-        each = all-permutation (IsAt table) _ _ it.1 (all-filter (IsAt table) (λ r. begins key (entry_of columns r)) table (alone table shaped.0 shaped.1));
+        each = all-permutation (IsUniqueRow table) _ _ it.1 (all-filter (IsUniqueRow table) (λ r. has_prefix key (entry_of columns r)) table (alone table shaped.0 shaped.1));
         rest = filter (beyond key) index;
         found = from_key-filter plain key index sorted ∙ parts key index sorted ∙ ap (λ l. l ++ filter (beyond key) index) unique;
-        hits = subst (AllByRecursion (λ e. begins key e ≡ true)) unique (all_kept (begins key) index);
+        hits = subst (AllByRecursion (λ e. has_prefix key e ≡ true)) unique (all_kept (has_prefix key) index);
         past = past key index;
       }
 
@@ -150,23 +150,23 @@ then_both : (c d : Ordering) → is_eq (ordering_then c (ordering_then d Equal))
 then_both Equal Less = refl
 then_both _ _ = refl
 
-same_run : (columns : List ℕ) (n : ℕ) (r : Row) → begins (run_key n) (entry_of (1 ∷ columns) r) ≡ begins (run_key n) (entry_of (1 ∷ columns) (back (drop 1 r)))
+same_run : (columns : List ℕ) (n : ℕ) (r : Row) → has_prefix (run_key n) (entry_of (1 ∷ columns) r) ≡ has_prefix (run_key n) (entry_of (1 ∷ columns) (back (drop 1 r)))
 same_run columns n [] = refl
 same_run columns n (x ∷ r) = refl
 
-same_entry : (columns : List ℕ) (n p : ℕ) (r : Row) → begins (entry_key n p) (entry_of (1 ∷ 2 ∷ columns) r) ≡ begins (entry_key n p) (entry_of (1 ∷ 2 ∷ columns) (back (drop 1 r)))
+same_entry : (columns : List ℕ) (n p : ℕ) (r : Row) → has_prefix (entry_key n p) (entry_of (1 ∷ 2 ∷ columns) r) ≡ has_prefix (entry_key n p) (entry_of (1 ∷ 2 ∷ columns) (back (drop 1 r)))
 same_entry columns n p [] = refl
 same_entry columns n p (x ∷ r) = refl
 
-in_run : (columns : List ℕ) (n m : ℕ) (r : Row) → begins (run_key n) (entry_of (1 ∷ columns) (back (Int (pos m) ∷ r))) ≡ (m == n)
+in_run : (columns : List ℕ) (n m : ℕ) (r : Row) → has_prefix (run_key n) (entry_of (1 ∷ columns) (back (Int (pos m) ∷ r))) ≡ (m == n)
 unfolding first_key
 in_run columns n m r = ap is_eq (then-Equal (value_cmp (Int (pos m)) (Int (pos n)))) ∙ same_test m n
 
-at_place : (n p m : ℕ) (e : Entry) → begins (entry_key n p) (entry_of cs (back (entry_row m e))) ≡ (m == n) && (e.position == p)
+at_place : (n p m : ℕ) (e : Entry) → has_prefix (entry_key n p) (entry_of cs (back (entry_row m e))) ≡ (m == n) && (e.position == p)
 unfolding first_key
 at_place n p m e = then_both (value_cmp (Int (pos m)) (Int (pos n))) (value_cmp (Int (pos e.position)) (Int (pos p))) ∙ ap₂ (λ a b. a && b) (same_test m n) (same_test e.position p)
 
-module _ (runs : List Run) (trees : Trees) (k : Keeps runs trees) (shaped : IsShaped Table (trees 3)) (up : IsIndex plain (trees 4)) (n : ℕ) where
+module _ (runs : List Run) (trees : Trees) (k : IsSchema2Of runs trees) (shaped : IsShaped Table (trees 3)) (up : IsIndex plain (trees 4)) (n : ℕ) where
   abbrev es : List Entry
   es = entries_of (run_at runs n)
 
@@ -177,16 +177,16 @@ module _ (runs : List Run) (trees : Trees) (k : Keeps runs trees) (shaped : IsSh
   indexed = subst (λ (t : Trees). IsPermutation (map (entry_of cs) (t 3)) (t 4)) (sym k.2)
       (subst (λ (s : Schema). AllByRecursion (λ i. IsIndexOf i.columns (k.0.trees i.table) (k.0.trees i.tree)) s.indexes) k.3.schema k.1.obeys.indexed).1.0
 
-  pub places_of_run : Places cs (run_key n) (map (entry_row n) es) (trees 3) (trees 4)
+  pub places_of_run : IndexesRows cs (run_key n) (map (entry_row n) es) (trees 3) (trees 4)
   places_of_run =
       places cs (run_key n) (entry_rows runs) (map (entry_row n) es) (trees 3) (trees 4) are (same_run (2 ∷ []) n)
-      (of_run (λ r. begins (run_key n) (entry_of cs (back r))) (λ e. true) n runs (λ m e. in_run (2 ∷ []) n m (drop 1 (entry_row m e)) ∙ sym (and_true (m == n))) k.3.valid.numbered ∙ ap (map (entry_row n)) (all_pass es))
+      (of_run (λ r. has_prefix (run_key n) (entry_of cs (back r))) (λ e. true) n runs (λ m e. in_run (2 ∷ []) n m (drop 1 (entry_row m e)) ∙ sym (and_true (m == n))) k.3.valid.numbered ∙ ap (map (entry_row n)) (all_pass es))
       (rise n es (up_of runs n k.3.valid)) shaped indexed up
 
-  pub place_of_entry : (p : ℕ) → Places cs (entry_key n p) (map (entry_row n) (filter (λ (e : Entry). e.position == p) es)) (trees 3) (trees 4)
+  pub place_of_entry : (p : ℕ) → IndexesRows cs (entry_key n p) (map (entry_row n) (filter (λ (e : Entry). e.position == p) es)) (trees 3) (trees 4)
   place_of_entry p =
       places cs (entry_key n p) (entry_rows runs) (map (entry_row n) (filter (λ (e : Entry). e.position == p) es)) (trees 3) (trees 4) are (same_entry [] n p)
-      (of_run (λ r. begins (entry_key n p) (entry_of cs (back r))) (λ e. e.position == p) n runs (at_place n p) k.3.valid.numbered)
+      (of_run (λ r. has_prefix (entry_key n p) (entry_of cs (back r))) (λ e. e.position == p) n runs (at_place n p) k.3.valid.numbered)
       (rise n (filter (λ (e : Entry). e.position == p) es) (ascending-filter (λ (a b : Entry). a.position < b.position) (λ e. e.position == p) es (up_of runs n k.3.valid))) shaped indexed up
 
 -- ---- the pairs of an entry
@@ -194,7 +194,7 @@ module _ (runs : List Run) (trees : Trees) (k : Keeps runs trees) (shaped : IsSh
 abbrev pub cs3 : List ℕ
 cs3 = 1 ∷ 2 ∷ 3 ∷ []
 
-pair_at_place : (n p m q k : ℕ) (v : Variable) → begins (entry_key n p) (entry_of cs3 (back (pair_row m q k v))) ≡ (m == n) && (q == p)
+pair_at_place : (n p m q k : ℕ) (v : Variable) → has_prefix (entry_key n p) (entry_of cs3 (back (pair_row m q k v))) ≡ (m == n) && (q == p)
 unfolding first_key
 pair_at_place n p m q k v = then_both (value_cmp (Int (pos m)) (Int (pos n))) (value_cmp (Int (pos q)) (Int (pos p))) ∙ ap₂ (λ a b. a && b) (same_test m n) (same_test q p)
 
@@ -202,8 +202,8 @@ by_place : (n p k j : ℕ) (v w : Variable) → k < j → Below cs3 (pair_row n 
 unfolding first_key
 by_place n p k j v w h a b = rw (equal n, equal p, below k j h) refl
 
-pub places_of_pairs : (runs : List Run) (trees : Trees) → Keeps runs trees → IsShaped Table (trees 5) → IsIndex plain (trees 6) → (n p : ℕ)
-    → Places cs3 (entry_key n p) (pair_rows_from n p 0 (pairs_of (entry_at (run_at runs n) p))) (trees 5) (trees 6)
+pub places_of_pairs : (runs : List Run) (trees : Trees) → IsSchema2Of runs trees → IsShaped Table (trees 5) → IsIndex plain (trees 6) → (n p : ℕ)
+    → IndexesRows cs3 (entry_key n p) (pair_rows_from n p 0 (pairs_of (entry_at (run_at runs n) p))) (trees 5) (trees 6)
 places_of_pairs runs trees k shaped up n p =
     let vs = pairs_of (entry_at (run_at runs n) p) in
     let mine = pair_rows_from n p 0 vs in
@@ -211,5 +211,5 @@ places_of_pairs runs trees k shaped up n p =
     let indexed : IsPermutation (map (entry_of cs3) (trees 5)) (trees 6) =
     subst (λ (t : Trees). IsPermutation (map (entry_of cs3) (t 5)) (t 6)) (sym k.2)
     (subst (λ (s : Schema). AllByRecursion (λ i. IsIndexOf i.columns (k.0.trees i.table) (k.0.trees i.tree)) s.indexes) k.3.schema k.1.obeys.indexed).1.1.0 in
-    places cs3 (entry_key n p) (prop_rows runs) mine (trees 5) (trees 6) are (same_entry (3 ∷ []) n p) (of_entry (λ r. begins (entry_key n p) (entry_of cs3 (back r))) n p runs k.3.valid (pair_at_place n p))
+    places cs3 (entry_key n p) (prop_rows runs) mine (trees 5) (trees 6) are (same_entry (3 ∷ []) n p) (of_entry (λ r. has_prefix (entry_key n p) (entry_of cs3 (back r))) n p runs k.3.valid (pair_at_place n p))
     (risen cs3 refl mine (pairs_rise n p (Below cs3) (by_place n p) 0 vs)) shaped indexed up

@@ -1,12 +1,12 @@
 -- The ends of calls that write the trees of a store: a commit or a rollback.
-use Rattle.kt_dbfile.proofs.Common.{Agrees, Database, EndsTransaction, Err, Ghosts, HasCleanDisk, HasCommitted, HasRuns, Held, HoldsCommit, IsLive, IsSettledStore, IsSound, IsTrue, Keeps, IsSchema2OfOne, List, Lists, OnlyReadsStore, Ok, SurvivesCrash, Result, Run, Schema, Serves, StandsFor, StaysNumbered, StoreCall, StoreFault, Trees, WritesRows, ap, catalog_tree, runs_after, clean_if_open, false, inl, inr, is_err, lists_once, readings, refl, runs_file, state, subst, sym, true, true≢false, ◌∙◌, ◌∷◌, ◌≡◌}
+use Rattle.kt_dbfile.proofs.Common.{Agrees, Database, EndsTransaction, Err, Ghosts, HasCleanDisk, HasCommitted, HasRuns, Held, KeepsLastCommit, IsLive, IsSettledStore, IsSound, IsTrue, IsSchema2Of, IsSchema2OfOne, List, Lists, OnlyReadsStore, Ok, SurvivesCrash, Result, Run, Schema, Serves, StandsFor, StaysNumbered, StoreCall, StoreFault, Trees, WritesRows, ap, catalog_tree, runs_after, clean_if_open, false, inl, inr, is_err, lists_once, read_only_spec, refl, runs_file, state, subst, sym, true, true≢false, ◌∙◌, ◌∷◌, ◌≡◌}
 use Rattle.sqlite_trees.specs.View.{View, IsClean, IsRolledBack}
 use Rattle.kt_dbfile.proofs.SeenLemmas.{read_serves}
 use Rattle.kt_store.proofs.ServeLemmas.{IsWrite}
 use Rattle.kt_store.proofs.Numbered.{numbers_changed, ordered_changed}
 
 module _ (old new : View) (back : IsRolledBack old new) (clean : IsClean new) where
-  pub rolled_held : HoldsCommit old new
+  pub rolled_held : KeepsLastCommit old new
   rolled_held opened = ((back.kept clean).was_open opened, (back.kept clean).committed opened, back.numbered)
 
 -- a store that is not broken is open
@@ -19,7 +19,7 @@ sound_of v schema law is clean sound = subst (IsSound schema) (sym (is.settled c
 
 -- a settled store shows the trees of the runs that it represents
 pub has_runs : (v : View) (schema : Schema) → (v.is_open ≡ false → IsTrue v.is_broken) → IsSettledStore v schema → (runs : List Run) → HasCommitted v runs → HasRuns v runs
-has_runs v schema law is runs has clean sound = subst (Keeps runs) (sym (is.settled clean sound)) (has (open_if_sound v law sound))
+has_runs v schema law is runs has clean sound = subst (IsSchema2Of runs) (sym (is.settled clean sound)) (has (open_if_sound v law sound))
 
 -- a store that was only read is settled
 pub looked_settled : {S : Type 0} (g : Ghosts S) (old new : S) (schema : Schema) → ((g.view new).is_clean ≡ false → (g.view new).is_open ≡ false) → OnlyReadsStore g old new → IsSettledStore (g.view old) schema → IsSettledStore (g.view new) schema
@@ -37,11 +37,11 @@ module _ {S : Type 0} (g : Ghosts S) (dirty : (s : S) → (g.view s).is_clean �
 
   module _ (old new : S) (looks : OnlyReadsStore g old new) (is : IsSettledStore (g.view old) schema) where
     still : (runs : List Run) → HasCommitted (g.view old) runs → HasCommitted (g.view new) runs
-    still runs h opened = let held = looks.held (clean_if_open (g.view new) (dirty new) opened) opened in subst (Keeps runs) (sym held.1) (h held.0)
+    still runs h opened = let held = looks.held (clean_if_open (g.view new) (dirty new) opened) opened in subst (IsSchema2Of runs) (sym held.1) (h held.0)
 
     pub read_served : (call : StoreCall) → ((runs : List Run) → runs_after call runs ≡ runs)
         → ((runs : List Run) (may : List (List Run)) → ((runs_file g).leaves old may → (runs_file g).leaves new may) → SurvivesCrash (runs_file g).leaves call runs may old new)
-        → Serves (readings g) call old new → Serves (runs_file g) call old new
+        → Serves (read_only_spec g) call old new → Serves (runs_file g) call old new
     read_served call same lasts s = read_serves g old new looks HasCommitted still call same lasts (λ runs h. s.agrees runs (has_runs (g.view old) schema (shut old) is runs h.0, h.1, h.2))
 
   -- ---- a call that writes
@@ -60,8 +60,8 @@ module _ {S : Type 0} (g : Ghosts S) (dirty : (s : S) → (g.view s).is_clean �
     made call' runs h agrees earlier kept = (kept, numbers_changed call' runs h.1, λ late. ordered_changed call' runs h.1 (h.2 (earlier late)) (agrees late))
 
     -- the written trees are those of the changed runs
-    rows : (written : Result T StoreFault) → WritesRows g schema call old mid written → is_err written ≡ false → (runs : List Run) → (runs_file g).stands old runs → IsClean (g.view mid) → Keeps (change runs) (g.view mid).trees
-    rows (Ok x) wrote none runs h clean = subst (λ l. Keeps l (g.view mid).trees) (writes.done x runs) (wrote.rows runs (has runs h) clean)
+    rows : (written : Result T StoreFault) → WritesRows g schema call old mid written → is_err written ≡ false → (runs : List Run) → (runs_file g).stands old runs → IsClean (g.view mid) → IsSchema2Of (change runs) (g.view mid).trees
+    rows (Ok x) wrote none runs h clean = subst (λ l. IsSchema2Of l (g.view mid).trees) (writes.done x runs) (wrote.rows runs (has runs h) clean)
     rows (Err f) wrote none runs h clean = absurd (true≢false none)
 
     -- the trees are numbered as before the call
@@ -79,12 +79,12 @@ module _ {S : Type 0} (g : Ghosts S) (dirty : (s : S) → (g.view s).is_clean �
           asked = stays_numbered written (Ok x) wrote ended;
           stands = λ runs h. made (call (Ok x)) runs h (λ late. done.agrees runs (has runs h) (ended.clean late)) (λ late. wrote.clean (ended.clean late)) (λ opened.
               let late = clean_if_open (g.view new) (dirty new) opened in
-              subst (Keeps (runs_after (call (Ok x)) runs)) (sym (ended.done late).1) (done.rows runs (has runs h) (ended.clean late)));
+              subst (IsSchema2Of (runs_after (call (Ok x)) runs)) (sym (ended.done late).1) (done.rows runs (has runs h) (ended.clean late)));
           earlier = λ runs h late. wrote.clean (ended.clean late);
           agrees = λ runs h late. done.agrees runs (has runs h) (ended.clean late);
           crash = λ runs may h. writes.lasts x runs may old new (λ late trees found.
               let opened = open_if_sound (g.view new) (shut new) (ended.done late).0 in
-              inl (subst (Keeps (change runs)) (sym (settles new trees opened found ∙ (ended.done late).1)) (rows (Ok x) done refl runs h (ended.clean late))));
+              inl (subst (IsSchema2Of (change runs)) (sym (settles new trees opened found ∙ (ended.done late).1)) (rows (Ok x) done refl runs h (ended.clean late))));
         }
     ended_served written (Err e) wrote ended = record {
       asked = stays_numbered written (Err e) wrote ended;
@@ -92,11 +92,11 @@ module _ {S : Type 0} (g : Ghosts S) (dirty : (s : S) → (g.view s).is_clean �
           let late = clean_if_open (g.view new) (dirty new) opened in
           let second = ended.kept late opened in
           let first = wrote.held (ended.clean late) second.0 in
-          subst (λ l. Keeps l (g.view new).committed) (sym (writes.refused e runs)) (subst (Keeps runs) (sym (second.1 ∙ first.1)) (h.0 first.0)));
+          subst (λ l. IsSchema2Of l (g.view new).committed) (sym (writes.refused e runs)) (subst (IsSchema2Of runs) (sym (second.1 ∙ first.1)) (h.0 first.0)));
       earlier = λ runs h late. wrote.clean (ended.clean late);
       agrees = agrees;
       crash = λ runs may h. writes.survives e runs may old new (λ left late trees found. elim (ended.crash trees found) [
-        | inl it ↦ inr (inl (subst (Keeps (change runs)) (sym it.1) (rows written wrote it.0 runs h (ended.clean late))))
+        | inl it ↦ inr (inl (subst (IsSchema2Of (change runs)) (sym it.1) (rows written wrote it.0 runs h (ended.clean late))))
         | inr before ↦ wider runs may trees (left (wrote.clean (ended.clean late)) trees (wrote.outcomes trees before))
       ]);
     }

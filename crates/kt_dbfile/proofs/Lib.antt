@@ -6,4 +6,5 @@ pub mod ReopenLemmas
 pub mod CursorLemmas
 pub mod SeenLemmas
 pub mod OpeningLemmas
+pub mod FailLemmas
 pub mod NewFiles

@@ -1,6 +1,6 @@
 -- A file that holds runs lists the schema of their tables, and the results attached to it have
 -- these runs.
-use Rattle.kt_dbfile.proofs.Common.{AllByRecursion, AreOrdered, Bool, Current, Database, Err, FileStore, HasCleanDisk, HasCommitted, Held, HoldsAt, HoldsDatabase, HoldsIn, HoldsRuns, IfOk, Image, Int, IsClean, IsRun, IsAttached, IsAttachedFiles, IsTrue, Keeps, List, Lists, OnlyReadsStore, Ok, OpensOver, OpensRuns, Option, PageMap, Recovers, Result, Row, Run, Schema, Shape, Some, StandsFor, StoreFault, Table, Tables, Trees, Trees-set, Value, View, [], ap, ap₂, arith, catalog_tree, clean_if_open, cond, entries_table, false, file_state, get_or, in_use, index_reals, inr, joined, layout_at, layout_of, length, lists_once, map, map-map, meets, meta_1, none-some, number_in, over_files, plain, plain_adopts, pos, props_1, recovers_once, refl, rowid, rows_at, same_Some, schema_2, shut_if_dirty_at, state, subst, sym, table_reals, true, unrooted, version_in, view, with_version, ℕ, ∥∥₁_elim, ◌%◌, ◌-◌, ◌<◌, ◌∙◌, ◌∷◌, ◌≡◌, ◌≢◌, ◌≤◌}
+use Rattle.kt_dbfile.proofs.Common.{AllByRecursion, AreOrdered, Bool, Schema2, Database, Err, FileStore, HasCleanDisk, HasCommitted, Held, HoldsAt, HoldsDatabase, HoldsIn, HoldsRuns, IfErr, IfOk, Image, Int, IsClean, IsValidRun, IsAttached, IsAttachedFiles, IsSchema2Of, List, Lists, OnlyReadsStore, Ok, OpensOver, OpensRuns, Option, PageMap, Recovers, Result, Row, Run, Schema, Shape, Some, StandsFor, StoreFault, Table, Tables, Trees, Trees-set, Value, View, [], ap, ap₂, arith, catalog_tree, clean_if_open, cond, entries_table, false, file_state, get_or, in_use, index_reals, inl, inr, joined, layout_at, layout_of, length, lists_once, map, map-map, meets, meta_table, none-some, number_in, over_files, plain, plain_adopts, pos, props_table, recovers_once, refl, rowid, rows_at, same_Some, schema_2, shut_if_dirty_at, state, subst, sym, table_reals, true, unrooted, version_in, view, with_version, ℕ, ∥∥₁_elim, ◌%◌, ◌-◌, ◌<◌, ◌∙◌, ◌∷◌, ◌≡◌, ◌≢◌, ◌≤◌}
 use Rattle.std.specs.Result.{result_ok}
 use Rattle.sqlite_trees.specs.declared.store.Shape.TheVariants as kind
 use Rattle.sqlite_store.specs.declared.catalog.Wanted.{Wanted}
@@ -10,15 +10,20 @@ use Rattle.sqlite_catalog.specs.Reading.{AreShaped}
 use Rattle.sqlite.specs.Store.{Ghosts as StoreGhosts}
 use Rattle.sqlite_disk.specs.declared.Disk.{Ghosts}
 use Rattle.sqlite_disk.specs.Events.{Event, replay}
-use Rattle.kt_store.specs.Attaching.{IsOf, AttachSucceeds, DatabaseBefore}
+use Rattle.kt_store.specs.Attaching.{Describes, AttachSucceeds, InitialDatabase}
 use Rattle.sqlite_pool.specs.Stored.{stored_size}
 use Rattle.sqlite_wal.specs.PageSize.{IsPageSize}
 use Rattle.sqlite_wal.specs.Reads.{OnlyReads}
 use Rattle.sqlite_wal.proofs.CleanLemmas.{both_clean}
 use Rattle.sqlite_disk.specs.declared.Files.{Files}
 use Rattle.sqlite.specs.Files.{IsOpened, Finds as FindsFiles, image_of}
-use Rattle.kt_store.specs.Files.{AreOfFile, Finds, Follows, IsOfFile, IsReadAs, recovered, unchanged}
-use Rattle.kt_dbfile.specs.Inner.Opening.{IsOnlyRead}
+use Rattle.kt_store.specs.Ask.{IsDatabaseFault}
+use Rattle.kt_store.specs.Stands.{IsSettledWhileOpen, RepresentsInSchema1}
+use Rattle.kt_store.specs.Runs.{IsSchema1Database}
+use Rattle.kt_store.specs.Types.{IsDatabase}
+use Rattle.kt_dbfile.specs.FailedOpen.{HoldsInSchema1}
+use Rattle.kt_store.specs.Files.{AreResultsOf, Finds, Follows, IsConnectionTo, IsReadAs, recovered, unchanged}
+use Rattle.kt_dbfile.specs.Inner.Opening.{FailsToAttach, IsConvertedFrom, IsOnlyRead}
 use Rattle.kt_dbfile.proofs.Common.{adopts_of, same_image}
 
 -- a result that was converted to an option
@@ -68,17 +73,17 @@ layouts_are v rows knows are =
     let t = knows.tables in
     let i = knows.indexes in
     let e0 : layout_at v 0 ≡ lay kind.Table 0 = laid t.0.0 t.0.1 in
-    let e1 : layout_at v 1 ≡ lay (kind.Index plain) 0 = laid i.0.0 (i.0.1.2 ∙ no_reals meta_1 i.0.1.0 (1 ∷ []) i.0.1.1 refl) in
+    let e1 : layout_at v 1 ≡ lay (kind.Index plain) 0 = laid i.0.0 (i.0.1.2 ∙ no_reals meta_table i.0.1.0 (1 ∷ []) i.0.1.1 refl) in
     let e2 : layout_at v 2 ≡ lay kind.Table 0 = laid t.1.0.0 t.1.0.1 in
     let e3 : layout_at v 3 ≡ lay kind.Table 0 = laid t.1.1.0.0 t.1.1.0.1 in
     let e4 : layout_at v 4 ≡ lay (kind.Index plain) 0 = laid i.1.0.0 (i.1.0.1.2 ∙ no_reals entries_table i.1.0.1.0 (1 ∷ 2 ∷ []) i.1.0.1.1 refl) in
     let e5 : layout_at v 5 ≡ lay kind.Table 0 = laid t.1.1.1.0.0 t.1.1.1.0.1 in
-    let e6 : layout_at v 6 ≡ lay (kind.Index plain) 0 = laid i.1.1.0.0 (i.1.1.0.1.2 ∙ no_reals props_1 i.1.1.0.1.0 (1 ∷ 2 ∷ 3 ∷ []) i.1.1.0.1.1 refl) in
+    let e6 : layout_at v 6 ≡ lay (kind.Index plain) 0 = laid i.1.1.0.0 (i.1.1.0.1.2 ∙ no_reals props_table i.1.1.0.1.0 (1 ∷ 2 ∷ 3 ∷ []) i.1.1.0.1.1 refl) in
     sym (map-map at rowid rows) ∙ ap (map at) are ∙ rw (e0, e1, e2, e3, e4, e5, e6) refl
 
 module _ (size : ℕ) (image : Image) (pages : PageMap) (found : Recovers size image pages) (wanted : List Wanted) (rows : List Row) (read : rows ≡ map unrooted (rows_at size (in_use size pages) kind.Table 1)) (numbered : map rowid rows ≡ ids)
     (listed : listed_from 0 wanted ≡ joined rows layouts) where
-  pub fits_of : (runs : List Run) (db : Trees) → HoldsAt size image db → Keeps runs db → IsOurs size true wanted pages × (db ≡ file_trees size wanted pages)
+  pub fits_of : (runs : List Run) (db : Trees) → HoldsAt size image db → IsSchema2Of runs db → IsOurs size true wanted pages × (db ≡ file_trees size wanted pages)
   fits_of runs db held keeps =
       let same = recovers_once size image held.pages pages held.found found in
       let m = meets held in
@@ -95,7 +100,7 @@ pub without_sums : (size : ℕ) (image : Image) (db : Trees) → size % 16 ≢ 8
 without_sums size image db plain held =
     record { pages = held.pages; wanted = held.wanted; schema = held.schema; found = plain_adopts size image held.pages plain held.found; ours = held.ours; reads = held.reads; sound = held.sound }
 
-pub ordered_of : (runs : List Run) → AllByRecursion IsRun runs → AreOrdered runs
+pub ordered_of : (runs : List Run) → AllByRecursion IsValidRun runs → AreOrdered runs
 ordered_of [] each = tt
 ordered_of (r ∷ runs) each = (each.0.ordered, ordered_of runs each.1)
 
@@ -106,7 +111,7 @@ opens_runs image old new looks settled unbroken opens = record {
     λ opened.
         let clean = clean_if_open (view new) (shut_if_dirty_at new) opened in
         let held = looks.held clean opened in
-        subst (Keeps runs) (settled ∙ sym held.1) ((opens (looks.clean clean)).holds runs h (unbroken (looks.clean clean))),
+        subst (IsSchema2Of runs) (settled ∙ sym held.1) ((opens (looks.clean clean)).holds runs h (unbroken (looks.clean clean))),
     h.2.3.valid.numbered,
     λ clean. ordered_of runs h.2.3.valid.each,
   );
@@ -115,21 +120,26 @@ opens_runs image old new looks settled unbroken opens = record {
 
 -- ---- the results attached to a file have the runs that the file held
 
-same_tables : (s t : Schema) (a b : Trees) (runs : List Run) → s ≡ t → a ≡ b → Tables (record { schema = s; trees = a }) runs → Tables (record { schema = t; trees = b }) runs
-same_tables s t a b runs same equal has = subst (λ x. Tables (record { schema = t; trees = x }) runs) equal (subst (λ x. Tables (record { schema = x; trees = a }) runs) same has)
+same_database : (P : Database → Type 0) (s t : Schema) (a b : Trees) → s ≡ t → a ≡ b → P (record { schema = s; trees = a }) → P (record { schema = t; trees = b })
+same_database P s t a b same equal has = subst (λ x. P (record { schema = t; trees = x })) equal (subst (λ x. P (record { schema = x; trees = a })) same has)
 
-pub taken_by : {S : Type 0} (g : StoreGhosts S) (conn results : Held S) (made : Result S StoreFault) → ((was : DatabaseBefore) → IsOf was (state g conn) → AttachSucceeds was (state g conn) (state g results))
-    → IfOk made (λ s. (runs : List Run) → StandsFor (state g results) runs → HasCommitted (g.view s) runs) → IfOk made (λ s. IsClean (g.view s) → HasCleanDisk (state g results))
-    → IfOk made (λ s. (trees : Trees) → g.recovers s trees → (state g results).may_leave trees) → IfOk made (λ s. IsClean (g.view s) → IsTrue (g.view s).is_numbered) → IfOk made (IsAttached g conn)
-taken_by g conn results (Ok store) takes stands earlier crash numbered = (results, takes, stands, earlier, crash, numbered)
-taken_by g conn results (Err fault) takes stands earlier crash numbered = tt
+pub taken_by : {S E : Type 0} (g : StoreGhosts S) (conn results : Held S) (made : Result S E) → ((was : InitialDatabase) → Describes was (state g conn) → AttachSucceeds was (state g conn) (state g results))
+    → IfOk made (λ s. (runs : List Run) → StandsFor (state g results) runs → HasCommitted (g.view s) runs) → IfOk made (IsConvertedFrom g results) → IfOk made (IsAttached g conn)
+taken_by g conn results (Ok store) takes stands from = (results, takes, stands, from.earlier, from.crash, from.numbered)
+taken_by g conn results (Err fault) takes stands from = tt
 
-pub taken_files : {D : Type 0} {g : Ghosts D} (conn : Held (FileStore D g)) (made : Result (FileStore D g) StoreFault) → IfOk made (IsAttached over_files conn) → IfOk made (IsAttachedFiles conn)
+-- the results of a connection were attached and not converted
+pub not_taken : {S T : Type 0} (g : StoreGhosts S) (conn results : Held S) (made : Result T (StoreFault × S)) → ((was : InitialDatabase) → Describes was (state g conn) → AttachSucceeds was (state g conn) (state g results))
+    → IfErr made (λ e. IsDatabaseFault e.0) → IfErr made (λ e. IsConvertedFrom g results e.1) → IfErr made (λ e. FailsToAttach g conn e.0 e.1)
+not_taken g conn results (Ok store) takes failed from = tt
+not_taken g conn results (Err e) takes failed from = (results, from, inr (takes, failed))
+
+pub taken_files : {D E : Type 0} {g : Ghosts D} (conn : Held (FileStore D g)) (made : Result (FileStore D g) E) → IfOk made (IsAttached over_files conn) → IfOk made (IsAttachedFiles conn)
 taken_files conn (Ok store) (results, takes, stands, earlier, crash, numbered) = (results, takes, record { stands = stands; earlier = earlier; crash = crash; numbered = numbered })
 taken_files conn (Err fault) taken = tt
 
 -- files that were read hold the database that they held
-held_still : {old new : Image} → IsReadAs old new → (db : Trees) → HoldsDatabase old db → HoldsDatabase new db
+pub held_still : {old new : Image} → IsReadAs old new → (db : Trees) → HoldsDatabase old db → HoldsDatabase new db
 held_still unchanged db held = held
 held_still (recovered new size pages unsummed found again sized) db held =
     let at = without_sums size _ db unsummed (subst (λ n. HoldsIn n _ db) (sized db held) held.2) in
@@ -143,6 +153,7 @@ left_read g old new log db = record {
   log = log.usable;
   db = db.usable;
   read = λ clean. (both_clean _ _ _ _ log.clean db.clean clean, subst (IsReadAs (image_of g old)) (sym (same_image log db)) unchanged);
+  crash = λ clean after may. inl (log.crash after.log may.0, db.crash after.db may.1);
 }
 
 -- files that were only read once more are left
@@ -153,18 +164,19 @@ left_more g old mid new log db log_again db_again = record {
   read = λ clean.
       let early = both_clean _ _ _ _ log_again.clean db_again.clean clean in
       (both_clean _ _ _ _ log.clean db.clean early, subst (IsReadAs (image_of g old)) (sym (same_image log_again db_again ∙ same_image log db)) unchanged);
+  crash = λ clean after may. inl (log.crash after.log (log_again.crash after.log may.0), db.crash after.db (db_again.crash after.db may.1));
 }
 
 -- a connection over files that were only read shows the database that the files held
-pub of_file : {D : Type 0} {g : Ghosts D} (old left : Files D) (conn : Held (FileStore D g)) → IsOnlyRead g old left → (HasCleanDisk (file_state conn) → IsOpened conn × FindsFiles left conn) → IsOfFile (image_of g old) conn
+pub of_file : {D : Type 0} {g : Ghosts D} (old left : Files D) (conn : Held (FileStore D g)) → IsOnlyRead g old left → (HasCleanDisk (file_state conn) → IsOpened conn × FindsFiles left conn) → IsConnectionTo (image_of g old) conn
 of_file {D} {g} old left conn was over clean =
     let it = over clean in
     (it.0, (image_of g left, (was.read it.1.honest).1, record { holds = it.1.holds; reads = it.1.reads }))
 
 module _ {D : Type 0} {g : Ghosts D} (image : Image) where
-  -- a connection over the file represents these runs
-  pub held_stands : (conn : Held (FileStore D g)) → IsOfFile image conn → (runs : List Run) → HoldsRuns image runs → StandsFor (file_state conn) runs
-  held_stands conn over runs (db, found, (held, sound, trees, tables)) clean opened =
+  -- a connection over the file shows the database of the file
+  held_settled : (P : Database → Type 0) (conn : Held (FileStore D g)) → IsConnectionTo image conn → (db : Trees) → ∥ HoldsDatabase image db ∥₁ → (held : Database) → IsDatabase held → db ≡ held.trees → P held → IsSettledWhileOpen P (file_state conn)
+  held_settled P conn over db found held sound trees has clean opened =
       let it = over clean in
       let s = file_state conn in
       let (read, as_read, finds) = it.1 in
@@ -174,20 +186,28 @@ module _ {D : Type 0} {g : Ghosts D} (image : Image) where
       record {
         autocommit = it.0.0.autocommit;
         settled = sym it.0.0.clean;
-        tables = subst (λ (d : Database). Tables d runs) (sym it.0.0.clean) (same_tables held.schema s.committed.schema held.trees s.committed.trees runs schema same tables);
+        tables = subst P (sym it.0.0.clean) (same_database P held.schema s.committed.schema held.trees s.committed.trees schema same has);
       }
 
+  -- a connection over the file represents these runs
+  pub held_stands : (conn : Held (FileStore D g)) → IsConnectionTo image conn → (runs : List Run) → HoldsRuns image runs → StandsFor (file_state conn) runs
+  held_stands conn over runs (db, found, (held, sound, trees, tables)) = held_settled (λ d. Tables d runs) conn over db found held sound trees tables
+
+  -- a connection over a file of schema 1 represents its runs
+  pub held_older : (conn : Held (FileStore D g)) → IsConnectionTo image conn → (runs : List Run) → HoldsInSchema1 image runs → RepresentsInSchema1 (file_state conn) runs
+  held_older conn over runs (db, found, (held, sound, trees, tables), unlisted) = held_settled (λ d. IsSchema1Database d runs) conn over db found held sound trees tables
+
   -- the store of the attached results represents these runs
-  pub opens_of : (results : Held (FileStore D g)) (store : FileStore D g) → AreOfFile image results → Follows results store → OpensRuns image store
+  pub opens_of : (results : Held (FileStore D g)) (store : FileStore D g) → AreResultsOf image results → Follows results store → OpensRuns image store
   opens_of results store over follows =
-      let taken = λ (runs : List Run) (h : HoldsRuns image runs). over.2 (Current runs) (held_stands over.0 over.1 runs h) in
+      let taken = λ (runs : List Run) (h : HoldsRuns image runs). over.2 (Schema2 runs) (held_stands over.0 over.1 runs h) in
       record {
         stands = λ runs h. (follows.stands runs (taken runs h).0, h.2.3.valid.numbered, λ clean. ordered_of runs h.2.3.valid.each);
         leaves = λ runs h clean trees found. (taken runs h).1 (follows.earlier clean) trees (follows.crash trees found);
       }
 
-  pub found_of : (conn : Held (FileStore D g)) (made : Result (FileStore D g) StoreFault) → IsOfFile image conn → IfOk made (IsAttachedFiles conn) → IfOk made (Finds image)
+  pub found_of : {E : Type 0} (conn : Held (FileStore D g)) (made : Result (FileStore D g) E) → IsConnectionTo image conn → IfOk made (IsAttachedFiles conn) → IfOk made (Finds image)
   found_of conn (Ok store) over (results, takes, follows) =
-      let taken : AreOfFile image results = (conn, over, takes) in
+      let taken : AreResultsOf image results = (conn, over, takes) in
       record { held = opens_of results store taken follows; whose = inr (results, taken, follows); numbered = λ clean must. follows.numbered clean }
   found_of conn (Err fault) over taken = tt

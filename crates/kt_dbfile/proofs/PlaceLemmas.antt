@@ -1,34 +1,34 @@
 -- The rows that a cursor finds under a key, and the last row.
-use Rattle.kt_dbfile.proofs.Common.{AllByRecursion, AreNumbered, Backward, Int, IsAt, List, None, Places, Row, Run, SelectsColumns, Some, [], all-append, ap, append-nil, append_assoc, arith, begins, column, drop, entry_of, false, filter, from_key, has_rowid, in_columns, length, length-append, length-map, map, map-append, plain, pos, refl, reverse, reverse-append, reverse-reverse, rowid, run_row, slice_get, sought, subst, suc, sym, take, true, true≢false, up_to_key, ℕ, ℤ, ◌++◌, ◌+◌, ◌∙◌, ◌∷◌, ◌≡◌}
+use Rattle.kt_dbfile.proofs.Common.{AllByRecursion, AreNumbered, Backward, Int, IsUniqueRow, List, None, IndexesRows, Row, Run, SelectsColumns, Some, [], all-append, ap, append-nil, append_assoc, arith, has_prefix, column, drop, entry_of, false, filter, from_key, has_rowid, selected_columns, length, length-append, length-map, map, map-append, plain, pos, refl, reverse, reverse-append, reverse-reverse, rowid, run_row, slice_get, sought, subst, suc, sym, take, true, true≢false, up_to_key, ℕ, ℤ, ◌++◌, ◌+◌, ◌∙◌, ◌∷◌, ◌≡◌}
 use Rattle.sqlite_trees.specs.View.{View, Advances, with_cursor}
 
-module _ (columns cs : List ℕ) (key : Row) (mine table index : List Row) (p : Places cs key mine table index) where
+module _ (columns cs : List ℕ) (key : Row) (mine table index : List Row) (p : IndexesRows cs key mine table index) where
   -- `Halfway now shown`: a cursor has the index entries `now` left, and `shown` has the columns of
   -- the rows that it has returned
   pub record Halfway (now shown : List Row) : Type 0 where
     pub done : List Row
     pub left : List Row
     pub split : p.rows ≡ done ++ left
-    pub each : AllByRecursion (IsAt table) left
-    pub hits : AllByRecursion (λ e. begins key e ≡ true) (map (entry_of cs) left)
+    pub each : AllByRecursion (IsUniqueRow table) left
+    pub hits : AllByRecursion (λ e. has_prefix key e ≡ true) (map (entry_of cs) left)
     pub now_is : now ≡ map (entry_of cs) left ++ p.rest
-    pub shown_is : shown ≡ map (in_columns columns) done
+    pub shown_is : shown ≡ map (selected_columns columns) done
 
-  none_past : (rest : List Row) (place : Row) (new : List Row) → AllByRecursion (λ e. begins key e ≡ false) rest → rest ≡ place ∷ new → begins key place ≡ true → ⊥
-  none_past rest place new past is hit = true≢false (sym hit ∙ (subst (AllByRecursion (λ e. begins key e ≡ false)) is past).0)
+  none_past : (rest : List Row) (place : Row) (new : List Row) → AllByRecursion (λ e. has_prefix key e ≡ false) rest → rest ≡ place ∷ new → has_prefix key place ≡ true → ⊥
+  none_past rest place new past is hit = true≢false (sym hit ∙ (subst (AllByRecursion (λ e. has_prefix key e ≡ false)) is past).0)
 
-  module _ (place row : Row) (new : List Row) (hit : begins key place ≡ true) (reads : (front : Row) (id : ℤ) → place ≡ front ++ Int id ∷ [] → filter (has_rowid id) table ≡ row ∷ []) where
-    the_row : (r : Row) → IsAt table r → place ≡ entry_of cs r → r ≡ row
+  module _ (place row : Row) (new : List Row) (hit : has_prefix key place ≡ true) (reads : (front : Row) (id : ℤ) → place ≡ front ++ Int id ∷ [] → filter (has_rowid id) table ≡ row ∷ []) where
+    the_row : (r : Row) → IsUniqueRow table r → place ≡ entry_of cs r → r ≡ row
     the_row r at is =
         let found = reads (map (column r) cs) at.0 (is ∙ ap (λ v. map (column r) cs ++ v ∷ []) at.1) in
         let same : r ∷ [] ≡ row ∷ [] = sym at.2 ∙ found in
         cc
 
-    pub halfway_step : (now shown : List Row) → Halfway now shown → now ≡ place ∷ new → Halfway new (shown ++ in_columns columns row ∷ [])
+    pub halfway_step : (now shown : List Row) → Halfway now shown → now ≡ place ∷ new → Halfway new (shown ++ selected_columns columns row ∷ [])
     halfway_step now shown h is = go h.left h.split h.each h.hits (sym is ∙ h.now_is)
       where
-        go : (left : List Row) → p.rows ≡ h.done ++ left → AllByRecursion (IsAt table) left → AllByRecursion (λ e. begins key e ≡ true) (map (entry_of cs) left) → place ∷ new ≡ map (entry_of cs) left ++ p.rest
-            → Halfway new (shown ++ in_columns columns row ∷ [])
+        go : (left : List Row) → p.rows ≡ h.done ++ left → AllByRecursion (IsUniqueRow table) left → AllByRecursion (λ e. has_prefix key e ≡ true) (map (entry_of cs) left) → place ∷ new ≡ map (entry_of cs) left ++ p.rest
+            → Halfway new (shown ++ selected_columns columns row ∷ [])
         go [] split each hits at = absurd (none_past p.rest place new p.past (sym at) hit)
         go (r ∷ left) split each hits at =
             let first : place ≡ entry_of cs r = cc in
@@ -41,32 +41,32 @@ module _ (columns cs : List ℕ) (key : Row) (mine table index : List Row) (p : 
               each = each.1;
               hits = hits.1;
               now_is = others;
-              shown_is = ap (λ l. l ++ in_columns columns row ∷ []) h.shown_is ∙ ap (λ x. map (in_columns columns) h.done ++ in_columns columns x ∷ []) (sym same) ∙ sym (map-append (in_columns columns) h.done (r ∷ []));
+              shown_is = ap (λ l. l ++ selected_columns columns row ∷ []) h.shown_is ∙ ap (λ x. map (selected_columns columns) h.done ++ selected_columns columns x ∷ []) (sym same) ∙ sym (map-append (selected_columns columns) h.done (r ∷ []));
             }
 
     -- the row of the first index entry from the key on is the first of the rows under the key
     pub first_row : from_key plain key index ≡ place ∷ new → Some (drop 1 row) ≡ slice_get mine 0
     first_row is = go p.rows p.are p.each (sym is ∙ p.found)
       where
-        go : (rows : List Row) → map (drop 1) rows ≡ mine → AllByRecursion (IsAt table) rows → place ∷ new ≡ map (entry_of cs) rows ++ p.rest → Some (drop 1 row) ≡ slice_get mine 0
+        go : (rows : List Row) → map (drop 1) rows ≡ mine → AllByRecursion (IsUniqueRow table) rows → place ∷ new ≡ map (entry_of cs) rows ++ p.rest → Some (drop 1 row) ≡ slice_get mine 0
         go [] are each at = absurd (none_past p.rest place new p.past (sym at) hit)
         go (r ∷ rows) are each at =
             let first : place ≡ entry_of cs r = cc in
             ap (λ (x : Row). Some (drop 1 x)) (sym (the_row r each.0 first)) ∙ ap (λ l. slice_get l 0) are
 
-  pub first_none : (now : List Row) → now ≡ from_key plain key index → AllByRecursion (λ e. begins key e ≡ false) (take 1 now) → None ≡ slice_get mine 0
+  pub first_none : (now : List Row) → now ≡ from_key plain key index → AllByRecursion (λ e. has_prefix key e ≡ false) (take 1 now) → None ≡ slice_get mine 0
   first_none now is none = go p.rows p.are p.hits (is ∙ p.found)
     where
-      go : (rows : List Row) → map (drop 1) rows ≡ mine → AllByRecursion (λ e. begins key e ≡ true) (map (entry_of cs) rows) → now ≡ map (entry_of cs) rows ++ p.rest → None ≡ slice_get mine 0
+      go : (rows : List Row) → map (drop 1) rows ≡ mine → AllByRecursion (λ e. has_prefix key e ≡ true) (map (entry_of cs) rows) → now ≡ map (entry_of cs) rows ++ p.rest → None ≡ slice_get mine 0
       go [] are hits at = ap (λ l. slice_get l 0) are
-      go (r ∷ rows) are hits at = absurd (true≢false (sym hits.0 ∙ (subst (λ l. AllByRecursion (λ e. begins key e ≡ false) (take 1 l)) at none).0))
+      go (r ∷ rows) are hits at = absurd (true≢false (sym hits.0 ∙ (subst (λ l. AllByRecursion (λ e. has_prefix key e ≡ false) (take 1 l)) at none).0))
 
-  pub halfway_end : (now shown : List Row) → Halfway now shown → AllByRecursion (λ e. begins key e ≡ false) (take 1 now) → SelectsColumns columns mine shown
+  pub halfway_end : (now shown : List Row) → Halfway now shown → AllByRecursion (λ e. has_prefix key e ≡ false) (take 1 now) → SelectsColumns columns mine shown
   halfway_end now shown h none = go h.left h.split h.hits h.now_is
     where
-      go : (left : List Row) → p.rows ≡ h.done ++ left → AllByRecursion (λ e. begins key e ≡ true) (map (entry_of cs) left) → now ≡ map (entry_of cs) left ++ p.rest → SelectsColumns columns mine shown
-      go [] split hits at = (p.rows, p.are, h.shown_is ∙ ap (map (in_columns columns)) (sym (split ∙ append-nil h.done)))
-      go (r ∷ left) split hits at = absurd (true≢false (sym hits.0 ∙ (subst (λ l. AllByRecursion (λ e. begins key e ≡ false) (take 1 l)) at none).0))
+      go : (left : List Row) → p.rows ≡ h.done ++ left → AllByRecursion (λ e. has_prefix key e ≡ true) (map (entry_of cs) left) → now ≡ map (entry_of cs) left ++ p.rest → SelectsColumns columns mine shown
+      go [] split hits at = (p.rows, p.are, h.shown_is ∙ ap (map (selected_columns columns)) (sym (split ∙ append-nil h.done)))
+      go (r ∷ left) split hits at = absurd (true≢false (sym hits.0 ∙ (subst (λ l. AllByRecursion (λ e. has_prefix key e ≡ false) (take 1 l)) at none).0))
 
 -- ---- the number of index entries that begin with a key
 
@@ -75,25 +75,25 @@ module _ (columns cs : List ℕ) (key : Row) (mine table index : List Row) (p : 
 pub record Passed (key : Row) (index now : List Row) (n : ℕ) : Type 0 where
   pub done : List Row
   pub split : from_key plain key index ≡ done ++ now
-  pub hits : AllByRecursion (λ e. begins key e ≡ true) done
+  pub hits : AllByRecursion (λ e. has_prefix key e ≡ true) done
   pub many : n ≡ length done
 
-pub passed_one : (key place : Row) (index now new : List Row) (n : ℕ) → now ≡ place ∷ new → begins key place ≡ true → Passed key index now n → Passed key index new (n + 1)
+pub passed_one : (key place : Row) (index now new : List Row) (n : ℕ) → now ≡ place ∷ new → has_prefix key place ≡ true → Passed key index now n → Passed key index new (n + 1)
 passed_one key place index now new n is hit p = record {
   done = p.done ++ place ∷ [];
   split = p.split ∙ ap (λ l. p.done ++ l) is ∙ sym (append_assoc p.done (place ∷ []) new);
-  hits = all-append (λ e. begins key e ≡ true) p.done (place ∷ []) p.hits (hit, tt);
+  hits = all-append (λ e. has_prefix key e ≡ true) p.done (place ∷ []) p.hits (hit, tt);
   many = ap (λ k. k + 1) p.many ∙ sym (length-append p.done (place ∷ []));
 }
 
-as_long : (key : Row) (done now hits rest : List Row) → done ++ now ≡ hits ++ rest → AllByRecursion (λ e. begins key e ≡ true) done → AllByRecursion (λ e. begins key e ≡ true) hits
-    → AllByRecursion (λ e. begins key e ≡ false) rest → AllByRecursion (λ e. begins key e ≡ false) (take 1 now) → length done ≡ length hits
+as_long : (key : Row) (done now hits rest : List Row) → done ++ now ≡ hits ++ rest → AllByRecursion (λ e. has_prefix key e ≡ true) done → AllByRecursion (λ e. has_prefix key e ≡ true) hits
+    → AllByRecursion (λ e. has_prefix key e ≡ false) rest → AllByRecursion (λ e. has_prefix key e ≡ false) (take 1 now) → length done ≡ length hits
 as_long key [] now [] rest is all each past none = refl
-as_long key [] now (h ∷ hits) rest is all each past none = absurd (true≢false (sym each.0 ∙ (subst (λ l. AllByRecursion (λ e. begins key e ≡ false) (take 1 l)) is none).0))
-as_long key (d ∷ done) now [] rest is all each past none = absurd (true≢false (sym all.0 ∙ (subst (AllByRecursion (λ e. begins key e ≡ false)) (sym is) past).0))
+as_long key [] now (h ∷ hits) rest is all each past none = absurd (true≢false (sym each.0 ∙ (subst (λ l. AllByRecursion (λ e. has_prefix key e ≡ false) (take 1 l)) is none).0))
+as_long key (d ∷ done) now [] rest is all each past none = absurd (true≢false (sym all.0 ∙ (subst (AllByRecursion (λ e. has_prefix key e ≡ false)) (sym is) past).0))
 as_long key (d ∷ done) now (h ∷ hits) rest is all each past none = let tails : done ++ now ≡ hits ++ rest = cc in ap suc (as_long key done now hits rest tails all.1 each.1 past none)
 
-pub passed_all : (key : Row) (cs : List ℕ) (mine table index now : List Row) (n : ℕ) → Places cs key mine table index → Passed key index now n → AllByRecursion (λ e. begins key e ≡ false) (take 1 now) → n ≡ length mine
+pub passed_all : (key : Row) (cs : List ℕ) (mine table index now : List Row) (n : ℕ) → IndexesRows cs key mine table index → Passed key index now n → AllByRecursion (λ e. has_prefix key e ≡ false) (take 1 now) → n ≡ length mine
 passed_all key cs mine table index now n p h none =
     h.many ∙ as_long key h.done now (map (entry_of cs) p.rows) p.rest (sym h.split ∙ p.found) h.hits p.hits p.past none
     ∙ length-map p.rows (entry_of cs) ∙ sym (length-map p.rows (drop 1)) ∙ ap length p.are

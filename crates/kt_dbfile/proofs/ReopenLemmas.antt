@@ -1,5 +1,5 @@
 -- A close leaves files that meet the conditions of an open.
-use Rattle.kt_dbfile.proofs.Common.{AreClean, Closed, FailsToEnd, FileStore, HasCommitted, HasTrees, HoldsDatabase, HoldsRuns, Image, IsOfRuns, IsTrue, Keeps, IsSchema2OfOne, List, Recovers, Run, StaysNumbered, Trees, [], adopts_of, ap, clean_if_open, file_alone, file_trees, inl, inr, kept_schema, outcomes, refl, schema_2, settled, settled_at, shut_if_dirty_at, size_is_allowed, subst, sym, ◌∙◌, ◌∷◌, ◌≡◌, ∥∥₁_elim, ∥∥₁_map}
+use Rattle.kt_dbfile.proofs.Common.{AreClean, Bool, OpensAndCloses, FailsToClose, FileStore, HasCommitted, HasTrees, HoldsDatabase, HoldsRuns, Image, IsTrustedImage, IsSound, IsTrue, IsSchema2Of, IsSchema2OfOne, List, Recovers, Run, Schema, StaysNumbered, Trees, [], adopts_of, ap, clean_if_open, file_alone, file_trees, inl, inr, kept_schema, outcomes, refl, schema_2, settled, settled_at, shut_if_dirty_at, size_is_allowed, subst, sym, ◌∙◌, ◌∷◌, ◌≡◌, ∥∥₁_elim, ∥∥₁_map}
 use Rattle.kt_base.specs.Chains.{Chain}
 use Rattle.kt_store.specs.StoreCalls.{StoreCall}
 use Rattle.sqlite_disk.specs.declared.Disk.{Ghosts}
@@ -51,28 +51,28 @@ module _ {D : Type 0} {g : Ghosts D} (it : FileStore D g) where
 -- ---- a close leaves files that meet the conditions of an open
 
 -- the assumption on opened files holds for files that hold runs
-pub supposed : (image : Image) (runs : List Run) → HoldsRuns image runs → ∥ IsOfRuns image ∥₁
-supposed image runs (db, found, keeps) = ∥∥₁_map found (λ (it : HoldsDatabase image db). let r : IsOfRuns image = λ size pages recovered lists. (runs, db, it, keeps) in r)
+pub supposed : (image : Image) (runs : List Run) → HoldsRuns image runs → ∥ IsTrustedImage image ∥₁
+supposed image runs (db, found, keeps) = ∥∥₁_map found (λ (it : HoldsDatabase image db). let r : IsTrustedImage image = λ size pages recovered lists. (runs, db, it, keeps) in r)
+
+-- files with numbered trees that obey a schema contain them
+pub database_of : (image : Image) (n : Bool) (trees : Trees) → HasTrees n trees image → IsTrue n → (schema : Schema) → IsSound schema trees → ∥ HoldsDatabase image trees ∥₁
+database_of image n trees has numbered schema sound = ∥∥₁_elim has.allowed squash₁ (λ size. ∥∥₁_map has.file (λ ours. let r : HoldsDatabase image trees = (
+  has.size,
+  size,
+  record {
+    pages = has.pages;
+    wanted = has.wanted;
+    schema = schema;
+    found = adopts_of _ image has.pages has.found;
+    ours = subst (λ b. IsOurs has.size b has.wanted has.pages) numbered ours;
+    reads = has.reads;
+    sound = sound;
+  },
+) in r))
 
 -- files with numbered trees that are those of runs hold the runs
-pub holds : (image : Image) (n : _) (trees : Trees) → HasTrees n trees image → IsTrue n → (runs : List Run) → Keeps runs trees → HoldsRuns image runs
-holds image n trees has numbered runs keeps = (
-  trees,
-  ∥∥₁_elim has.allowed squash₁ (λ size. ∥∥₁_map has.file (λ ours. let r : HoldsDatabase image trees = (
-    has.size,
-    size,
-    record {
-      pages = has.pages;
-      wanted = has.wanted;
-      schema = schema_2;
-      found = adopts_of _ image has.pages has.found;
-      ours = subst (λ b. IsOurs has.size b has.wanted has.pages) numbered ours;
-      reads = has.reads;
-      sound = sound_in runs trees keeps;
-    },
-  ) in r)),
-  keeps,
-)
+pub holds : (image : Image) (n : Bool) (trees : Trees) → HasTrees n trees image → IsTrue n → (runs : List Run) → IsSchema2Of runs trees → HoldsRuns image runs
+holds image n trees has numbered runs keeps = (trees, database_of image n trees has numbered schema_2 (sound_in runs trees keeps), keeps)
 
 module _ {D : Type 0} {g : Ghosts D} where
   -- calls change nothing about the numbers of the trees
@@ -84,7 +84,7 @@ module _ {D : Type 0} {g : Ghosts D} where
       let early = step (clean_if_open (view mid) (shut_if_dirty_at mid) late.0) late.0 in
       (early.0, late.1 ∙ early.1)
 
-  module _ (before : Image) (last : FileStore D g) (runs : List Run) (after : Image) (end : Closed before last runs after) where
+  module _ (before : Image) (last : FileStore D g) (runs : List Run) (after : Image) (end : OpensAndCloses before last runs after) where
     opened : IsTrue (view last).is_open
     opened = end.ends.was_open end.honest
 
@@ -105,21 +105,21 @@ module _ {D : Type 0} {g : Ghosts D} where
         (holds after _ _ left.0 numbered runs keeps, holds (record after { log = [] }) _ _ left.1 numbered runs keeps)
 
 -- a failed close that leaves its store open leaves files that hold the runs of the last commit
-pub kept : {D : Type 0} {g : Ghosts D} (store left : FileStore D g) (runs : List Run) (after : Image) → SeenMayStay g → HasCommitted (view store) runs → IsTrue (view store).is_numbered → FailsToEnd store left → StaysNumbered (view store) (view left)
+pub kept : {D : Type 0} {g : Ghosts D} (store left : FileStore D g) (runs : List Run) (after : Image) → SeenMayStay g → HasCommitted (view store) runs → IsTrue (view store).is_numbered → FailsToClose store left → StaysNumbered (view store) (view left)
     → IsTrue (view left).is_open → AreClean g (files left).0 (files left).1 → outcomes g (files left).0 (files left).1 after → HoldsRuns after runs
 unfolding holds
 kept store left runs after stays has was_numbered end same is_open honest outcome =
     let was = same (clean_if_open (view left) (shut_if_dirty_at left) is_open) is_open in
-    let keeps : Keeps runs (view store).committed = has was.0 in (
+    let keeps : IsSchema2Of runs (view store).committed = has was.0 in (
       (view store).committed,
       ∥∥₁_elim (end.left honest after outcome) squash₁ (λ it.
           let last : it.0 ≡ (view store).committed = settled_at store stays it.0 was.0 it.1 in
-          subst (λ t. ∥ HoldsDatabase after t ∥₁) last (holds after _ it.0 it.2 (was.1 ∙ was_numbered) runs (subst (Keeps runs) (sym last) keeps)).1),
+          subst (λ t. ∥ HoldsDatabase after t ∥₁) last (holds after _ it.0 it.2 (was.1 ∙ was_numbered) runs (subst (IsSchema2Of runs) (sym last) keeps)).1),
       keeps,
     )
 
 -- the runs of other trees are among the same lists
-pub one_of : (may : List (List Run)) (trees others : Trees) → ((runs : List Run) → Keeps runs trees → Keeps runs others) → IsSchema2OfOne may trees → IsSchema2OfOne may others
+pub one_of : (may : List (List Run)) (trees others : Trees) → ((runs : List Run) → IsSchema2Of runs trees → IsSchema2Of runs others) → IsSchema2OfOne may trees → IsSchema2OfOne may others
 one_of [] trees others same none = none
 one_of (runs ∷ may) trees others same (inl keeps) = inl (same runs keeps)
 one_of (runs ∷ may) trees others same (inr more) = inr (one_of may trees others same more)

@@ -4,4 +4,4 @@ pub mod Edits
 pub mod Known
 pub mod NewFiles
 pub mod Opening
-pub mod SupposedLaws
+pub mod EmptyFiles

@@ -1,21 +1,23 @@
 //! Writes runs and entries into the trees of a store, without a commit.
 
 ghost use Rattle.std.specs.Prelude.{◌≡◌, ◌⊎◌, ◌<◌, ◌≤◌, ◌^◌, map, suc, length, Some, None, false, IfOk, IfErr, OnOk};
-ghost use Rattle.kt_dbfile.specs.Common.{AllByRecursion, Began, CanAdd, Finished, HasNoReasonIfPassed, IsComplete, IsMoment, IsPair, IsStorable, IsStoreFault, IsText, OnlyReadsStore, Through, HoldsForTrees, Put, Run, WritesRows, finished_run_row, entries_of, entry_row, finish_refusal, has_position, last_run, owned, pair_row, pair_rows_from, put_refusal, run_at, run_row, unnumbered};
+ghost use Rattle.kt_dbfile.specs.Common.{AllByRecursion, Began, CanAdd, Finished, HasNoReasonIfPassed, IsComplete, IsMoment, IsEncodableProperty, IsStorable, IsDatabaseFault, IsEncodable, OnlyReadsStore, MovesCursorsIfOk, HoldsForTrees, Put, Run, WritesRows, finished_run_row, entries_of, entry_row, finish_refusal, has_position, greatest_run_number, owned, pair_row, pair_rows_from, put_refusal, run_at, run_row, row_without_rowid};
 ghost use Rattle.sqlite_trees.specs.View.{IsClean};
 ghost use Rattle.sqlite_catalog.specs.Listing.{IsSound};
 
-use crate::ends::check_last;
+use crate::ends::check_last_run;
 use crate::rules::{TableEdit, put_rows};
-use crate::seeks::{last_number, run_head, stored_run};
-use crate::tables::{ENTRIES_AT, PAIRS_AT, RUNS_AT, entry_place, entry_table, stored_head};
-use crate::trees::{count_under, number_row};
+use crate::seeks::{find_run_head, find_run_row, read_last_number};
+use crate::tables::{
+    ENTRIES_AT, PROPS_AT, RUNS_AT, create_entry_key, entry_table, head_from_stored_row,
+};
+use crate::trees::{count_under_key, create_number_key};
 use kt_base::{Entry, NoMemory, Text, Variable};
 use kt_store::StoreFault;
 use kt_store::heads::add;
-use kt_store::lookup::{MOST_RUNS, key};
+use kt_store::lookup::{MAX_RUNS, key};
 use kt_store::put::reason_of;
-use kt_store::store_fault::StoreFailure;
+use kt_store::store_fault::DatabaseError;
 use kt_store::value::{blob, code, int, text};
 use sqlite_rules::error::Rowids;
 use sqlite_schema::schema::Schema;
@@ -25,8 +27,8 @@ use sqlite_value::value::ValueRef;
 use std::alloc::Global;
 use std::slice;
 
-/// Creates a row with these values.
-fn row_of(alloc: Global, values: &[ValueRef<'_>]) -> Result<Row, NoMemory>
+/// Creates a row with the values `values`, in the same order.
+fn create_row(alloc: Global, values: &[ValueRef<'_>]) -> Result<Row, NoMemory>
     ensures { IfOk result (λ row. row ≡ map owned values.now) }
 {
     let mut row = Row::new(alloc);
@@ -36,8 +38,8 @@ fn row_of(alloc: Global, values: &[ValueRef<'_>]) -> Result<Row, NoMemory>
     Ok(row)
 }
 
-/// Creates the row of one pair of an entry, without a rowid. `place` is its index among the entry's
-/// pairs.
+/// Creates the row of the property `pair`, without a rowid. `place` is its index among the
+/// properties of the entry at `position` of run `run`.
 fn pair_row(
     alloc: Global,
     run: u32,
@@ -46,10 +48,11 @@ fn pair_row(
     pair: &Variable,
 ) -> Result<Row, NoMemory>
     requires { place < 2 ^ 63 }
-    ensures row { IfOk result (λ row. row ≡ unnumbered (pair_row run position place pair.now)) }
-    ensures texts { IsPair pair.now }
+    ensures row { IfOk result (λ row. row ≡ row_without_rowid (pair_row run position place
+        pair.now)) }
+    ensures texts { IsEncodableProperty pair.now }
 {
-    row_of(
+    create_row(
         alloc,
         &[
             ValueRef::Null,
@@ -62,16 +65,17 @@ fn pair_row(
     )
 }
 
-/// Creates the rows of `pairs`, the pairs of the entry at `position` of a run, without rowids.
-fn rows_of_pairs(
+/// Creates the rows of `pairs`, the properties of the entry at `position` of run `run`, without
+/// rowids.
+fn create_property_rows(
     alloc: Global,
     run: u32,
     position: u32,
     pairs: &[Variable],
 ) -> Result<Vec<Row>, NoMemory>
     ensures rows { IfOk result (λ rows. rows.items
-        ≡ map unnumbered (pair_rows_from run position 0 pairs.now)) }
-    ensures texts { OnOk result (AllByRecursion IsPair pairs.now) }
+        ≡ map row_without_rowid (pair_rows_from run position 0 pairs.now)) }
+    ensures texts { OnOk result (AllByRecursion IsEncodableProperty pairs.now) }
 {
     let mut rows = Vec::new(alloc);
     let mut place = 0u64;
@@ -83,9 +87,9 @@ fn rows_of_pairs(
     Ok(rows)
 }
 
-/// Creates the row of an entry of a run, without a rowid. `reason` is the text of the entry's
-/// reason.
-fn row_of_entry<'a>(
+/// Creates the row of the entry `entry` of run `run`, without a rowid. `reason` is the text of the
+/// reason of its verdict.
+fn create_entry_row<'a>(
     alloc: Global,
     run: u32,
     entry: &'a Entry,
@@ -93,11 +97,11 @@ fn row_of_entry<'a>(
 ) -> Result<Row, NoMemory>
     requires reason { reason.now ≡ entry.now.verdict.reason }
     requires moments { IsStorable entry.now }
-    ensures row { IfOk result (λ row. row ≡ unnumbered (entry_row run entry.now)) }
-    ensures texts { IsText entry.now.program × IsText entry.now.case_name
-        × IsText entry.now.verdict.reason }
+    ensures row { IfOk result (λ row. row ≡ row_without_rowid (entry_row run entry.now)) }
+    ensures texts { IsEncodable entry.now.program × IsEncodable entry.now.case_name
+        × IsEncodable entry.now.verdict.reason }
 {
-    row_of(
+    create_row(
         alloc,
         &[
             ValueRef::Null,
@@ -117,28 +121,28 @@ fn row_of_entry<'a>(
     )
 }
 
-/// Returns the number of the next run, and checks the ends of the tables. Fails with `StoreFull` if
-/// there are 1,000,000 runs.
-fn next_number<S: Alter>(store: &mut S, alloc: Global) -> Result<u64, StoreFault>
+/// Returns the number of the next run. First checks the last rows of the tables. Fails with
+/// `StoreFull` if there are 1,000,000 runs.
+fn find_next_number<S: Alter>(store: &mut S, alloc: Global) -> Result<u64, StoreFault>
     ensures number { HoldsForTrees S.Store store.old store.new (λ runs.
-        IfOk result (λ n. (n ≡ suc (length runs)) × (length runs < last_run))) }
+        IfOk result (λ n. (n ≡ suc (length runs)) × (length runs < greatest_run_number))) }
     ensures refused { HoldsForTrees S.Store store.old store.new (λ runs.
-        IfErr result (λ e. IsStoreFault e ⊎ ((e ≡ StoreFault.StoreFull)
-        × (last_run ≤ length runs)))) }
-    ensures through { Through S.Store store.old store.new result }
+        IfErr result (λ e. IsDatabaseFault e ⊎ ((e ≡ StoreFault.StoreFull)
+        × (greatest_run_number ≤ length runs)))) }
+    ensures through { MovesCursorsIfOk S.Store store.old store.new result }
     ensures looks { OnlyReadsStore S.Store store.old store.new }
 {
-    let last = last_number(store, alloc)?;
-    check_last(store, alloc, last)?;
-    if last >= u64::from(MOST_RUNS) {
+    let last = read_last_number(store, alloc)?;
+    check_last_run(store, alloc, last)?;
+    if last >= u64::from(MAX_RUNS) {
         return Err(StoreFault::StoreFull);
     }
     Ok(last + 1)
 }
 
 /// Writes an unfinished run after the last run, and returns its number. The run has `total`
-/// selected cases and the start timestamp `moment`. Fails with `StoreFull` if there are 1,000,000
-/// runs.
+/// selected cases, and starts at `moment`, in milliseconds since 1970-01-01 UTC. Fails with
+/// `StoreFull` if there are 1,000,000 runs.
 pub(crate) fn write_run<S: Alter>(
     store: &mut S,
     alloc: Global,
@@ -151,8 +155,8 @@ pub(crate) fn write_run<S: Alter>(
         → IsSound schema.now (S.Store.view store.old).trees }
     ensures { WritesRows S.Store schema.now (λ r. Began total moment r) store.old store.new result }
 {
-    let number = next_number(store, alloc)?;
-    let row = row_of(
+    let number = find_next_number(store, alloc)?;
+    let row = create_row(
         alloc,
         &[
             ValueRef::Null,
@@ -173,55 +177,55 @@ pub(crate) fn write_run<S: Alter>(
     Ok(number)
 }
 
-/// Returns `true` if the run has an entry at this position.
-fn is_put<S: Store>(
+/// Returns `true` if run `run` has an entry at `position`.
+fn has_entry_at<S: Store>(
     store: &mut S,
     alloc: Global,
     run: u32,
     position: u32,
-) -> Result<bool, StoreFailure>
+) -> Result<bool, DatabaseError>
     ensures found { HoldsForTrees S.Store store.old store.new (λ runs.
         IfOk result (λ b. b ≡ has_position position (entries_of (run_at runs run)))) }
-    ensures through { Through S.Store store.old store.new result }
+    ensures through { MovesCursorsIfOk S.Store store.old store.new result }
     ensures looks { OnlyReadsStore S.Store store.old store.new }
 {
-    let place = entry_place(alloc, run, position)?;
-    let count = count_under(store, alloc, &entry_table(), &place)?;
+    let place = create_entry_key(alloc, run, position)?;
+    let count = count_under_key(store, alloc, &entry_table(), &place)?;
     Ok(count > 0)
 }
 
 /// Checks that a run accepts an entry. Fails with the first of `NoRun`, `RunClosed`, `BadPosition`
 /// and `RepeatedPosition` that applies.
-fn check_entry<S: Alter>(
+fn check_can_put<S: Alter>(
     store: &mut S,
     alloc: Global,
     run: u64,
     entry: &Entry,
 ) -> Result<(), StoreFault>
-    ensures small { OnOk result (run ≤ last_run) }
+    ensures small { OnOk result (run ≤ greatest_run_number) }
     ensures refused { HoldsForTrees S.Store store.old store.new (λ runs.
-        IfErr result (λ e. IsStoreFault e ⊎ (put_refusal runs run entry.now ≡ Some e))) }
+        IfErr result (λ e. IsDatabaseFault e ⊎ (put_refusal runs run entry.now ≡ Some e))) }
     ensures taken { HoldsForTrees S.Store store.old store.new (λ runs.
         OnOk result (HasNoReasonIfPassed entry.now → (put_refusal runs run entry.now ≡ None)
         × CanAdd run entry.now runs)) }
-    ensures through { Through S.Store store.old store.new result }
+    ensures through { MovesCursorsIfOk S.Store store.old store.new result }
     ensures looks { OnlyReadsStore S.Store store.old store.new }
 {
-    let head = run_head(store, alloc, run)?;
+    let head = find_run_head(store, alloc, run)?;
     if head.finished {
         return Err(StoreFault::RunClosed);
     }
     if entry.position >= head.total {
         return Err(StoreFault::BadPosition);
     }
-    if is_put(store, alloc, key(run), entry.position)? {
+    if has_entry_at(store, alloc, key(run), entry.position)? {
         return Err(StoreFault::RepeatedPosition);
     }
     Ok(())
 }
 
-/// Checks that a run accepts an entry, and writes the entry and its pairs. Fails with the first of
-/// `NoRun`, `RunClosed`, `BadPosition` and `RepeatedPosition` that applies.
+/// Checks that a run accepts an entry, and writes the entry and its properties. Fails with the
+/// first of `NoRun`, `RunClosed`, `BadPosition` and `RepeatedPosition` that applies.
 pub(crate) fn write_entry<S: Alter>(
     store: &mut S,
     alloc: Global,
@@ -235,9 +239,9 @@ pub(crate) fn write_entry<S: Alter>(
     ensures { WritesRows S.Store schema.now (λ r. Put run entry.now r) store.old store.new result }
 {
     let reason = reason_of(alloc, entry)?;
-    check_entry(store, alloc, run, entry)?;
+    check_can_put(store, alloc, run, entry)?;
     let number = key(run);
-    let row = row_of_entry(alloc, number, entry, &reason)?;
+    let row = create_entry_row(alloc, number, entry, &reason)?;
     let edit = TableEdit {
         place: ENTRIES_AT,
         gone: &[],
@@ -246,9 +250,9 @@ pub(crate) fn write_entry<S: Alter>(
         sources: slice::from_ref(&row),
     };
     put_rows(store, alloc, schema, edit)?;
-    let pairs = rows_of_pairs(alloc, number, entry.position, entry.meta.as_slice())?;
+    let pairs = create_property_rows(alloc, number, entry.position, entry.meta.as_slice())?;
     let edit = TableEdit {
-        place: PAIRS_AT,
+        place: PROPS_AT,
         gone: &[],
         rowids: Rowids::Chosen,
         from: 0,
@@ -260,10 +264,10 @@ pub(crate) fn write_entry<S: Alter>(
 
 /// Creates the row of a finished run from the row of the unfinished run, with the rowid as an extra
 /// first column.
-fn finished_row(alloc: Global, row: &Row) -> Result<Row, NoMemory>
+fn create_finished_row(alloc: Global, row: &Row) -> Result<Row, NoMemory>
     ensures { (r : Run) → row.now ≡ run_row r → IfOk result (λ done. done ≡ finished_run_row r) }
 {
-    row_of(
+    create_row(
         alloc,
         &[
             row.get(0),
@@ -277,35 +281,35 @@ fn finished_row(alloc: Global, row: &Row) -> Result<Row, NoMemory>
 }
 
 /// Returns the number of entries of a run.
-fn count_of<S: Store>(store: &mut S, alloc: Global, run: u32) -> Result<u64, StoreFailure>
+fn count_run_entries<S: Store>(store: &mut S, alloc: Global, run: u32) -> Result<u64, DatabaseError>
     ensures count { HoldsForTrees S.Store store.old store.new (λ runs.
         IfOk result (λ n. n ≡ length (entries_of (run_at runs run)))) }
-    ensures through { Through S.Store store.old store.new result }
+    ensures through { MovesCursorsIfOk S.Store store.old store.new result }
     ensures looks { OnlyReadsStore S.Store store.old store.new }
 {
-    let place = number_row(alloc, run)?;
-    let count = count_under(store, alloc, &entry_table(), &place)?;
+    let place = create_number_key(alloc, run)?;
+    let count = count_under_key(store, alloc, &entry_table(), &place)?;
     Ok(count)
 }
 
 /// Returns the row of a run, and checks that the run can be finished. Fails with the first of
 /// `NoRun`, `RunClosed` and `Incomplete` that applies.
-fn check_run<S: Alter>(store: &mut S, alloc: Global, run: u64) -> Result<Row, StoreFault>
-    ensures small { OnOk result (run ≤ last_run) }
+fn check_can_finish<S: Alter>(store: &mut S, alloc: Global, run: u64) -> Result<Row, StoreFault>
+    ensures small { OnOk result (run ≤ greatest_run_number) }
     ensures refused { HoldsForTrees S.Store store.old store.new (λ runs.
-        IfErr result (λ e. IsStoreFault e ⊎ (finish_refusal runs run ≡ Some e))) }
+        IfErr result (λ e. IsDatabaseFault e ⊎ (finish_refusal runs run ≡ Some e))) }
     ensures taken { HoldsForTrees S.Store store.old store.new (λ runs.
         IfOk result (λ row. (r : Run) × (run_at runs run ≡ Some r) × (row ≡ run_row r)
         × (finish_refusal runs run ≡ None) × IsComplete run runs)) }
-    ensures through { Through S.Store store.old store.new result }
+    ensures through { MovesCursorsIfOk S.Store store.old store.new result }
     ensures looks { OnlyReadsStore S.Store store.old store.new }
 {
-    let row = stored_run(store, alloc, run)?;
-    let head = stored_head(alloc, &row)?;
+    let row = find_run_row(store, alloc, run)?;
+    let head = head_from_stored_row(alloc, &row)?;
     if head.finished {
         return Err(StoreFault::RunClosed);
     }
-    if count_of(store, alloc, key(run))? < u64::from(head.total) {
+    if count_run_entries(store, alloc, key(run))? < u64::from(head.total) {
         return Err(StoreFault::Incomplete);
     }
     Ok(row)
@@ -313,7 +317,7 @@ fn check_run<S: Alter>(store: &mut S, alloc: Global, run: u64) -> Result<Row, St
 
 /// Marks a run as finished, in its row. Fails with the first of `NoRun`, `RunClosed` and
 /// `Incomplete` that applies.
-pub(crate) fn write_finish<S: Alter>(
+pub(crate) fn mark_run_finished<S: Alter>(
     store: &mut S,
     alloc: Global,
     schema: &Schema,
@@ -323,8 +327,8 @@ pub(crate) fn write_finish<S: Alter>(
         → IsSound schema.now (S.Store.view store.old).trees }
     ensures { WritesRows S.Store schema.now (λ r. Finished run r) store.old store.new result }
 {
-    let row = check_run(store, alloc, run)?;
-    let done = finished_row(alloc, &row)?;
+    let row = check_can_finish(store, alloc, run)?;
+    let done = create_finished_row(alloc, &row)?;
     let gone = [key(run) as i64];
     let edit = TableEdit {
         place: RUNS_AT,

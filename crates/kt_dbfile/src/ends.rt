@@ -1,19 +1,23 @@
-//! Checks of the ends of the tables and of their indexes.
+//! Checks of the last rows of the tables and of the last keys of their indexes.
 //!
-//! The checks are made before runs are shown and before a run begins: the ends agree, and a run has
-//! the entries that it must have. A lost or outdated page then seldom hides a result. The cost of
-//! the checks hardly grows with the size of the file.
+//! The checks are made before heads or entries are returned and before a run begins. The indexes
+//! must have the last rows, and a run must have its entries. A lost or outdated page then seldom
+//! hides a result. The cost of the checks hardly grows with the size of the file.
 
 ghost use Rattle.std.specs.Prelude.{◌≡◌, ◌<◌, ◌≤◌, [], ◌∷◌, Some, length, map, option_map, true, IfOk};
-ghost use Rattle.kt_dbfile.specs.Common.{AllByRecursion, Entry as Stored, IsAscending, OnlyReadsStore, Through, HoldsForTrees, Run, ends_with, head_of, last_run, outlined, run_at};
-ghost use Rattle.kt_store.specs.Runs.{IsRun};
+ghost use Rattle.kt_dbfile.specs.Common.{AllByRecursion, Entry as Stored, IsAscending, OnlyReadsStore, MovesCursorsIfOk, HoldsForTrees, Run, ends_with, head_of, greatest_run_number, outline_entry, run_at};
+ghost use Rattle.kt_store.specs.Runs.{IsValidRun};
 
-use crate::tables::{RUNS, entry_place, entry_table, last_row, pair_table, stored_head};
-use crate::trees::{TreeTable, are_shaped, columns_of, count_under, next_row, number_row};
+use crate::tables::{
+    RUNS_TREE, create_entry_key, entry_table, head_from_stored_row, property_table, read_last_row,
+};
+use crate::trees::{
+    TreeTable, copy_columns, count_under_key, create_number_key, have_shapes, read_next_row,
+};
 use kt_base::{Entry, NoMemory};
 use kt_store::RunHead;
 use kt_store::lookup::key;
-use kt_store::store_fault::{StoreFailure, sure};
+use kt_store::store_fault::{DatabaseError, ensure_sound};
 use sqlite_trees::store::{Direction, Shape, Store};
 use sqlite_value::keys::Order;
 use sqlite_value::row::Row;
@@ -29,158 +33,169 @@ pub(crate) const NO_RUN: RunHead = RunHead {
     finished: false,
 };
 
-/// Returns the run and the position of the last index key that is at most `key`, and checks that
-/// its row exists. Both values are NULL if there is no such key.
-fn last_place<S: Store>(
+/// Returns the run and the position in the last key of the index of `table` that is at most `key`.
+/// Checks that the row of this key exists. Both values are NULL if there is no such key.
+fn find_last_key<S: Store>(
     store: &mut S,
     alloc: Global,
     table: &TreeTable,
     key: &Row,
-) -> Result<Row, StoreFailure>
+) -> Result<Row, DatabaseError>
     ensures looks { OnlyReadsStore S.Store store.old store.new }
 {
-    sure(are_shaped(store, table))?;
+    ensure_sound(have_shapes(store, table))?;
     store.seek(0, table.index, key, Direction::Backward)?;
     let mut place = Row::new(alloc);
     let mut row = Row::new(alloc);
-    next_row(store, alloc, table, key, &mut place, &mut row)?;
-    Ok(columns_of(alloc, &place, &[0, 1])?)
+    read_next_row(store, alloc, table, key, &mut place, &mut row)?;
+    Ok(copy_columns(alloc, &place, &[0, 1])?)
 }
 
-/// Returns `true` if the index of a table has the key of the table's last row exactly once, or if
+/// Returns `true` if the index of `table` has the key of the table's last row exactly once, or if
 /// the table is empty.
-fn is_last_row_placed<S: Store>(
+fn is_last_row_indexed<S: Store>(
     store: &mut S,
     alloc: Global,
     table: &TreeTable,
-) -> Result<bool, StoreFailure>
+) -> Result<bool, DatabaseError>
     ensures looks { OnlyReadsStore S.Store store.old store.new }
 {
-    let Some(row) = last_row(store, alloc, table.tree)? else {
+    let Some(row) = read_last_row(store, alloc, table.tree)? else {
         return Ok(true);
     };
-    let own = columns_of(alloc, &row, table.key)?;
-    let count = count_under(store, alloc, table, &own)?;
+    let own = copy_columns(alloc, &row, table.key)?;
+    let count = count_under_key(store, alloc, table, &own)?;
     Ok(count == 1)
 }
 
 /// Returns the run and the position of the last index key of a table. Fails unless the index has
 /// the key of the table's last row exactly once.
-fn end_of<S: Store>(store: &mut S, alloc: Global, table: &TreeTable) -> Result<Row, StoreFailure>
+fn read_last_key<S: Store>(
+    store: &mut S,
+    alloc: Global,
+    table: &TreeTable,
+) -> Result<Row, DatabaseError>
     ensures looks { OnlyReadsStore S.Store store.old store.new }
 {
-    sure(is_last_row_placed(store, alloc, table)?)?;
-    last_place(store, alloc, table, &Row::new(alloc))
+    ensure_sound(is_last_row_indexed(store, alloc, table)?)?;
+    find_last_key(store, alloc, table, &Row::new(alloc))
 }
 
-/// Returns `true` if `end` can be the last key of the index of entries after the last run `last`. A
-/// finished run with cases ends at its last position. Otherwise, any key before the position of the
-/// run's total is possible.
-fn is_end(alloc: Global, end: &Row, last: RunHead) -> Result<bool, NoMemory>
-    ensures { last.number ≤ last_run → IfOk result (λ is. is ≡ ends_with last end.now) }
+/// Returns `true` if `end` can be the last key of the index of entries, when `last` is the head of
+/// the last run. If this run is finished and has cases, `end` must be the key of its last position.
+/// Otherwise, `end` can be any key below that of the run's first invalid position, its total.
+fn is_possible_last_key(alloc: Global, end: &Row, last: RunHead) -> Result<bool, NoMemory>
+    ensures { last.number ≤ greatest_run_number → IfOk result (λ is. is ≡ ends_with last end.now) }
 {
     let number = key(last.number);
     if last.finished && last.total > 0 {
-        let whole = entry_place(alloc, number, last.total - 1)?;
+        let whole = create_entry_key(alloc, number, last.total - 1)?;
         return Ok(end.cmp_prefix(Order::PLAIN, &whole) == Ordering::Equal);
     }
-    let past = entry_place(alloc, number, last.total)?;
+    let past = create_entry_key(alloc, number, last.total)?;
     Ok(end.cmp_prefix(Order::PLAIN, &past) == Ordering::Less)
 }
 
-/// Returns `true` if the entry of a pair exists, or if there is no pair. `pair` has the run and the
-/// position of the entry, or NULL.
-fn has_entry<S: Store>(store: &mut S, alloc: Global, pair: &Row) -> Result<bool, StoreFailure>
-    ensures through { Through S.Store store.old store.new result }
+/// Returns `true` if the entry of a property exists, or if there is no property. `pair` has the run
+/// and the position of the entry, or NULL.
+fn has_entry<S: Store>(store: &mut S, alloc: Global, pair: &Row) -> Result<bool, DatabaseError>
+    ensures through { MovesCursorsIfOk S.Store store.old store.new result }
     ensures looks { OnlyReadsStore S.Store store.old store.new }
 {
-    let count = count_under(store, alloc, &entry_table(), pair)?;
+    let count = count_under_key(store, alloc, &entry_table(), pair)?;
     Ok(count == 1 || matches!(pair.get(0), ValueRef::Null))
 }
 
-/// Checks that the table of entries and its index end with the same entry, and that this entry can
-/// be the last one of the last run.
+/// Checks that the index of entries has the last row of its table, and that the last key of the
+/// index is possible. `last` is the head of the last run.
 fn check_last_entry<S: Store>(
     store: &mut S,
     alloc: Global,
     last: RunHead,
-) -> Result<(), StoreFailure>
+) -> Result<(), DatabaseError>
     ensures looks { OnlyReadsStore S.Store store.old store.new }
 {
-    let end = end_of(store, alloc, &entry_table())?;
-    sure(is_end(alloc, &end, last)?)
+    let end = read_last_key(store, alloc, &entry_table())?;
+    ensure_sound(is_possible_last_key(alloc, &end, last)?)
 }
 
-/// Checks that the table of pairs and its index end with the same pair, and that its entry exists.
-fn check_last_pair<S: Store>(store: &mut S, alloc: Global) -> Result<(), StoreFailure>
-    ensures through { Through S.Store store.old store.new result }
+/// Checks that the index of properties has the last row of its table, and that the entry of the
+/// last key of the index exists.
+fn check_last_property<S: Store>(store: &mut S, alloc: Global) -> Result<(), DatabaseError>
+    ensures through { MovesCursorsIfOk S.Store store.old store.new result }
     ensures looks { OnlyReadsStore S.Store store.old store.new }
 {
-    let pair = end_of(store, alloc, &pair_table())?;
-    sure(has_entry(store, alloc, &pair)?)
+    let pair = read_last_key(store, alloc, &property_table())?;
+    ensure_sound(has_entry(store, alloc, &pair)?)
 }
 
-/// Checks that the tables of entries and pairs end as their indexes do. Also checks that the last
-/// entry can be that of the last run `last`, and that the last pair has its entry.
-pub(crate) fn check_ends<S: Store>(
+/// Checks that the indexes of entries and of properties have the last rows of their tables. Also
+/// checks that the last entry of the index is possible for the last run, whose head is `last`, and
+/// that the last property has an entry.
+pub(crate) fn check_last_rows<S: Store>(
     store: &mut S,
     alloc: Global,
     last: RunHead,
-) -> Result<(), StoreFailure>
-    ensures through { Through S.Store store.old store.new result }
+) -> Result<(), DatabaseError>
+    ensures through { MovesCursorsIfOk S.Store store.old store.new result }
     ensures looks { OnlyReadsStore S.Store store.old store.new }
 {
     check_last_entry(store, alloc, last)?;
-    check_last_pair(store, alloc)
+    check_last_property(store, alloc)
 }
 
 /// Returns the head of run `number`, which must exist. Fails if the run is missing or its row has
 /// another number.
-pub(crate) fn present_head<S: Store>(
+pub(crate) fn require_head<S: Store>(
     store: &mut S,
     alloc: Global,
     number: u64,
-) -> Result<RunHead, StoreFailure>
+) -> Result<RunHead, DatabaseError>
     ensures head { HoldsForTrees S.Store store.old store.new
         (λ runs. IfOk result (λ head. Some head ≡ option_map head_of (run_at runs number))) }
     ensures numbered { IfOk result (λ head. head.number ≡ number) }
     ensures looks { OnlyReadsStore S.Store store.old store.new }
 {
-    sure(store.shape(RUNS) == Shape::Table)?;
+    ensure_sound(store.shape(RUNS_TREE) == Shape::Table)?;
     let mut row = Row::new(alloc);
     let key = key(number);
-    sure(store.get(RUNS, key as i64, &mut row)?)?;
-    let head = stored_head(alloc, &row)?;
-    sure(head.number == number)?;
+    ensure_sound(store.get(RUNS_TREE, key as i64, &mut row)?)?;
+    let head = head_from_stored_row(alloc, &row)?;
+    ensure_sound(head.number == number)?;
     Ok(head)
 }
 
 /// Returns the head of run `last`, or [`NO_RUN`] if `last` is 0.
-fn last_head<S: Store>(store: &mut S, alloc: Global, last: u64) -> Result<RunHead, StoreFailure>
+fn read_last_head<S: Store>(
+    store: &mut S,
+    alloc: Global,
+    last: u64,
+) -> Result<RunHead, DatabaseError>
     ensures looks { OnlyReadsStore S.Store store.old store.new }
 {
     if last == 0 {
         return Ok(NO_RUN);
     }
-    present_head(store, alloc, last)
+    require_head(store, alloc, last)
 }
 
-/// Checks that the tables end with run `last`. It is called before another run begins and before a
-/// head is returned.
-pub(crate) fn check_last<S: Store>(
+/// Checks that the last entry and the last property are possible if `last` is the number of the
+/// last run, or 0 without runs. The check is made before a run begins and before a head is
+/// returned.
+pub(crate) fn check_last_run<S: Store>(
     store: &mut S,
     alloc: Global,
     last: u64,
-) -> Result<(), StoreFailure>
-    ensures through { Through S.Store store.old store.new result }
+) -> Result<(), DatabaseError>
+    ensures through { MovesCursorsIfOk S.Store store.old store.new result }
     ensures looks { OnlyReadsStore S.Store store.old store.new }
 {
-    let head = last_head(store, alloc, last)?;
-    check_ends(store, alloc, head)
+    let head = read_last_head(store, alloc, last)?;
+    check_last_rows(store, alloc, head)
 }
 
-/// Returns `true` if the position of each entry is its index in the list.
-fn are_numbered(entries: &[Entry]) -> bool
+/// Returns `true` if the position of each of `entries` is its index in the list.
+fn are_contiguous(entries: &[Entry]) -> bool
     ensures { IsAscending (λ (a b : Stored). a.position < b.position) entries.now
         → AllByRecursion (λ (e : Stored). e.position < length entries.now) entries.now
         → result ≡ true }
@@ -193,69 +208,72 @@ fn are_numbered(entries: &[Entry]) -> bool
     true
 }
 
-/// Returns `true` if `entries` can be all entries of the run with this head. A finished run has an
-/// entry at each position below its total.
+/// Returns `true` if `entries` can be all entries of the run with the head `head`. A finished run
+/// has an entry at each position below its total.
 fn is_possible_entry_list(head: RunHead, entries: &[Entry]) -> bool
-    ensures { (r : Run) → IsRun r → head ≡ head_of r → entries.now ≡ map outlined r.entries
+    ensures { (r : Run) → IsValidRun r → head ≡ head_of r
+        → entries.now ≡ map outline_entry r.entries
         → result ≡ true }
 {
     let total = head.total as usize;
     if head.finished {
-        entries.len() == total && are_numbered(entries)
+        entries.len() == total && are_contiguous(entries)
     } else {
         entries.len() <= total
     }
 }
 
-/// Returns the number of pairs that the index of `table` has for these entries of a run.
-fn count_pairs<S: Store>(
+/// Returns the number of properties that the index of `table` has for `entries`, the entries of run
+/// `run`.
+fn count_properties<S: Store>(
     store: &mut S,
     alloc: Global,
     table: &TreeTable,
     run: u32,
     entries: &[Entry],
-) -> Result<u64, StoreFailure>
+) -> Result<u64, DatabaseError>
     ensures looks { OnlyReadsStore S.Store store.old store.new }
 {
     let mut count: u64 = 0;
     for entry in entries {
-        let place = entry_place(alloc, run, entry.position)?;
-        count = count.saturating_add(count_under(store, alloc, table, &place)?);
+        let place = create_entry_key(alloc, run, entry.position)?;
+        count = count.saturating_add(count_under_key(store, alloc, table, &place)?);
     }
     Ok(count)
 }
 
-/// Returns `true` if each pair of the run with this head belongs to one of `entries`. A finished
-/// run has all its entries, so only its last pair is checked.
-fn are_of_entries<S: Store>(
+/// Returns `true` if each property of the run with the head `head` belongs to one of `entries`. A
+/// finished run has all its entries, so only the entry of its last property is looked up.
+fn properties_have_entries<S: Store>(
     store: &mut S,
     alloc: Global,
     head: RunHead,
     entries: &[Entry],
-) -> Result<bool, StoreFailure>
+) -> Result<bool, DatabaseError>
     ensures looks { OnlyReadsStore S.Store store.old store.new }
 {
-    let table = pair_table();
+    let table = property_table();
     let run = key(head.number);
-    let place = number_row(alloc, run)?;
+    let place = create_number_key(alloc, run)?;
     if head.finished {
-        let pair = last_place(store, alloc, &table, &place)?;
+        let pair = find_last_key(store, alloc, &table, &place)?;
         return has_entry(store, alloc, &pair);
     }
-    let all = count_under(store, alloc, &table, &place)?;
-    Ok(all == count_pairs(store, alloc, &table, run, entries)?)
+    let all = count_under_key(store, alloc, &table, &place)?;
+    Ok(all == count_properties(store, alloc, &table, run, entries)?)
 }
 
-/// Checks that `entries` are all entries of the run with this head, as far as the head and the
-/// pairs can show it.
+/// Checks that `entries` can be all entries of the run with the head `head`. Fails if the number or
+/// the positions of `entries` contradict the head, or if a checked property of the run has no
+/// entry.
 pub(crate) fn check_entries<S: Store>(
     store: &mut S,
     alloc: Global,
     head: RunHead,
     entries: &[Entry],
-) -> Result<(), StoreFailure>
+) -> Result<(), DatabaseError>
     ensures looks { OnlyReadsStore S.Store store.old store.new }
 {
-    sure(is_possible_entry_list(head, entries))?;
-    sure(are_of_entries(store, alloc, head, entries)?)
+    ensure_sound(is_possible_entry_list(head, entries))?;
+    ensure_sound(properties_have_entries(store, alloc, head, entries)?)
 }

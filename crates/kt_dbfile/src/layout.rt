@@ -6,13 +6,15 @@ ghost use Rattle.sqlite_schema.specs.Names.{index_named, table_named};
 ghost use Rattle.sqlite_schema.specs.declared.schema.Index.{Index as IndexOf};
 ghost use Rattle.sqlite_schema.specs.declared.schema.Table.{Table as TableOf};
 
-use crate::tables::{ENTRIES_AT, PAIRS_AT, RUNS_AT};
+use crate::tables::{ENTRIES_AT, PROPS_AT, RUNS_AT};
 use sqlite_schema::schema::{Schema, Table};
 
 // The columns, in the order in which they are read and written.
 
+/// The columns of the table `runs`.
 const RUN_COLUMNS: [&str; 4] = ["id", "started", "total", "finished"];
 
+/// The columns of the table `entries`.
 const ENTRY_COLUMNS: [&str; 12] = [
     "run",
     "position",
@@ -28,7 +30,8 @@ const ENTRY_COLUMNS: [&str; 12] = [
     "clean_err",
 ];
 
-const PAIR_COLUMNS: [&str; 5] = ["run", "position", "place", "name", "value"];
+/// The columns of the table `props`.
+const PROP_COLUMNS: [&str; 5] = ["run", "position", "place", "name", "value"];
 
 /// Returns `true` if a table has exactly the columns with these names, in this order.
 fn has_columns(table: &Table, names: &[&str]) -> bool
@@ -78,14 +81,14 @@ fn has_index(schema: &Schema, name: &str, tree: u32) -> bool
     index.tree == tree
 }
 
-/// Returns `true` if a schema has the tables of results and the indexes of their keys at their
-/// positions. Other tables can follow.
+/// Returns `true` if a schema has the tables `runs`, `entries` and `props` at their positions, and
+/// the indexes of their keys. Other tables can follow.
 pub(crate) fn has_tables(schema: &Schema) -> bool
     ensures { schema.now ≡ schema_2 → result ≡ true }
 {
     let runs = has_table(schema, "runs", RUNS_AT, 2, &RUN_COLUMNS);
     let entries = has_table(schema, "entries", ENTRIES_AT, 3, &ENTRY_COLUMNS);
-    let pairs = has_table(schema, "props", PAIRS_AT, 5, &PAIR_COLUMNS);
+    let pairs = has_table(schema, "props", PROPS_AT, 5, &PROP_COLUMNS);
     let entry_keys = has_index(schema, "sqlite_autoindex_entries_1", 4);
     let pair_keys = has_index(schema, "sqlite_autoindex_props_1", 6);
     runs & entries & pairs & entry_keys & pair_keys

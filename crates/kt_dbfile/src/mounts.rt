@@ -6,13 +6,13 @@ use std::os::fd::AsRawFd;
 use std::rt::Files;
 use std::str;
 
-/// The number of bytes that are read from the start of a file's `fdinfo`. The mount's number is in
-/// the third line.
-const INFO_BYTES: usize = 256;
+/// The maximum number of bytes that are read from the start of a file's `fdinfo`. The mount's
+/// number is in the third line.
+const MAX_INFO_BYTES: usize = 256;
 
 /// Returns the number of the mount in the text of a file's `fdinfo` (proc_pid_fdinfo(5)), or `None`
 /// if the text has none.
-fn mount_in(info: &str) -> Option<u64> {
+fn parse_mount_id(info: &str) -> Option<u64> {
     for line in info.split('\n') {
         if let Some(number) = line.strip_prefix("mnt_id:\t") {
             return number.parse::<u64>().ok();
@@ -23,26 +23,27 @@ fn mount_in(info: &str) -> Option<u64> {
 
 /// Returns the number of the mount that contains an open file, or `None` if it can't be read from
 /// `/proc`.
-fn mount_of<R: Files<File = File> + AllocGlobal>(rt: &R, file: &File) -> Option<u64> {
+fn read_mount_id<R: Files<File = File> + AllocGlobal>(rt: &R, file: &File) -> Option<u64> {
     let path = format!(in rt.alloc(); "/proc/self/fdinfo/{}", file.as_raw_fd()).ok()?;
     let mut list = File::open(rt, path.as_str()).ok()?;
-    let mut info = [0u8; INFO_BYTES];
+    let mut info = [0u8; MAX_INFO_BYTES];
     let count = list.read(&mut info).ok()?;
-    mount_in(str::from_utf8(&info[..count]).ok()?)
+    parse_mount_id(str::from_utf8(&info[..count]).ok()?)
 }
 
-/// Returns `true` if a regular file is in another mount than its directory. Returns `None` if the
-/// path isn't a regular file, or if a mount can't be determined.
-fn is_apart<R: Files<File = File> + AllocGlobal>(rt: &R, path: &str) -> Option<bool> {
+/// Returns `true` if the regular file at `path` is in another mount than its directory. Returns
+/// `None` if the path isn't a regular file, or if a mount can't be determined.
+fn is_on_other_mount<R: Files<File = File> + AllocGlobal>(rt: &R, path: &str) -> Option<bool> {
     if !fs::symlink_metadata(rt, path).ok()?.is_file() {
         return None;
     }
     let file = File::open(rt, path).ok()?;
     let directory = File::open(rt, directory_of(path)).ok()?;
-    Some(mount_of(rt, &file)? != mount_of(rt, &directory)?)
+    Some(read_mount_id(rt, &file)? != read_mount_id(rt, &directory)?)
 }
 
-/// Returns `true` if a path, or the target of a symbolic link, is mounted as a single file.
+/// Returns `true` if the file at the path `file` is mounted as a single file. Symbolic links are
+/// followed.
 ///
 /// Such a file has its log next to each path that names it. A log that a killed command left next
 /// to one path is then missed at another. The result is `false` if there is no regular file, or if
@@ -50,7 +51,7 @@ fn is_apart<R: Files<File = File> + AllocGlobal>(rt: &R, path: &str) -> Option<b
 // Tested, not proved: results_file_mounted_alone_exits_2.
 pub(crate) fn is_mounted_alone<R: Files<File = File> + AllocGlobal>(rt: &R, file: &Text) -> bool {
     match fs::canonicalize(rt, file.as_str()) {
-        Ok(path) => is_apart(rt, path.as_str()).unwrap_or(false),
+        Ok(path) => is_on_other_mount(rt, path.as_str()).unwrap_or(false),
         Err(_fault) => false,
     }
 }

@@ -15,9 +15,9 @@ use std::{fs, io};
 const PAGE_SIZE: usize = 1_024;
 
 /// The size below which a log can't have a frame, in bytes. SQLite ignores a shorter log.
-pub(crate) const SHORTEST_LOG: usize = 56;
+pub(crate) const MIN_LOG_BYTES: usize = 56;
 
-/// The owner's permissions to read and write a file.
+/// The permission bits with which the owner can read and write a file.
 const OWNER_RIGHTS: u32 = 0o600;
 
 /// The first 24 bytes of a new file: the format, pages of 0x0400 bytes, a log for writers and
@@ -29,7 +29,8 @@ const HEADER: [u8; 24] = *b"SQLite format 3\0\x04\x00\x02\x02\x00\x40\x20\x20";
 fn first_page() -> [u8; PAGE_SIZE]
     ensures exact { result ≡ first_page 1024 }
     // Holds without a log, and with a log that SQLite ignores.
-    ensures holds { (log : List ℕ) → IsIgnored log → HoldsEmpty (record { log = log; db = result }) }
+    ensures holds { (log : List ℕ) → IsIgnored log
+        → HoldsEmpty (record { log = log; db = result }) }
 {
     let mut page = [0; PAGE_SIZE];
     page[..24].copy_from_slice(&HEADER);
@@ -48,10 +49,10 @@ fn first_page() -> [u8; PAGE_SIZE]
     page
 }
 
-/// Creates an empty file at the path of the results or at their `-new` path. The umask applies, but
-/// the owner can always read and write the file.
+/// Creates an empty file at `path`. This is `results`, the path of the results file, or `results`
+/// with `-new` appended. The umask applies, but the owner then gets the rights to read and write.
 // Tested, not proved: results_file_creation_is_atomic.
-fn make_file<R: Files>(rt: &R, results: &Text, path: &Text) -> io::Result<R::File>
+fn create_file<R: Files>(rt: &R, results: &Text, path: &Text) -> io::Result<R::File>
     requires { IsOwnName results.now path.now }
 {
     let made = OpenOptions::new()
@@ -69,7 +70,7 @@ fn make_file<R: Files>(rt: &R, results: &Text, path: &Text) -> io::Result<R::Fil
     Ok(made)
 }
 
-/// Returns the path of a file with a suffix appended.
+/// Returns the path `file` with the suffix `ending` appended.
 fn path_with_suffix(file: &Text, ending: &str) -> Result<Text, NoMemory>
     ensures { IfOk result (λ name. name ≡ file.now ++ chars ending.now) }
 {
@@ -78,32 +79,32 @@ fn path_with_suffix(file: &Text, ending: &str) -> Result<Text, NoMemory>
     Ok(name)
 }
 
-/// Returns the path that a new file has until it is complete.
-fn new_name(file: &Text) -> Result<Text, NoMemory>
+/// Returns the path of the unfinished results file: `file` with `-new` appended.
+fn new_path(file: &Text) -> Result<Text, NoMemory>
     ensures { IfOk result (IsNewNameOf file.now) }
 {
     path_with_suffix(file, "-new")
 }
 
-/// Returns `true` if the log of a file can have a frame. SQLite would replay such a stale log into
-/// a new file.
+/// Returns `true` if the log of the results file `file` can have a frame, isn't a regular file, or
+/// can't be examined. SQLite would replay the frames of such a log into a new file.
 // Tested, not proved: results_file_creation_is_atomic.
 fn may_have_frames<R: Files>(rt: &R, file: &Text) -> Result<bool, NoMemory> {
     let log = path_with_suffix(file, "-wal")?;
     Ok(match fs::symlink_metadata(rt, log.as_str()) {
-        Ok(found) => !found.is_file() || SHORTEST_LOG as u64 <= found.len(),
+        Ok(found) => !found.is_file() || MIN_LOG_BYTES as u64 <= found.len(),
         Err(error) => error.kind() != ErrorKind::NotFound,
     })
 }
 
-/// Opens the file at the path `name` for the first page: a new file, or a file that a killed
-/// process left. Returns `None` if something other than a regular file has the path, or if the open
-/// fails.
+/// Opens the unfinished results file `name`, to which the first page is written. Creates the file,
+/// unless a killed process left one. `results` is the path of the finished file. Returns `None` if
+/// something other than a regular file has the path, or if the open fails.
 // Tested, not proved: results_file_creation_is_atomic.
 fn open_new<R: Files<File = File>>(rt: &R, results: &Text, name: &Text) -> Option<File>
     requires { IsNewNameOf results.now name.now }
 {
-    match make_file(rt, results, name) {
+    match create_file(rt, results, name) {
         Ok(made) => Some(made),
         Err(error) if error.kind() == ErrorKind::AlreadyExists => {
             let found = fs::symlink_metadata(rt, name.as_str()).ok()?;
@@ -120,10 +121,11 @@ fn open_new<R: Files<File = File>>(rt: &R, results: &Text, name: &Text) -> Optio
     }
 }
 
-/// Completes a partly written first page, and returns `true` if all of it is on the disk. Returns
-/// `None` if another process writes the file, or if it has other bytes.
+/// Writes the missing bytes of the first page to the file `made`. Returns `true` if the page is on
+/// the disk, and `false` if a write fails. Returns `None` if another process has locked the file,
+/// or if the file can't be read or has other bytes.
 // Tested, not proved: results_file_creation_is_atomic.
-fn fill(made: &mut File) -> Option<bool> {
+fn complete_page(made: &mut File) -> Option<bool> {
     made.try_lock().ok()?;
     let mut found = [0; PAGE_SIZE + 1];
     let length = made.read(&mut found).ok()?;
@@ -132,57 +134,59 @@ fn fill(made: &mut File) -> Option<bool> {
     Some(emit(rest, made).is_ok() && made.sync_all().is_ok())
 }
 
-/// Links a new file to the path of the results, and returns `true` on success. A rename would
-/// replace a file that another process created.
-fn name_results<R: Files>(rt: &R, results: &Text, name: &Text) -> bool
+/// Creates the results file `results` as a hard link to the complete file `name`, and returns
+/// `true` on success. A rename would replace a file that another process created.
+fn link_results<R: Files>(rt: &R, results: &Text, name: &Text) -> bool
     requires { IsNewNameOf results.now name.now }
 {
     fs::hard_link(rt, name.as_str(), results.as_str()).is_ok()
 }
 
-/// Removes the `-new` path of the results file. Ignores a failure.
-fn remove_new<R: Files>(rt: &R, results: &Text, name: &Text)
+/// Removes `name`, the `-new` path of the results file `results`. Ignores a failure.
+fn remove_new_file<R: Files>(rt: &R, results: &Text, name: &Text)
     requires { IsNewNameOf results.now name.now }
 {
     let _ = fs::remove_file(rt, name.as_str());
 }
 
-/// Creates an empty database, and returns `true` on success. The file gets its path once it is
-/// complete and on the disk.
-fn make_database<R: Files<File = File>>(rt: &R, file: &Text) -> Result<bool, NoMemory> {
+/// Creates an empty database at the path `file`, and returns `true` on success. The file gets this
+/// path once it is complete and on the disk.
+fn create_database<R: Files<File = File>>(rt: &R, file: &Text) -> Result<bool, NoMemory> {
     if may_have_frames(rt, file)? {
         return Ok(false);
     }
-    let new = new_name(file)?;
+    let new = new_path(file)?;
     let Some(mut made) = open_new(rt, file, &new) else {
         return Ok(false);
     };
-    let Some(is_complete) = fill(&mut made) else {
+    let Some(is_complete) = complete_page(&mut made) else {
         return Ok(false);
     };
-    let is_named = is_complete && name_results(rt, file, &new);
-    remove_new(rt, file, &new);
+    let is_named = is_complete && link_results(rt, file, &new);
+    remove_new_file(rt, file, &new);
     Ok(is_named)
 }
 
-/// The device and inode numbers of a file, which all its paths share.
+/// An identity of a file: its device and inode numbers, which all its paths share.
 #[derive(Clone, Copy)]
 struct FileId {
+    /// The number of the device that contains the file.
     device: u64,
+    /// The inode number of the file on the device.
     inode: u64,
 }
 
 /// Returns the device and inode numbers of a file.
 // Tested, not proved: results_file_creation_is_atomic.
-fn id_of(found: &Metadata) -> FileId {
+fn file_id(found: &Metadata) -> FileId {
     FileId {
         device: found.dev(),
         inode: found.ino(),
     }
 }
 
-/// Returns `true` if both identify one file.
-fn is_same(one: FileId, other: FileId) -> bool
+/// Returns `true` if `one` and `other` identify the same file.
+fn is_same_file(one: FileId, other: FileId) -> bool
     ensures { IsTrue result → one ≡ other }
 {
     one.device == other.device && one.inode == other.inode
@@ -190,31 +194,34 @@ fn is_same(one: FileId, other: FileId) -> bool
 
 /// A path that ends in `-new`, with the identity of its file.
 #[derive(Drop)]
-struct FirstName {
+struct NewPath {
+    /// The path, which ends in `-new`.
     name: Text,
+    /// The identity of the file at the path.
     id: FileId,
 }
 
-/// Returns the `-new` path of `file` with the identity of its file, or `None` if no file is found
-/// there.
-fn first_name<R: Files>(rt: &R, file: &Text) -> Option<FirstName>
+/// Returns the `-new` path of `file` with the identity of its file, or `None` if there is no such
+/// file or a call fails.
+fn find_new_path<R: Files>(rt: &R, file: &Text) -> Option<NewPath>
     ensures { IfSome result (λ it. IsNewNameOf file.now it.name) }
 {
-    let name = new_name(file).ok()?;
+    let name = new_path(file).ok()?;
     let found = fs::symlink_metadata(rt, name.as_str()).ok()?;
-    let id = id_of(&found);
-    Some(FirstName { name, id })
+    let id = file_id(&found);
+    Some(NewPath { name, id })
 }
 
-/// Removes a `-new` path of the results file. Ignores a failure.
-fn remove_new_path<R: Files>(rt: &R, results: FileId, file: &Text, first: &FirstName)
+/// Removes the path `first`, which is `file` with `-new` appended and names the results file.
+/// `results` is the identity of the results file. Ignores a failure.
+fn remove_new_path<R: Files>(rt: &R, results: FileId, file: &Text, first: &NewPath)
     requires name { IsNewNameOf file.now first.now.name }
     requires same { first.now.id ≡ results }
 {
     let _ = fs::remove_file(rt, first.name.as_str());
 }
 
-/// Returns the directory of the path `file`, which is `.` if the path has no slash.
+/// Returns the directory of the path `file`, or `.` if the path has no slash.
 pub(crate) fn directory_of(file: &str) -> &str {
     match file.rsplit_once('/') {
         Some(("", _)) => "/",
@@ -223,33 +230,34 @@ pub(crate) fn directory_of(file: &str) -> &str {
     }
 }
 
-/// Removes `path` if it ends in `-new` and is a hard link to the results file.
+/// Removes `path` if it ends in `-new` and names the results file, whose identity is `results`.
 ///
 /// Returns `None` if an allocation for the path without `-new` fails. Any other failure is ignored.
-fn remove_if_first<R: Files + AllocGlobal>(rt: &R, path: &str, results: FileId) -> Option<()> {
+fn remove_if_same_file<R: Files + AllocGlobal>(rt: &R, path: &str, results: FileId) -> Option<()> {
     let Some(front) = path.strip_suffix("-new") else {
         return Some(());
     };
     let file = Text::from_str(rt.alloc(), front).ok()?;
-    if let Some(first) = first_name(rt, &file) {
-        if is_same(first.id, results) {
+    if let Some(first) = find_new_path(rt, &file) {
+        if is_same_file(first.id, results) {
             remove_new_path(rt, results, &file, &first);
         }
     }
     Some(())
 }
 
-/// Removes the `-new` paths that a killed process left for a results file, also if the file was
-/// renamed since. A file with two paths can't be opened. Returns `None` if the directory can't be
-/// read to its end.
-fn remove_first_name<R: Files + AllocGlobal + Clone + Drop>(
+/// Removes each path in the directory of `file` that ends in `-new` and names the results file,
+/// whose identity is `results`. A killed process left this path, and the file may have been renamed
+/// since. A file with two paths can't be opened. Returns `None` if the directory can't be read to
+/// its end, or if an allocation fails.
+fn remove_new_paths<R: Files + AllocGlobal + Clone + Drop>(
     rt: &R,
     file: &Text,
     results: FileId,
 ) -> Option<()> {
     for entry in fs::read_dir(rt, directory_of(file.as_str())).ok()? {
         let entry = entry.ok()?;
-        remove_if_first(rt, entry.path().to_string_lossy(), results)?;
+        remove_if_same_file(rt, entry.path().to_string_lossy(), results)?;
     }
     Some(())
 }
@@ -260,16 +268,19 @@ fn remove_first_name<R: Files + AllocGlobal + Clone + Drop>(
 /// or an older log is present), the file is empty, and the later open turns it into a database with
 /// larger pages. An existing file isn't changed. A failure is reported by the later open, which
 /// also creates the log, with the file's permissions.
-pub(crate) fn prepare<R: Files<File = File> + AllocGlobal + Clone + Drop>(rt: &R, file: &Text) {
+pub(crate) fn create_missing_file<R: Files<File = File> + AllocGlobal + Clone + Drop>(
+    rt: &R,
+    file: &Text,
+) {
     match fs::symlink_metadata(rt, file.as_str()) {
         Ok(found) => {
             if found.nlink() > 1 {
-                let _ = remove_first_name(rt, file, id_of(&found));
+                let _ = remove_new_paths(rt, file, file_id(&found));
             }
         }
         Err(_missing) => {
-            if !matches!(make_database(rt, file), Ok(true)) {
-                let _ = make_file(rt, file, file);
+            if !matches!(create_database(rt, file), Ok(true)) {
+                let _ = create_file(rt, file, file);
             }
         }
     }

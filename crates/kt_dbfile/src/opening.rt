@@ -1,6 +1,6 @@
-ghost use Rattle.std.specs.Prelude.{◌≡◌, ◌⊎◌, [], ◌∷◌, pos, codes, map, drop, true, false, Ok, IfOk, IfErr, OnOk, IfSome, IsTrue};
-ghost use Rattle.kt_dbfile.specs.Common.{Ends, FailsToEnd, Int, IsOnlyRead, IsOfOptions, IsStoreFault, OnlyReadsStore, ListsRuns, MustBeChecked, RecoversAsBefore, HasOtherSchema, StaysNumbered};
-ghost use Rattle.kt_store.specs.TrustedContents.{IsOfRuns, ListsTables, key_object, objects_2, table_object};
+ghost use Rattle.std.specs.Prelude.{◌≡◌, ◌⊎◌, [], ◌∷◌, pos, codes, map, drop, true, false, Ok, Err, IfOk, IfErr, OnOk, IfSome, IsTrue};
+ghost use Rattle.kt_dbfile.specs.Common.{Ends, FailsToClose, Int, IsOnlyRead, CachesPages, LeavesAsBefore, IsDatabaseFault, OnlyReadsStore, ListsRuns, MustBeChecked, RecoversAsBefore, HasOtherSchema, StaysNumbered};
+ghost use Rattle.kt_store.specs.TrustedContents.{IsTrustedImage, ListsTables, key_object, schema_2_objects, table_object};
 ghost use Rattle.sqlite_trees.specs.Tree.{Trees};
 ghost use Rattle.sqlite_value.specs.Value.{owned};
 ghost use Rattle.sqlite_value.specs.declared.value.Value.TheVariants.{Text as Words};
@@ -14,14 +14,16 @@ ghost use Rattle.sqlite_pool.specs.Stored.{Recovers};
 ghost use Rattle.sqlite_store.specs.FileStore.{IsReady, schema_of, state, view};
 ghost use Rattle.sqlite_trees.specs.View.{IsClean};
 ghost use Rattle.sqlite_store.specs.Unopened.{AreUsable, HasFile, Opens, files_of, image, state_of, wanted_by};
+ghost use Rattle.sqlite.specs.Closing.{files_left};
 ghost use Rattle.sqlite.specs.Files.{HoldsDatabase, image_of};
 
-use crate::new_file::SHORTEST_LOG;
-use crate::trees::all_shown;
+use crate::new_file::MIN_LOG_BYTES;
+use crate::trees::copy_all_columns;
 use kt_base::NoMemory;
 use kt_store::StoreFault;
 use kt_store::attach::{CREATE_ENTRIES, CREATE_META, CREATE_PROPS, CREATE_RUNS};
-use kt_store::store_fault::{StoreFailure, present};
+use kt_store::store_fault::{DatabaseError, present};
+use sqlite::Leftover;
 use sqlite_disk::{Disk, Files};
 use sqlite_exec::check::all_rows;
 use sqlite_exec::work::Workspace;
@@ -37,7 +39,7 @@ use std::alloc::Global;
 use std::hash::{BuildHasher, RandomState};
 
 /// Bytes 20 to 23 of a database whose pages end in checksums.
-const WITH_SUMS: u32 = 0x0840_2020;
+const CHECKSUM_MARK: u32 = 0x0840_2020;
 
 /// The tree of the table with the schema number.
 const META: u32 = 0;
@@ -52,7 +54,7 @@ const LAYOUTS: [(Shape, u64); 7] = [TABLE, KEY, TABLE, TABLE, KEY, TABLE, KEY];
 /// Returns the options of a store that caches `pages` read pages. Returns `None` if there is no
 /// random number.
 pub(crate) fn options(rt: &HostRuntime, pages: usize) -> Option<Options>
-    ensures pages { IfSome result (IsOfOptions pages) }
+    ensures pages { IfSome result (CachesPages pages) }
 {
     let state = RandomState::new(rt).ok()?;
     let mut options = Options::new(state.hash_one(&0u8));
@@ -72,7 +74,7 @@ fn page_size_without_sums<D: Disk>(alloc: Global, files: &mut Files<D>) -> Optio
     let found = probe_page_size(files).ok()?;
     let size = found?;
     let head = probe_first_page(alloc, files, size).ok()?;
-    if head.0 != b'S' || head.1 == WITH_SUMS {
+    if head.0 != b'S' || head.1 == CHECKSUM_MARK {
         return None;
     }
     Some(size)
@@ -82,7 +84,7 @@ fn page_size_without_sums<D: Disk>(alloc: Global, files: &mut Files<D>) -> Optio
 ///
 /// They are checked if the file has at most 16 MiB, which takes about 60 ms. They are also checked
 /// if the log can have frames: then a runner was killed or the machine lost power.
-fn is_tested<D: Disk>(files: &mut Files<D>) -> Result<bool, StoreFailure>
+fn is_full_check<D: Disk>(files: &mut Files<D>) -> Result<bool, DatabaseError>
     requires log { IsTrue (D.Disk.is_usable files.old.log) }
     requires db { IsTrue (D.Disk.is_usable files.old.db) }
     ensures tested { IfOk result (λ it. AreClean D.Disk files.new.log files.new.db
@@ -92,7 +94,7 @@ fn is_tested<D: Disk>(files: &mut Files<D>) -> Result<bool, StoreFailure>
 {
     let size = present(files.db.len().ok())?;
     let log = present(files.log.len().ok())?;
-    Ok(size <= MAX_CHECKED_BYTES || SHORTEST_LOG <= log)
+    Ok(size <= MAX_CHECKED_BYTES || MIN_LOG_BYTES <= log)
 }
 
 /// Creates an unopened store of files. Returns the files if an allocation fails.
@@ -147,7 +149,7 @@ fn is_key(row: &Row, id: u32, name: &str, table: &str) -> bool
 
 /// Returns `true` if these rows are the schema list of schema 2 (docs/formats/store.md).
 fn is_schema_2(rows: &[Row]) -> bool
-    ensures { IsTrue result → rows.now ≡ objects_2 }
+    ensures { IsTrue result → rows.now ≡ schema_2_objects }
 {
     let [meta, meta_key, runs, entries, entries_key, props, props_key] = rows else {
         return false;
@@ -164,8 +166,10 @@ fn is_schema_2(rows: &[Row]) -> bool
 
 /// Reads the schema list, and returns `true` if it is that of schema 2. The files then have that
 /// schema.
-fn list_schema<D: Disk>(alloc: Global, files: &mut Unopened<D>) -> Result<bool, StoreFailure>
+fn list_schema<D: Disk>(alloc: Global, files: &mut Unopened<D>) -> Result<bool, DatabaseError>
     requires { AreUsable files.old }
+    ensures honest { IsTrue (state_of files.new).is_clean → IsTrue (state_of files.old).is_clean }
+    ensures kept { IsTrue (state_of files.new).is_clean → Opens files.old (state_of files.new) }
     ensures usable { OnOk result (AreUsable files.new) }
     ensures read { OnOk result (IsTrue (state_of files.new).is_clean
         → RecoversAsBefore files.old files.new) }
@@ -173,13 +177,13 @@ fn list_schema<D: Disk>(alloc: Global, files: &mut Unopened<D>) -> Result<bool, 
         → ListsRuns files.old files.new) }
 {
     let listed = files.read_catalog()?;
-    let rows = all_shown(alloc, listed.as_slice(), &[0, 1, 2, 3, 5])?;
+    let rows = copy_all_columns(alloc, listed.as_slice(), &[0, 1, 2, 3, 5])?;
     if !is_schema_2(rows.as_slice()) || rows.len() != 7 {
         return Ok(false);
     }
     match files.list_schema(rows.as_slice(), &LAYOUTS) {
         Ok(is_listed) => Ok(is_listed),
-        Err(refusal) => Err(StoreFailure::from(NoMemory::from(refusal))),
+        Err(refusal) => Err(DatabaseError::from(NoMemory::from(refusal))),
     }
 }
 
@@ -201,22 +205,23 @@ fn number_in(settings: &[Row]) -> Option<i64>
     }
 }
 
-/// Returns the value of an open. If the open failed, the returned argument is dropped.
-fn opened<T, L: Drop>(returned: Result<T, (OpenError, L)>) -> Result<T, StoreFailure>
+/// Returns the result of an open with the error of the results store.
+fn opened<T, L>(returned: Result<T, (OpenError, L)>) -> Result<T, (DatabaseError, L)>
     ensures ok { IfOk result (λ it. returned ≡ Ok it) }
+    ensures err { IfErr result (λ e. (cause : _) × (returned ≡ Err (cause, e.1))) }
 {
     match returned {
         Ok(it) => Ok(it),
-        Err((error, _left)) => Err(StoreFailure::from(error)),
+        Err((error, left)) => Err((DatabaseError::from(error), left)),
     }
 }
 
-/// Opens sound files. Checks all pages and trees if `is_tested` is set. Otherwise, checks only the
-/// pages of the schema and the free pages.
+/// Opens sound files. Checks all pages and trees if `is_full_check` is set. Otherwise, checks only
+/// the pages of the schema and the free pages. Returns the files with the error.
 fn open_sound_files<D: Disk + Drop>(
     files: Unopened<D>,
-    is_tested: bool,
-) -> Result<FileStore<D>, StoreFailure>
+    is_full_check: bool,
+) -> Result<FileStore<D>, (DatabaseError, Unopened<D>)>
     requires usable { AreUsable files }
     requires sound { IsTrue (state_of files).is_clean → HasFile files }
     ensures ready { IfOk result IsReady }
@@ -227,9 +232,13 @@ fn open_sound_files<D: Disk + Drop>(
         → Recovers (state_of files).page_size (image files) (state it).committed) }
     ensures kept { IfOk result (λ it. IsTrue (state it).is_clean → Opens files (state it)) }
     // Only a store whose trees were checked is numbered.
-    ensures tested { is_tested ≡ true → IfOk result (λ it. IsTrue (view it).is_numbered) }
+    ensures tested { is_full_check ≡ true → IfOk result (λ it. IsTrue (view it).is_numbered) }
+    ensures falls { IfErr result (λ e. IsTrue (state_of e.1).is_clean
+        → IsTrue (state_of files).is_clean) }
+    ensures unharmed { IfErr result (λ e. IsTrue (state_of e.1).is_clean
+        → Opens files (state_of e.1)) }
 {
-    if is_tested {
+    if is_full_check {
         opened(files.open_numbered())
     } else {
         opened(files.open_trusted())
@@ -237,15 +246,16 @@ fn open_sound_files<D: Disk + Drop>(
 }
 
 /// Opens files that list the tables of schema 2, in pages without checksums, and recovers their
-/// log. Returns other files, which were only read.
+/// log. Returns other files, which were only read. Returns what is left of the files with the
+/// error.
 pub(crate) fn open_known_files<D: Disk + Drop>(
     alloc: Global,
     mut files: Files<D>,
     options: Options,
-) -> Result<Result<FileStore<D>, Files<D>>, StoreFailure>
+) -> Result<Result<FileStore<D>, Files<D>>, (DatabaseError, Leftover<D>)>
     requires log { IsTrue (D.Disk.is_usable files.log) }
     requires db { IsTrue (D.Disk.is_usable files.db) }
-    requires held { IsOfRuns (image_of D.Disk files) }
+    requires held { IsTrustedImage (image_of D.Disk files) }
     ensures opens { IfOk result (λ found. IfOk found (λ s. IsClean (view s)
         → OpensOver (image_of D.Disk files) s)) }
     ensures settled { IfOk result (λ found. IfOk found (λ s. (view s).trees ≡ (view s).committed)) }
@@ -258,28 +268,38 @@ pub(crate) fn open_known_files<D: Disk + Drop>(
     ensures tested { IfOk result (λ found. IfOk found (λ s. IsClean (view s)
         → MustBeChecked (image_of D.Disk files) → IsTrue (view s).is_numbered)) }
     ensures back { IfOk result (λ found. IfErr found (IsOnlyRead D.Disk files)) }
+    ensures left { IfErr result (λ e. LeavesAsBefore D.Disk files (files_left e.1)) }
 {
     let Some(size) = page_size_without_sums(alloc, &mut files) else {
         return Ok(Err(files));
     };
-    let is_tested = is_tested(&mut files)?;
+    let is_full_check = match is_full_check(&mut files) {
+        Ok(is_full_check) => is_full_check,
+        Err(failure) => return Err((failure, Leftover::Files(files))),
+    };
     let mut fresh = match unopened(alloc, files, size, options) {
         Ok(fresh) => fresh,
         Err(left) => return Ok(Err(left)),
     };
-    if !list_schema(alloc, &mut fresh)? {
+    let is_listed = match list_schema(alloc, &mut fresh) {
+        Ok(is_listed) => is_listed,
+        Err(failure) => return Err((failure, Leftover::Unopened(fresh))),
+    };
+    if !is_listed {
         return Ok(Err(fresh.close()));
     }
-    let store = open_sound_files(fresh, is_tested)?;
-    Ok(Ok(store))
+    match open_sound_files(fresh, is_full_check) {
+        Ok(store) => Ok(Ok(store)),
+        Err((failure, left)) => Err((failure, Leftover::Unopened(left))),
+    }
 }
 
 /// Checks that the schema number in the tables is 2. Fails with `UnknownSchema` otherwise.
-pub(crate) fn check_number<S: Store>(store: &mut S, alloc: Global) -> Result<(), StoreFault>
+pub(crate) fn check_schema_number<S: Store>(store: &mut S, alloc: Global) -> Result<(), StoreFault>
     ensures ours { OnOk result (IsClean (S.Store.view store.new)
         → HasSchemaNumber (pos 2) (S.Store.view store.old).trees) }
     // `UnknownSchema` only if the schema number isn't 2.
-    ensures unknown { IfErr result (λ e. IsStoreFault e ⊎ ((e ≡ StoreFault.UnknownSchema)
+    ensures unknown { IfErr result (λ e. IsDatabaseFault e ⊎ ((e ≡ StoreFault.UnknownSchema)
         × (IsClean (S.Store.view store.new) → HasOtherSchema (S.Store.view store.old).trees))) }
     ensures looks { OnlyReadsStore S.Store store.old store.new }
 {
@@ -295,9 +315,9 @@ pub(crate) fn check_number<S: Store>(store: &mut S, alloc: Global) -> Result<(),
 /// failure, returns the store.
 pub(crate) fn close_store<D: Disk + Drop>(
     mut store: FileStore<D>,
-) -> Result<(), (StoreFailure, FileStore<D>)>
+) -> Result<(), (DatabaseError, FileStore<D>)>
     ensures closed { OnOk result (Ends store) }
-    ensures failed { IfErr result (λ e. FailsToEnd store e.1) }
+    ensures failed { IfErr result (λ e. FailsToClose store e.1) }
     ensures numbered { IfErr result (λ e. StaysNumbered (view store) (view e.1)) }
 {
     store.rollback();
@@ -306,12 +326,12 @@ pub(crate) fn close_store<D: Disk + Drop>(
             let _files = store.close();
             Ok(())
         }
-        Err(error) => Err((StoreFailure::from(error), store)),
+        Err(error) => Err((DatabaseError::from(error), store)),
     }
 }
 
 /// Reads the schema number from the table `meta`.
-fn stored_schema_number<S: Store>(store: &mut S, alloc: Global) -> Result<i64, StoreFailure>
+fn stored_schema_number<S: Store>(store: &mut S, alloc: Global) -> Result<i64, DatabaseError>
     ensures says { IfOk result (λ n. IsClean (S.Store.view store.new)
         → HasSchemaNumber n (S.Store.view store.old).trees) }
     ensures looks { OnlyReadsStore S.Store store.old store.new }

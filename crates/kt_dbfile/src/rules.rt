@@ -1,10 +1,10 @@
 ghost use Rattle.std.specs.Prelude.{◌≡◌, ◌⊎◌, [], IfOk, OnOk};
-ghost use Rattle.kt_dbfile.specs.Common.{ObeysSchema, HoldsCommit, PutsRows};
+ghost use Rattle.kt_dbfile.specs.Common.{ObeysSchema, KeepsLastCommit, PutsRows};
 ghost use Rattle.sqlite_schema.specs.Catalog.{IsCatalogOf};
 ghost use Rattle.sqlite_trees.specs.View.{IsClean, IsQuiet};
 
 use kt_base::NoMemory;
-use kt_store::store_fault::{OTHER_FAILURE, StoreFailure, sure};
+use kt_store::store_fault::{DATABASE_FAILURE, DatabaseError, ensure_sound};
 use sqlite_exec::work::Workspace;
 use sqlite_items::Items;
 use sqlite_rules::edit::Touched;
@@ -16,46 +16,53 @@ use sqlite_trees::store::Alter;
 use sqlite_value::row::Row;
 use std::alloc::Global;
 
-/// An edit of the table at the index `place` of the schema. It removes the rows with the rowids
-/// `gone`, and adds the rows `sources`, each read from the column `from`. `rowids` decides whether
-/// a row without a rowid gets one.
+/// An edit of a table: the rows that it removes, and the rows that it adds.
 #[derive(Clone, Copy)]
 pub(crate) struct TableEdit<'a> {
+    /// The index of the table in the schema.
     pub(crate) place: usize,
+    /// The rowids of the rows that are removed.
     pub(crate) gone: &'a [i64],
+    /// Whether an added row without a rowid gets one.
     pub(crate) rowids: Rowids,
+    /// The index of the first column of a source that is part of the added row: 0 or 1.
     pub(crate) from: usize,
+    /// The sources of the rows that are added, one for each row.
     pub(crate) sources: &'a [Row],
 }
 
 /// Returns the indexes of a schema.
-fn indexes_of(alloc: Global, schema: &Schema) -> Result<Vec<Index<'_>>, NoMemory>
+fn list_indexes(alloc: Global, schema: &Schema) -> Result<Vec<Index<'_>>, NoMemory>
     ensures { IfOk result (λ all. IsCatalogOf schema.now all.items) }
 {
     let all = schema.catalog(alloc)?;
     Ok(all)
 }
 
-/// The workspace of an edit: reusable rows, and the rows that the edit has touched so far.
+/// A workspace for one edit of a table.
 #[derive(Drop)]
-struct EditWork {
+struct EditWorkspace {
+    /// The memory for rows that the library reuses.
     space: Workspace,
+    /// The rows that the edit has written so far.
     touched: Items<Touched>,
 }
 
-/// Applies an edit with the indexes of the schema, and checks each rule.
+/// Applies `edit` to its table and to the indexes of that table, and checks each rule of `schema`.
+/// `indexes` are the indexes of `schema`, and `work` is a workspace without written rows.
 ///
 /// Separate for the prover: this function owns nothing, since values that are dropped on failure
 /// are slow to prove.
-fn put_edit<S: Alter>(
+fn apply_edit<S: Alter>(
     store: &mut S,
-    work: &mut EditWork,
+    work: &mut EditWorkspace,
     alloc: Global,
     schema: &Schema,
     indexes: &[Index<'_>],
     edit: TableEdit<'_>,
-) -> Result<(), StoreFailure>
-    requires obeys { IsClean (S.Store.view store.old) → ObeysSchema (S.Store.view store.old) schema.now }
+) -> Result<(), DatabaseError>
+    requires obeys { IsClean (S.Store.view store.old)
+        → ObeysSchema (S.Store.view store.old) schema.now }
     requires short { edit.from ≡ 0 ⊎ edit.from ≡ 1 }
     requires indexes { IsCatalogOf schema.now indexes.now }
     requires untouched { work.old.touched ≡ [] }
@@ -66,12 +73,12 @@ fn put_edit<S: Alter>(
     ensures obeys { IsClean (S.Store.view store.new)
         → OnOk result (ObeysSchema (S.Store.view store.new) schema.now) }
     ensures held { IsClean (S.Store.view store.new)
-        → HoldsCommit (S.Store.view store.old) (S.Store.view store.new) }
+        → KeepsLastCommit (S.Store.view store.old) (S.Store.view store.new) }
     ensures quiet { IsQuiet S.Store.view S.Store.faults S.Store.recovers S.Store.is_shielded
         store.old store.new }
 {
     let Some(table) = schema.tables.as_slice().get(edit.place) else {
-        return Err(OTHER_FAILURE);
+        return Err(DATABASE_FAILURE);
     };
     write(
         store,
@@ -97,18 +104,19 @@ fn put_edit<S: Alter>(
         Among::All,
         work.touched.as_slice(),
     )?;
-    sure(is_kept)?;
+    ensure_sound(is_kept)?;
     Ok(())
 }
 
-/// Applies an edit, and checks each rule of the schema. Commits nothing.
+/// Applies an edit of a table, and checks each rule of the schema. Commits nothing.
 pub(crate) fn put_rows<S: Alter>(
     store: &mut S,
     alloc: Global,
     schema: &Schema,
     edit: TableEdit<'_>,
-) -> Result<(), StoreFailure>
-    requires obeys { IsClean (S.Store.view store.old) → ObeysSchema (S.Store.view store.old) schema.now }
+) -> Result<(), DatabaseError>
+    requires obeys { IsClean (S.Store.view store.old)
+        → ObeysSchema (S.Store.view store.old) schema.now }
     requires short { edit.from ≡ 0 ⊎ edit.from ≡ 1 }
     ensures puts { IsClean (S.Store.view store.new)
         → OnOk result (PutsRows schema.now edit.entry.place edit.entry.gone.now edit.entry.rowids
@@ -117,14 +125,14 @@ pub(crate) fn put_rows<S: Alter>(
     ensures obeys { IsClean (S.Store.view store.new)
         → OnOk result (ObeysSchema (S.Store.view store.new) schema.now) }
     ensures held { IsClean (S.Store.view store.new)
-        → HoldsCommit (S.Store.view store.old) (S.Store.view store.new) }
+        → KeepsLastCommit (S.Store.view store.old) (S.Store.view store.new) }
     ensures quiet { IsQuiet S.Store.view S.Store.faults S.Store.recovers S.Store.is_shielded
         store.old store.new }
 {
-    let indexes = indexes_of(alloc, schema)?;
-    let mut work = EditWork {
+    let indexes = list_indexes(alloc, schema)?;
+    let mut work = EditWorkspace {
         space: Workspace::new(alloc),
         touched: Items::new(alloc),
     };
-    put_edit(store, &mut work, alloc, schema, indexes.as_slice(), edit)
+    apply_edit(store, &mut work, alloc, schema, indexes.as_slice(), edit)
 }

@@ -1,27 +1,28 @@
-ghost use Rattle.std.specs.Prelude.{◌≡◌, ◌⊎◌, codes, pos, true, false, IsTrue, IfErr, IfOk, IfSome, OnErr, OnOk, Err, Ok};
-ghost use Rattle.kt_dbfile.specs.Common.{EndsTransaction, Finds, IsOnlyRead, IsStoreFault, IsAttached, IsAttachedFiles, IsUri, OnlyReadsStore, schema_2};
+ghost use Rattle.std.specs.Prelude.{◌≡◌, ◌⊎◌, codes, pos, true, false, IsTrue, IfErr, IfOk, IfSome, OnErr, OnOk, Err, Ok, List};
+ghost use Rattle.kt_dbfile.specs.Common.{EndsTransaction, FailsToAttach, FailsToAttachFiles, FailsToOpen, Finds, HasCommitted, HasOtherSchema, IsConvertedFrom, IsOnlyRead, IsDatabaseFault, IsAttached, IsAttachedFiles, IsUri, LeavesRuns, OnlyReadsStore, Run, StandsFor, schema_2, state};
 ghost use Rattle.kt_store.specs.Runs.{HasSchemaNumber};
-ghost use Rattle.kt_store.specs.TrustedContents.{IsOfRuns};
+ghost use Rattle.kt_store.specs.TrustedContents.{IsTrustedImage};
 ghost use Rattle.sqlite.specs.Files.{image_of};
 ghost use Rattle.sqlite_catalog.specs.Listing.{IsSound, Lists};
 ghost use Rattle.sqlite_schema.specs.declared.schema.Schema.{Schema as Tables};
 ghost use Rattle.sqlite_trees.specs.Objects.{catalog_tree};
 ghost use Rattle.sqlite_std_file.specs.File.{file_is_usable, IsFresh};
-ghost use Rattle.sqlite_trees.specs.View.{IsClean};
+ghost use Rattle.sqlite_trees.specs.View.{IsClean, IsRolledBack};
+ghost use Rattle.sqlite_wal.specs.Files.{outcomes};
 
-use crate::edits::{write_entry, write_finish, write_run};
+use crate::edits::{mark_run_finished, write_entry, write_run};
 use crate::files::{OpenFailure, connect, open_both};
 use crate::layout::has_tables;
 use crate::mounts::is_mounted_alone;
-use crate::new_file::prepare;
-use crate::opening::{check_number, close_store, open_known_files, options};
-use crate::seeks::{find_outputs, find_pairs, head, outline};
+use crate::new_file::create_missing_file;
+use crate::opening::{check_schema_number, close_store, open_known_files, options};
+use crate::seeks::{find_outputs, find_properties, head, outline};
 use crate::trusted_contents::TrustedContents;
 use kt_base::{Entry, NoMemory, Text, Variables};
 use kt_store::attach::lives;
-use kt_store::store_fault::{StoreFailure, present, sure};
+use kt_store::store_fault::{DatabaseError, ensure_sound, present};
 use kt_store::{Access, CaseOutputs, ResultStore, Results, RunHead, StoreFault, StoreSpec};
-use sqlite::{Alter, Connection, FileFrom, FileStore};
+use sqlite::{Alter, Connection, FileFrom, FileStore, Leftover};
 use sqlite_catalog::load::load;
 use sqlite_disk::{Disk, Files};
 use sqlite_pager::Options;
@@ -65,28 +66,70 @@ fn listed<S: Alter>(store: &S, alloc: Global) -> Result<Option<Schema>, NoMemory
     Ok(found)
 }
 
+/// Reads the schema of a store, which must have the tables of results. Fails if the store is
+/// broken.
+fn schema_of_results<S: Alter>(store: &S, alloc: Global) -> Result<Schema, DatabaseError>
+    ensures { IsClean (S.Store.view store.now) → IfOk result (λ schema.
+        ((S.Store.view store.now).is_broken ≡ false)
+        × Lists ((S.Store.view store.now).trees catalog_tree) schema) }
+{
+    ensure_sound(!store.is_broken())?;
+    let schema = present(listed(store, alloc)?)?;
+    ensure_sound(has_tables(&schema))?;
+    Ok(schema)
+}
+
 /// Wraps a store that shows its last commit as a `RunsFile`. Fails if the store is broken or lacks
-/// the tables of results. The caller guarantees that the store obeys its schema.
-pub(crate) fn over<S: Alter + Drop>(alloc: Global, store: S) -> Result<RunsFile<S>, StoreFailure>
+/// the tables of results, and returns the store with the error. The caller guarantees that the
+/// store obeys its schema.
+pub(crate) fn over<S: Alter>(alloc: Global, store: S) -> Result<RunsFile<S>, (DatabaseError, S)>
     requires settled { IsClean (S.Store.view store) → (S.Store.view store).is_broken ≡ false
         → (S.Store.view store).trees ≡ (S.Store.view store).committed }
     requires sound { IsTrue (S.Store.view store).is_open
         → (schema : Tables) × IsSound schema (S.Store.view store).committed }
     ensures same { IfOk result (λ r. r ≡ store) }
+    ensures back { IfErr result (λ e. e.1 ≡ store) }
 {
-    sure(!store.is_broken())?;
-    let schema = present(listed(&store, alloc)?)?;
-    sure(has_tables(&schema))?;
-    Ok(RunsFile {
-        store,
-        schema,
-        alloc,
-    })
+    match schema_of_results(&store, alloc) {
+        Ok(schema) => Ok(RunsFile {
+            store,
+            schema,
+            alloc,
+        }),
+        Err(failure) => Err((failure, store)),
+    }
+}
+
+/// Returns the store of a connection. Uncommitted changes are lost.
+fn detach_store<S: Alter + Drop>(connection: Connection<S>) -> S
+    ensures from { IsConvertedFrom S.Store connection result }
+    ensures undone { IsRolledBack (S.Store.view connection.store) (S.Store.view result) }
+{
+    connection.into_store()
+}
+
+/// Converts the results of a connection to a `RunsFile`. Undoes uncommitted changes of the
+/// connection. Returns the store of the connection with the error.
+fn converted<S: Alter + Drop>(
+    alloc: Global,
+    connection: Connection<S>,
+) -> Result<RunsFile<S>, (StoreFault, S)>
+    ensures stands { IfOk result (λ r. (runs : List Run)
+        → StandsFor (state S.Store connection) runs → HasCommitted (S.Store.view r) runs) }
+    ensures value { IfOk result (IsConvertedFrom S.Store connection) }
+    ensures left { IfErr result (λ e. IsConvertedFrom S.Store connection e.1) }
+    ensures failed { IfErr result (λ e. IsDatabaseFault e.0) }
+{
+    lives(&connection);
+    match over(alloc, detach_store(connection)) {
+        Ok(it) => Ok(it),
+        Err((failure, store)) => Err((StoreFault::from(failure), store)),
+    }
 }
 
 impl<S: Alter + Drop> RunsFile<S> {
     ghost use Rattle.std.specs.Prelude.{IfOk, IfErr, IsTrue, List};
-    ghost use Rattle.kt_dbfile.specs.Common.{state, HasCleanDisk, HasCommitted, IsStoreFault, Run, StandsFor};
+    ghost use Rattle.kt_dbfile.specs.Common.{state, HasCleanDisk, HasCommitted, IsDatabaseFault, Run, StandsFor};
     ghost use Rattle.sqlite_trees.specs.Tree.{Trees};
     ghost use Rattle.sqlite_trees.specs.View.{IsClean};
 
@@ -106,11 +149,13 @@ impl<S: Alter + Drop> RunsFile<S> {
             → (state S.Store results).may_leave trees) }
         ensures numbered { IfOk result (λ r. IsClean (S.Store.view r)
             → IsTrue (S.Store.view r).is_numbered) }
-        ensures failed { IfErr result IsStoreFault }
+        ensures failed { IfErr result IsDatabaseFault }
     {
         let (alloc, connection) = results.into_parts();
-        lives(&connection);
-        Ok(over(alloc, connection.into_store())?)
+        match converted(alloc, connection) {
+            Ok(it) => Ok(it),
+            Err((fault, _store)) => Err(fault),
+        }
     }
 
     /// Returns the store. Allocates nothing.
@@ -128,7 +173,7 @@ impl<S: Alter + Drop> RunsFile<S> {
 
 impl<D: Disk + Drop> RunsFile<FileStore<D>> {
     ghost use Rattle.std.specs.Prelude.{OnOk, IfErr};
-    ghost use Rattle.kt_dbfile.specs.Common.{Ends, FailsToEnd, IsStoreFault, StaysNumbered};
+    ghost use Rattle.kt_dbfile.specs.Common.{Ends, FailsToClose, IsDatabaseFault, StaysNumbered};
     ghost use Rattle.sqlite_store.specs.FileStore.{view};
 
     /// Closes the results. The database file then contains all of them, without its log.
@@ -142,8 +187,8 @@ impl<D: Disk + Drop> RunsFile<FileStore<D>> {
     /// - `NoMemory`: memory ran out.
     pub fn close(self) -> Result<(), (StoreFault, FileStore<D>)>
         ensures closed { OnOk result (Ends self) }
-        ensures failed { IfErr result (λ e. IsStoreFault e.0) }
-        ensures left { IfErr result (λ e. FailsToEnd self e.1) }
+        ensures failed { IfErr result (λ e. IsDatabaseFault e.0) }
+        ensures left { IfErr result (λ e. FailsToClose self e.1) }
         ensures numbered { IfErr result (λ e. StaysNumbered (view self) (view e.1)) }
     {
         // Separate for the prover: over a disk, a call of `into_store` takes 30 seconds to prove.
@@ -159,95 +204,128 @@ impl<D: Disk + Drop> RunsFile<FileStore<D>> {
     }
 }
 
-/// Attaches the tables of a database, and converts the results to a `RunsFile`.
+/// Attaches the tables of a database, and converts the results to a `RunsFile`. Returns the store
+/// of the connection with the error.
 fn taken<S: Alter + Drop>(
     alloc: Global,
     connection: Connection<S>,
-) -> Result<RunsFile<S>, StoreFault>
+) -> Result<RunsFile<S>, (StoreFault, S)>
     ensures taken { IfOk result (IsAttached S.Store connection) }
-    ensures due { IfErr result (λ e. IsStoreFault e ⊎ (e ≡ StoreFault.UnknownSchema)) }
+    ensures due { IfErr result (λ e. IsDatabaseFault e.0 ⊎ (e.0 ≡ StoreFault.UnknownSchema)) }
+    ensures left { IfErr result (λ e. FailsToAttach S.Store connection e.0 e.1) }
 {
     match Results::attach(alloc, connection) {
-        Ok(results) => RunsFile::of(results),
-        Err((fault, _connection)) => Err(fault),
+        Ok(results) => {
+            let (alloc, attached) = results.into_parts();
+            converted(alloc, attached)
+        }
+        Err((fault, connection)) => Err((fault, detach_store(connection))),
     }
 }
 
-/// Attaches the tables of a database in files, and converts the results to a `RunsFile`.
+/// Attaches the tables of a database in files, and converts the results to a `RunsFile`. Returns
+/// the store with the error.
 ///
 /// Separate for the prover: functions that depend on how a store over files is read are slow to
 /// prove.
 fn attach_files_and_convert<D: Disk + Drop>(
     alloc: Global,
     connection: Connection<FileStore<D>>,
-) -> Result<RunsFile<FileStore<D>>, StoreFault>
+) -> Result<RunsFile<FileStore<D>>, (StoreFault, FileStore<D>)>
     ensures taken { IfOk result (IsAttachedFiles connection) }
-    ensures due { IfErr result (λ e. IsStoreFault e ⊎ (e ≡ StoreFault.UnknownSchema)) }
+    ensures due { IfErr result (λ e. IsDatabaseFault e.0 ⊎ (e.0 ≡ StoreFault.UnknownSchema)) }
+    ensures left { IfErr result (λ e. FailsToAttachFiles connection e.0 e.1) }
 {
     taken(alloc, connection)
 }
 
 /// Wraps a store that lists the tables of schema 2 as a `RunsFile`. Fails with `UnknownSchema` if
-/// the schema number isn't 2.
+/// the schema number isn't 2. Returns the store, which was only read, with the error.
 ///
 /// Separate for the prover: functions that depend on how a store over files is read are slow to
 /// prove.
-fn ours<S: Alter + Drop>(alloc: Global, mut store: S) -> Result<RunsFile<S>, StoreFault>
+fn ours<S: Alter + Drop>(alloc: Global, mut store: S) -> Result<RunsFile<S>, (StoreFault, S)>
     requires settled { (S.Store.view store).trees ≡ (S.Store.view store).committed }
     requires sound { IsTrue (S.Store.view store).is_open
         → IsSound schema_2 (S.Store.view store).committed }
     ensures found { IfOk result (λ r. OnlyReadsStore S.Store store r
         × (IsClean (S.Store.view r) → HasSchemaNumber (pos 2) (S.Store.view store).trees)) }
-    ensures due { IfErr result (λ e. IsStoreFault e ⊎ (e ≡ StoreFault.UnknownSchema)) }
+    ensures left { IfErr result (λ e. OnlyReadsStore S.Store store e.1) }
+    // `UnknownSchema` only if the schema number isn't 2.
+    ensures unknown { IfErr result (λ e. IsDatabaseFault e.0 ⊎ ((e.0 ≡ StoreFault.UnknownSchema)
+        × (IsClean (S.Store.view e.1) → HasOtherSchema (S.Store.view store).trees))) }
 {
-    check_number(&mut store, alloc)?;
-    Ok(over(alloc, store)?)
+    let checked = check_schema_number(&mut store, alloc);
+    if let Err(fault) = checked {
+        return Err((fault, store));
+    }
+    match over(alloc, store) {
+        Ok(it) => Ok(it),
+        Err((failure, store)) => Err((StoreFault::from(failure), store)),
+    }
 }
 
 /// Opens the results in files that list the tables of schema 2. Returns other files, which were
-/// only read. Fails with `UnknownSchema` if the listed tables have another schema number.
+/// only read. Fails with `UnknownSchema` if the listed tables have another schema number. Returns
+/// what is left of the files with the error.
 pub(crate) fn known<D: Disk + Drop>(
     alloc: Global,
     files: Files<D>,
     options: Options,
-) -> Result<Result<RunsFile<FileStore<D>>, Files<D>>, StoreFault>
+) -> Result<Result<RunsFile<FileStore<D>>, Files<D>>, (StoreFault, Leftover<D>)>
     requires log { IsTrue (D.Disk.is_usable files.log) }
     requires db { IsTrue (D.Disk.is_usable files.db) }
-    requires held { IsOfRuns (image_of D.Disk files) }
+    requires held { IsTrustedImage (image_of D.Disk files) }
     ensures found { IfOk result (λ found. IfOk found (Finds (image_of D.Disk files))) }
     ensures back { IfOk result (λ found. IfErr found (IsOnlyRead D.Disk files)) }
-    ensures due { IfErr result (λ e. IsStoreFault e ⊎ (e ≡ StoreFault.UnknownSchema)) }
+    ensures due { IfErr result (λ e. IsDatabaseFault e.0 ⊎ (e.0 ≡ StoreFault.UnknownSchema)) }
+    ensures left { IfErr result (λ e.
+        LeavesRuns (outcomes D.Disk files.log files.db) (image_of D.Disk files) e.1 e.0) }
 {
-    match open_known_files(alloc, files, options)? {
-        Ok(store) => Ok(Ok(ours(alloc, store)?)),
-        Err(left) => Ok(Err(left)),
+    let store = match open_known_files(alloc, files, options) {
+        Ok(Ok(store)) => store,
+        Ok(Err(left)) => return Ok(Err(left)),
+        Err((failure, left)) => return Err((StoreFault::from(failure), left)),
+    };
+    match ours(alloc, store) {
+        Ok(it) => Ok(Ok(it)),
+        Err((fault, read)) => Err((fault, Leftover::Store(read))),
     }
 }
 
 /// Opens the results in files. Files that list other tables than those of schema 2 are attached by
-/// [`Results::attach`]. Fails with `UnknownSchema` if the schema number is neither 1 nor 2.
-fn over_files<D: Disk + Drop>(
+/// [`Results::attach`]. Fails with `UnknownSchema` if the schema number is neither 1 nor 2. Returns
+/// what is left of the files with the error.
+fn open_results<D: Disk + Drop>(
     alloc: Global,
     files: Files<D>,
     options: Options,
-) -> Result<RunsFile<FileStore<D>>, StoreFault>
+) -> Result<RunsFile<FileStore<D>>, (StoreFault, Leftover<D>)>
     requires log { IsTrue (D.Disk.is_usable files.log) }
     requires db { IsTrue (D.Disk.is_usable files.db) }
-    requires held { IsOfRuns (image_of D.Disk files) }
+    requires held { IsTrustedImage (image_of D.Disk files) }
     ensures opened { IfOk result (Finds (image_of D.Disk files)) }
-    ensures due { IfErr result (λ e. IsStoreFault e ⊎ (e ≡ StoreFault.UnknownSchema)) }
+    ensures due { IfErr result (λ e. IsDatabaseFault e.0 ⊎ (e.0 ≡ StoreFault.UnknownSchema)) }
+    ensures left { IfErr result (λ e.
+        FailsToOpen (outcomes D.Disk files.log files.db) (image_of D.Disk files) e.1 e.0) }
 {
-    match known(alloc, files, options)? {
-        Ok(known) => Ok(known),
-        Err(left) => {
-            let connection = connect(alloc, left, options)?;
-            attach_files_and_convert(alloc, connection)
-        }
+    let left = match known(alloc, files, options) {
+        Ok(Ok(known)) => return Ok(known),
+        Ok(Err(left)) => left,
+        Err((fault, left)) => return Err((fault, left)),
+    };
+    let connection = match connect(alloc, left, options) {
+        Ok(connection) => connection,
+        Err((failure, left)) => return Err((StoreFault::from(failure), left)),
+    };
+    match attach_files_and_convert(alloc, connection) {
+        Ok(it) => Ok(it),
+        Err((fault, store)) => Err((fault, Leftover::Store(store))),
     }
 }
 
 /// The number of retries while another process uses the file.
-const TRIES: usize = 100;
+const MAX_RETRIES: usize = 100;
 
 /// The pause before a retry, in milliseconds.
 const PAUSE_MILLIS: u64 = 50;
@@ -272,9 +350,9 @@ fn try_open<S: TrustedContents>(
     ensures log { IfOk result (λ files. IsTrue (file_is_usable S.Start files.log)) }
     ensures db { IfOk result (λ files. IsTrue (file_is_usable S.Start files.db)) }
     ensures fresh { IfOk result (λ files. IsFresh true files.log × IsFresh false files.db) }
-    ensures failed { IfErr result (λ e. IsStoreFault e.0) }
+    ensures failed { IfErr result (λ e. IsDatabaseFault e.0) }
 {
-    prepare(rt, file);
+    create_missing_file(rt, file);
     match open_both(rt, file, start) {
         Ok(files) => Ok(files),
         Err((trouble, failed)) => Err((StoreFault::from(trouble), failed)),
@@ -288,25 +366,27 @@ fn open_files<S: TrustedContents>(
     rt: &HostRuntime,
     file: &Text,
     start: S,
-) -> Result<Files<FileFrom<S>>, StoreFault>
+) -> Result<Files<FileFrom<S>>, (StoreFault, S)>
     ensures log { IfOk result (λ files. IsTrue (file_is_usable S.Start files.log)) }
     ensures db { IfOk result (λ files. IsTrue (file_is_usable S.Start files.db)) }
     ensures fresh { IfOk result (λ files. IsFresh true files.log × IsFresh false files.db) }
-    ensures failed { IfErr result IsStoreFault }
+    ensures failed { IfErr result (λ e. IsDatabaseFault e.0) }
 {
     let mut start = start;
-    for _ in 0..TRIES {
+    for _ in 0..MAX_RETRIES {
         match try_open(rt, file, start) {
             Ok(files) => return Ok(files),
             Err((fault, failed)) => {
-                pause(rt, fault)?;
                 start = S::returned(failed);
+                if let Err(fault) = pause(rt, fault) {
+                    return Err((fault, start));
+                }
             }
         }
     }
     match try_open(rt, file, start) {
         Ok(files) => Ok(files),
-        Err((fault, _failed)) => Err(fault),
+        Err((fault, failed)) => Err((fault, S::returned(failed))),
     }
 }
 
@@ -317,9 +397,22 @@ fn is_path(path: &str) -> bool
     path != ":memory:" && !path.starts_with("file:")
 }
 
+/// Checks that the results can be opened at the path `file`, and returns the options of their
+/// store.
+fn options_of_path(
+    rt: &HostRuntime,
+    file: &Text,
+    access: Access,
+) -> Result<Options, DatabaseError> {
+    ensure_sound(is_path(file.as_str()))?;
+    ensure_sound(!is_mounted_alone(rt, file))?;
+    let options = present(options(rt, access.pages()))?;
+    Ok(options)
+}
+
 impl<S: TrustedContents> RunsFile<FileStore<FileFrom<S>>> {
-    ghost use Rattle.std.specs.Prelude.{◌≡◌, ◌⊎◌, IfOk, IfErr};
-    ghost use Rattle.kt_dbfile.specs.Common.{Finds, IsStoreFault, image_at};
+    ghost use Rattle.std.specs.Prelude.{◌≡◌, ◌⊎◌, IfOk, IfErr, is_some};
+    ghost use Rattle.kt_dbfile.specs.Common.{FailsToOpen, Finds, IsDatabaseFault, image_at};
 
     /// Opens the results in a file. Creates the file if it doesn't exist.
     ///
@@ -328,9 +421,14 @@ impl<S: TrustedContents> RunsFile<FileStore<FileFrom<S>>> {
     ///
     /// # Errors
     ///
+    /// What is left of the files is returned with the error. The file and its log have the runs
+    /// from before the open. Runs in schema 1 may have been migrated. If no file was opened,
+    /// `start` is returned instead.
+    ///
     /// - `NoMemory`: memory ran out.
     /// - `Store`: another process uses the file for 5 seconds, the file can't be created, read or
-    ///   written, it is damaged or has other tables, `file` is `:memory:` or a URI, it is mounted as a
+    ///   written, it is damaged or has other tables, `file` is `:memory:` or a URI, it is mounted
+    ///   as a
     ///   single file, or `start` is `None`.
     /// - `UnknownSchema`: the schema number is missing or neither 1 nor 2.
     pub fn open(
@@ -338,15 +436,30 @@ impl<S: TrustedContents> RunsFile<FileStore<FileFrom<S>>> {
         file: &Text,
         access: Access,
         start: Option<S>,
-    ) -> Result<Self, StoreFault>
+    ) -> Result<Self, (StoreFault, Result<Leftover<FileFrom<S>>, Option<S>>)>
         ensures opened { IfOk result (Finds (image_at S.Start)) }
-        ensures due { IfErr result (λ e. IsStoreFault e ⊎ (e ≡ StoreFault.UnknownSchema)) }
+        ensures due { IfErr result (λ e. IsDatabaseFault e.0 ⊎ (e.0 ≡ StoreFault.UnknownSchema)) }
+        // Before the open, a crash leaves the initial content.
+        ensures left { IfErr result (λ e. IfOk e.1 (λ left.
+            FailsToOpen (λ after. after ≡ image_at S.Start) (image_at S.Start) left e.0)) }
+        ensures unopened { IfErr result (λ e. IfErr e.1 (λ back. is_some back ≡ is_some start)) }
     {
-        sure(is_path(file.as_str()))?;
-        sure(!is_mounted_alone(rt, file))?;
-        let files = open_files(rt, file, present(start)?)?;
-        let options = present(options(rt, access.pages()))?;
-        over_files(rt.alloc(), files, options)
+        let options = match options_of_path(rt, file, access) {
+            Ok(options) => options,
+            Err(failure) => return Err((StoreFault::from(failure), Err(start))),
+        };
+        let start = match present(start) {
+            Ok(start) => start,
+            Err(failure) => return Err((StoreFault::from(failure), Err(None))),
+        };
+        let files = match open_files(rt, file, start) {
+            Ok(files) => files,
+            Err((fault, start)) => return Err((fault, Err(Some(start)))),
+        };
+        match open_results(rt.alloc(), files, options) {
+            Ok(it) => Ok(it),
+            Err((fault, left)) => Err((fault, Ok(left))),
+        }
     }
 }
 
@@ -407,7 +520,7 @@ impl<S: Alter> ResultStore for RunsFile<S> {
     }
 
     fn finish(&mut self, run: u64) -> Result<(), StoreFault> {
-        let written = write_finish(&mut self.store, self.alloc, &self.schema, run);
+        let written = mark_run_finished(&mut self.store, self.alloc, &self.schema, run);
         committed(&mut self.store, written)
     }
 
@@ -420,7 +533,7 @@ impl<S: Alter> ResultStore for RunsFile<S> {
     }
 
     fn pairs(&mut self, run: u64, position: u32) -> Result<Variables, StoreFault> {
-        find_pairs(&mut self.store, self.alloc, run, position)
+        find_properties(&mut self.store, self.alloc, run, position)
     }
 
     fn outputs(&mut self, run: u64, position: u32) -> Result<CaseOutputs, StoreFault> {

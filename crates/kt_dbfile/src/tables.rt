@@ -1,30 +1,30 @@
 ghost use Rattle.std.specs.Prelude.{◌≡◌, [], ◌∷◌, pos, IfOk};
-ghost use Rattle.kt_dbfile.specs.Common.{Int, IsLast, OnlyReadsStore, Through, Run, head_of, run_row};
+ghost use Rattle.kt_dbfile.specs.Common.{Int, IsLast, OnlyReadsStore, MovesCursorsIfOk, Run, head_of, run_row};
 ghost use Rattle.sqlite_trees.specs.View.{IsClean};
 
-use crate::trees::{TreeTable, number_row, shown};
+use crate::trees::{TreeTable, create_number_key, shown};
 use kt_base::NoMemory;
 use kt_store::RunHead;
-use kt_store::heads::head_in;
-use kt_store::store_fault::{StoreFailure, sure};
+use kt_store::heads::head_from_row;
+use kt_store::store_fault::{DatabaseError, ensure_sound};
 use kt_store::value::int;
 use sqlite_trees::store::{Direction, Shape, Store};
 use sqlite_value::row::Row;
 use std::alloc::Global;
 
-/// The index of the table of runs in the schema.
+/// The index in the schema of the table `runs`.
 pub(crate) const RUNS_AT: usize = 1;
 
-/// The index of the table of entries in the schema.
+/// The index in the schema of the table `entries`.
 pub(crate) const ENTRIES_AT: usize = 2;
 
-/// The index of the table of pairs in the schema.
-pub(crate) const PAIRS_AT: usize = 3;
+/// The index in the schema of the table `props`, which has the properties of entries.
+pub(crate) const PROPS_AT: usize = 3;
 
 /// The number of the tree that has the table of runs.
-pub(crate) const RUNS: u32 = 2;
+pub(crate) const RUNS_TREE: u32 = 2;
 
-/// Returns the description of the table of entries and of its index.
+/// Returns the description of the table `entries` and of its index.
 pub(crate) fn entry_table() -> TreeTable<'static>
     ensures tree { result.tree ≡ 3 }
     ensures index { result.index ≡ 4 }
@@ -37,8 +37,9 @@ pub(crate) fn entry_table() -> TreeTable<'static>
     }
 }
 
-/// Returns the description of the table of pairs and of its index.
-pub(crate) fn pair_table() -> TreeTable<'static>
+/// Returns the description of the table `props`, which has the properties of entries, and of its
+/// index.
+pub(crate) fn property_table() -> TreeTable<'static>
     ensures tree { result.tree ≡ 5 }
     ensures index { result.index ≡ 6 }
 {
@@ -50,27 +51,27 @@ pub(crate) fn pair_table() -> TreeTable<'static>
     }
 }
 
-/// Creates the index key of an entry, which is also the prefix of its pairs' keys.
-pub(crate) fn entry_place(alloc: Global, run: u32, position: u32) -> Result<Row, NoMemory>
+/// Creates the index key of an entry, which is also the prefix of the keys of its properties.
+pub(crate) fn create_entry_key(alloc: Global, run: u32, position: u32) -> Result<Row, NoMemory>
     ensures { IfOk result (λ place. place ≡ Int (pos run) ∷ Int (pos position) ∷ []) }
 {
-    let mut place = number_row(alloc, run)?;
+    let mut place = create_number_key(alloc, run)?;
     place.push(int(u64::from(position)))?;
     Ok(place)
 }
 
 /// Returns the row with the highest rowid in the table of `tree`, or `None` if the table is empty.
-pub(crate) fn last_row<S: Store>(
+pub(crate) fn read_last_row<S: Store>(
     store: &mut S,
     alloc: Global,
     tree: u32,
-) -> Result<Option<Row>, StoreFailure>
+) -> Result<Option<Row>, DatabaseError>
     ensures last { IfOk result (λ found. IsClean (S.Store.view store.new)
         → IsLast ((S.Store.view store.old).trees tree) found) }
-    ensures through { Through S.Store store.old store.new result }
+    ensures through { MovesCursorsIfOk S.Store store.old store.new result }
     ensures looks { OnlyReadsStore S.Store store.old store.new }
 {
-    sure(store.shape(tree) == Shape::Table)?;
+    ensure_sound(store.shape(tree) == Shape::Table)?;
     let mut row = Row::new(alloc);
     store.seek(0, tree, &row, Direction::Backward)?;
     if !store.next(0, &mut row)? {
@@ -80,9 +81,9 @@ pub(crate) fn last_row<S: Store>(
 }
 
 /// Reads the head of a run from its stored row.
-pub(crate) fn stored_head(alloc: Global, row: &Row) -> Result<RunHead, StoreFailure>
+pub(crate) fn head_from_stored_row(alloc: Global, row: &Row) -> Result<RunHead, DatabaseError>
     ensures head { (r : Run) → row.now ≡ run_row r → IfOk result (λ h. h ≡ head_of r) }
 {
     let shown = shown(alloc, row, &[0, 2, 3, 4])?;
-    head_in(&shown)
+    head_from_row(&shown)
 }

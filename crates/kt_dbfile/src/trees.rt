@@ -1,5 +1,5 @@
 ghost use Rattle.std.specs.Prelude.{◌≡◌, ◌++◌, ◌<◌, ℕ, ℤ, pos, List, [], ◌∷◌, map, length, false, Some, IsSome, IsTrue, IfOk, OnOk};
-ghost use Rattle.kt_dbfile.specs.Common.{Blob, column, Int, AreWide, FindsFirstUnderKey, CursorReturns, OnlyReadsStore, Through, SelectsUnderKey, CountsUnderKey, in_columns};
+ghost use Rattle.kt_dbfile.specs.Common.{Blob, column, Int, AreWide, FindsFirstUnderKey, CursorReturns, OnlyReadsStore, MovesCursorsIfOk, SelectsUnderKey, CountsUnderKey, selected_columns};
 ghost use Rattle.sqlite_exec.specs.Calls.{OnlyReads};
 ghost use Rattle.sqlite_exec.specs.Loops.{left_of};
 ghost use Rattle.sqlite_trees.specs.Tree.{rowid};
@@ -10,7 +10,7 @@ ghost use Rattle.sqlite_value.specs.Order.{Row as Values};
 
 use kt_base::{Bytes, NoMemory};
 use kt_store::heads::add;
-use kt_store::store_fault::{OTHER_FAILURE, StoreFailure, present, sure};
+use kt_store::store_fault::{DATABASE_FAILURE, DatabaseError, ensure_sound, present};
 use kt_store::value::int;
 use sqlite::Row;
 use sqlite_exec::work::FromRow;
@@ -21,19 +21,21 @@ use sqlite_value::value::ValueRef;
 use std::alloc::Global;
 use std::cmp::Ordering;
 
-/// A description of a table: the numbers of its tree and of its key's index, the columns of the
-/// key, and the columns that are blobs.
+/// A description of a table that has an index of its key.
 #[derive(Clone, Copy)]
 pub(crate) struct TreeTable<'a> {
+    /// The number of the table's tree.
     pub(crate) tree: u32,
+    /// The number of the index's tree.
     pub(crate) index: u32,
+    /// The indexes of the columns of the key.
     pub(crate) key: &'a [usize],
+    /// The indexes of the columns that are blobs.
     pub(crate) blobs: &'a [usize],
 }
 
-/// Copies the bytes in a column of a stored row. Fails if the column isn't a blob. An output is
-/// copied only here.
-pub(crate) fn stored_bytes(alloc: Global, row: &row::Row, at: usize) -> Result<Bytes, StoreFailure>
+/// Copies the bytes of the blob in column `at` of a stored row. Fails if the column isn't a blob.
+pub(crate) fn copy_blob(alloc: Global, row: &row::Row, at: usize) -> Result<Bytes, DatabaseError>
     ensures bytes { (b : List ℕ) → column row.now at ≡ Blob b → IfOk result (λ x. x ≡ b) }
 {
     match row.get(at) {
@@ -41,22 +43,22 @@ pub(crate) fn stored_bytes(alloc: Global, row: &row::Row, at: usize) -> Result<B
             let copy = Bytes::from_slice(alloc, bytes)?;
             Ok(copy)
         }
-        _ => Err(OTHER_FAILURE),
+        _ => Err(DATABASE_FAILURE),
     }
 }
 
 /// Returns the rowid of a row. Fails unless the rowid is above 0.
-pub(crate) fn number_of(row: &row::Row) -> Result<u64, StoreFailure>
+pub(crate) fn positive_rowid(row: &row::Row) -> Result<u64, DatabaseError>
     ensures { (n : ℕ) → rowid row.now ≡ Int (pos n) → IfOk result (λ number. number ≡ n) }
 {
     match row.get(0) {
         ValueRef::Int(number) if number > 0 => Ok(number.unsigned_abs()),
-        _ => Err(OTHER_FAILURE),
+        _ => Err(DATABASE_FAILURE),
     }
 }
 
 /// Creates an index key with one number.
-pub(crate) fn number_row(alloc: Global, number: u32) -> Result<row::Row, NoMemory>
+pub(crate) fn create_number_key(alloc: Global, number: u32) -> Result<row::Row, NoMemory>
     ensures { IfOk result (λ key. key ≡ Int (pos number) ∷ []) }
 {
     let mut key = row::Row::new(alloc);
@@ -64,13 +66,13 @@ pub(crate) fn number_row(alloc: Global, number: u32) -> Result<row::Row, NoMemor
     Ok(key)
 }
 
-/// Copies the values of a stored row in `columns`, in this order.
-pub(crate) fn columns_of(
+/// Copies the values in `columns` of a stored row, in the order of `columns`.
+pub(crate) fn copy_columns(
     alloc: Global,
     row: &row::Row,
     columns: &[usize],
 ) -> Result<row::Row, NoMemory>
-    ensures { IfOk result (λ values. values ≡ in_columns columns.now row.now) }
+    ensures { IfOk result (λ values. values ≡ selected_columns columns.now row.now) }
 {
     let mut values = row::Row::new(alloc);
     for at in columns {
@@ -79,31 +81,31 @@ pub(crate) fn columns_of(
     Ok(values)
 }
 
-/// Copies the values of a stored row in `columns` into a row of a query result.
+/// Copies the values in `columns` of a stored row into a row of a query result.
 pub(crate) fn shown(alloc: Global, row: &row::Row, columns: &[usize]) -> Result<Row, NoMemory>
-    ensures { IfOk result (λ it. it ≡ in_columns columns.now row.now) }
+    ensures { IfOk result (λ it. it ≡ selected_columns columns.now row.now) }
 {
-    let values = columns_of(alloc, row, columns)?;
+    let values = copy_columns(alloc, row, columns)?;
     let row = Row::from_row(alloc, &values)?;
     Ok(row)
 }
 
-/// Appends the values of a stored row in `columns` to `found`, as one element.
-fn add_shown<T: FromRow>(
+/// Appends the values in `columns` of a stored row to `found`, as one element.
+fn push_columns<T: FromRow>(
     alloc: Global,
     row: &row::Row,
     columns: &[usize],
     found: &mut Vec<T>,
 ) -> Result<(), NoMemory>
     ensures { OnOk result (found.new.items ≡ found.old.items
-        ++ T.FromRow.from_row_gives (in_columns columns.now row.now) ∷ []) }
+        ++ T.FromRow.from_row_gives (selected_columns columns.now row.now) ∷ []) }
 {
-    let values = columns_of(alloc, row, columns)?;
+    let values = copy_columns(alloc, row, columns)?;
     add(found, T::from_row(alloc, &values)?)
 }
 
 /// Returns the rowid at the end of an index entry, or `None` if the last value isn't a number.
-fn rowid_of(place: &row::Row) -> Option<i64>
+fn index_entry_rowid(place: &row::Row) -> Option<i64>
     ensures { (front : Values) (id : ℤ) → place.now ≡ front ++ Int id ∷ [] → result ≡ Some id }
 {
     let at = place.len().checked_sub(1)?;
@@ -113,9 +115,9 @@ fn rowid_of(place: &row::Row) -> Option<i64>
     }
 }
 
-/// Returns `true` if the tree of a table has the shape of a table, and that of its key the shape of
-/// an index in byte order.
-pub(crate) fn are_shaped<S: Store>(store: &S, table: &TreeTable) -> bool
+/// Returns `true` if the table's tree has the shape of a table, and its index's tree has the shape
+/// of an index whose columns ascend by bytes.
+pub(crate) fn have_shapes<S: Store>(store: &S, table: &TreeTable) -> bool
     ensures table { IsTrue result
         → (S.Store.view store.now).shape table.now.tree ≡ kind.Table }
     ensures index { IsTrue result
@@ -125,7 +127,7 @@ pub(crate) fn are_shaped<S: Store>(store: &S, table: &TreeTable) -> bool
         && store.shape(table.index) == Shape::Index(Order::PLAIN)
 }
 
-/// Returns `true` if a row has a blob in each of these columns.
+/// Returns `true` if a row has a blob in each of `columns`.
 fn has_blobs(row: &row::Row, columns: &[usize]) -> bool {
     for at in columns {
         if !matches!(row.get(*at), ValueRef::Blob(_)) {
@@ -136,16 +138,16 @@ fn has_blobs(row: &row::Row, columns: &[usize]) -> bool {
 }
 
 /// Reads the next index entry of the cursor into `place`, and its row into `row`. Returns `true` if
-/// the entry begins with the key, and `false` if it doesn't or if there is no entry. Fails if the
-/// entry isn't that of its row, or if a blob column of the row has another value.
-pub(crate) fn next_row<S: Store>(
+/// the entry begins with `key`, and `false` if it doesn't or if there is no entry. Fails if the
+/// entry isn't that of its row, or if a blob column of the row has no blob.
+pub(crate) fn read_next_row<S: Store>(
     store: &mut S,
     alloc: Global,
     table: &TreeTable,
     key: &row::Row,
     place: &mut row::Row,
     row: &mut row::Row,
-) -> Result<bool, StoreFailure>
+) -> Result<bool, DatabaseError>
     requires cursor { IsSome ((S.Store.view store.old).cursors 0) }
     requires table { (S.Store.view store.old).shape table.now.tree ≡ kind.Table }
     ensures goes { IfOk result (λ is_ours. IsClean (S.Store.view store.new)
@@ -160,22 +162,23 @@ pub(crate) fn next_row<S: Store>(
     if !store.next(0, place)? {
         return Ok(false);
     }
-    let id = present(rowid_of(place))?;
-    sure(store.get(table.tree, id, row)?)?;
-    let own = columns_of(alloc, row, table.key)?;
+    let id = present(index_entry_rowid(place))?;
+    ensure_sound(store.get(table.tree, id, row)?)?;
+    let own = copy_columns(alloc, row, table.key)?;
     if place.cmp_prefix(Order::PLAIN, &own) != Ordering::Equal || !has_blobs(row, table.blobs) {
-        return Err(OTHER_FAILURE);
+        return Err(DATABASE_FAILURE);
     }
     Ok(place.cmp_prefix(Order::PLAIN, key) == Ordering::Equal)
 }
 
-/// Returns the first row of a table under an index key, if there is one. Reads no other row.
-pub(crate) fn row_under_key<S: Store>(
+/// Returns the first row of a table whose index entry begins with `key`, or `None` if there is no
+/// such row. Reads at most one row.
+pub(crate) fn find_row_by_key<S: Store>(
     store: &mut S,
     alloc: Global,
     table: &TreeTable,
     key: &row::Row,
-) -> Result<Option<row::Row>, StoreFailure>
+) -> Result<Option<row::Row>, DatabaseError>
     ensures found { IfOk result (λ found. IsClean (S.Store.view store.new)
         → FindsFirstUnderKey table.now.tree table.now.index key.now
         (S.Store.view store.old).trees found) }
@@ -183,25 +186,25 @@ pub(crate) fn row_under_key<S: Store>(
         → (S.Store.view store.old).is_broken ≡ false) }
     ensures looks { OnlyReadsStore S.Store store.old store.new }
 {
-    sure(are_shaped(store, table))?;
+    ensure_sound(have_shapes(store, table))?;
     store.seek(0, table.index, key, Direction::Forward)?;
     let mut place = row::Row::new(alloc);
     let mut row = row::Row::new(alloc);
-    if !next_row(store, alloc, table, key, &mut place, &mut row)? {
+    if !read_next_row(store, alloc, table, key, &mut place, &mut row)? {
         return Ok(None);
     }
     Ok(Some(row))
 }
 
-/// Reads the values in `columns` of the rows of a table under an index key, in the order of the
-/// index. Holds one row at a time.
-fn rows_under_key<S: Store>(
+/// Reads the values in `columns` of each row whose index entry begins with `key`, in the order of
+/// the index. Holds one stored row at a time.
+fn read_rows_by_key<S: Store>(
     store: &mut S,
     alloc: Global,
     table: &TreeTable,
     key: &row::Row,
     columns: &[usize],
-) -> Result<Vec<Row>, StoreFailure>
+) -> Result<Vec<Row>, DatabaseError>
     ensures all { IfOk result (λ rows. IsClean (S.Store.view store.new)
         → SelectsUnderKey table.now.tree table.now.index key.now columns.now
         (S.Store.view store.old).trees rows.items) }
@@ -210,7 +213,7 @@ fn rows_under_key<S: Store>(
         → (S.Store.view store.old).is_broken ≡ false) }
     ensures looks { OnlyReadsStore S.Store store.old store.new }
 {
-    sure(are_shaped(store, table))?;
+    ensure_sound(have_shapes(store, table))?;
     store.seek(0, table.index, key, Direction::Forward)?;
     let mut place = row::Row::new(alloc);
     let mut row = row::Row::new(alloc);
@@ -218,24 +221,25 @@ fn rows_under_key<S: Store>(
     // A faulty disk could keep a cursor going, so the loop counts.
     'places: for _ in 0..u64::MAX {
         // Read one entry past the last match: a damaged entry could be a match.
-        if !next_row(store, alloc, table, key, &mut place, &mut row)? {
+        if !read_next_row(store, alloc, table, key, &mut place, &mut row)? {
             return Ok(rows);
         }
-        add_shown(alloc, &row, columns, &mut rows)?;
+        push_columns(alloc, &row, columns, &mut rows)?;
     }
-    Err(OTHER_FAILURE)
+    Err(DATABASE_FAILURE)
 }
 
-/// Reads the values in `columns` of the rows of a table under an index key. First reads the last
-/// index entry at or before the key `before`, and its row: a damaged entry there could be a match.
-pub(crate) fn rows_after<S: Store>(
+/// Reads the values in `columns` of each row whose index entry begins with `key`, in the order of
+/// the index. First reads the last index entry at or before the key `before`, and its row, because
+/// a damaged entry could be a match.
+pub(crate) fn read_rows_after<S: Store>(
     store: &mut S,
     alloc: Global,
     table: &TreeTable,
     before: &row::Row,
     key: &row::Row,
     columns: &[usize],
-) -> Result<Vec<Row>, StoreFailure>
+) -> Result<Vec<Row>, DatabaseError>
     ensures all { IfOk result (λ rows. IsClean (S.Store.view store.new)
         → SelectsUnderKey table.now.tree table.now.index key.now columns.now
         (S.Store.view store.old).trees rows.items) }
@@ -244,28 +248,28 @@ pub(crate) fn rows_after<S: Store>(
         → (S.Store.view store.old).is_broken ≡ false) }
     ensures looks { OnlyReadsStore S.Store store.old store.new }
 {
-    sure(are_shaped(store, table))?;
+    ensure_sound(have_shapes(store, table))?;
     store.seek(0, table.index, before, Direction::Backward)?;
     let mut place = row::Row::new(alloc);
     let mut row = row::Row::new(alloc);
-    next_row(store, alloc, table, before, &mut place, &mut row)?;
-    rows_under_key(store, alloc, table, key, columns)
+    read_next_row(store, alloc, table, before, &mut place, &mut row)?;
+    read_rows_by_key(store, alloc, table, key, columns)
 }
 
-/// Returns the number of index entries under a key.
-pub(crate) fn count_under<S: Store>(
+/// Returns the number of a table's index entries that begin with `key`.
+pub(crate) fn count_under_key<S: Store>(
     store: &mut S,
     alloc: Global,
     table: &TreeTable,
     key: &row::Row,
-) -> Result<u64, StoreFailure>
+) -> Result<u64, DatabaseError>
     ensures counted { IfOk result (λ n. IsClean (S.Store.view store.new)
         → CountsUnderKey table.now.tree table.now.index key.now
         (S.Store.view store.old).trees n) }
-    ensures through { Through S.Store store.old store.new result }
+    ensures through { MovesCursorsIfOk S.Store store.old store.new result }
     ensures looks { OnlyReadsStore S.Store store.old store.new }
 {
-    sure(are_shaped(store, table))?;
+    ensure_sound(have_shapes(store, table))?;
     store.seek(0, table.index, key, Direction::Forward)?;
     let mut place = row::Row::new(alloc);
     // A faulty disk could keep a cursor going, so the loop counts.
@@ -277,21 +281,21 @@ pub(crate) fn count_under<S: Store>(
             return Ok(count);
         }
     }
-    Err(OTHER_FAILURE)
+    Err(DATABASE_FAILURE)
 }
 
-/// Copies the values of each of `rows` in `columns`.
-pub(crate) fn all_shown<T: FromRow>(
+/// Copies the values in `columns` of each of `rows`, in the same order.
+pub(crate) fn copy_all_columns<T: FromRow>(
     alloc: Global,
     rows: &[row::Row],
     columns: &[usize],
 ) -> Result<Vec<T>, NoMemory>
     ensures { IfOk result (λ found. found.items
-        ≡ map (λ row. T.FromRow.from_row_gives (in_columns columns.now row)) rows.now) }
+        ≡ map (λ row. T.FromRow.from_row_gives (selected_columns columns.now row)) rows.now) }
 {
     let mut found = Vec::new(alloc);
     for row in rows {
-        add_shown(alloc, row, columns, &mut found)?;
+        push_columns(alloc, row, columns, &mut found)?;
     }
     Ok(found)
 }

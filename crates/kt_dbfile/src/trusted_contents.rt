@@ -7,18 +7,20 @@ use sqlite::{Start, Unknown};
 /// An open consumes a value of the type, so a value serves one open.
 pub trait TrustedContents: Start {
     ghost use Rattle.sqlite_wal.specs.Files.{image_at};
-    ghost use Rattle.kt_store.specs.TrustedContents.{IsOfRuns};
+    ghost use Rattle.kt_store.specs.TrustedContents.{IsTrustedImage};
 
-    /// Returns the value that a failed open consumed. The program doesn't read the value.
+    /// Returns the value that a failed open consumed, for another open. The program doesn't read
+    /// the value.
     fn returned(failed: OpenFailure<Self>) -> Self;
 
-    ghost holds: { IsOfRuns (image_at Self.Start) };
+    /// The assumption: the initial content of the file meets `IsTrustedImage`.
+    ghost holds: { IsTrustedImage (image_at Self.Start) };
 }
 
 impl TrustedContents for Unknown {
-    ghost use Rattle.kt_dbfile.specs.Inner.SupposedLaws.{of_nothing};
+    ghost use Rattle.kt_dbfile.specs.Inner.EmptyFiles.{empty_files_are_trusted};
 
-    ghost holds = { of_nothing };
+    ghost holds = { empty_files_are_trusted };
 
     fn returned(_failed: OpenFailure<Unknown>) -> Unknown {
         Unknown

@@ -1,5 +1,5 @@
 -- The effect of the INSERT of `begin`.
-use Rattle.kt_store.proofs.Common.{AreNumbered, Chosen, Command, Database, Does, Enforced, Ghosts, HasCleanDisk, Held, Insert, Int, IsDatabase, IsRun, IsStore, IsTrue, Keeps, Leaves, Less, List, MayExecute, Mode, None, Ok, Option, Row, Run, Some, StandsFor, State, Tables, Tally, Executed, Trees, Values, [], all-append, ap, append-nil, arith, begin_text, drop, edit_of, entry_row, entry_rows, flat_map, fold, id_in, inl, inr, ints, last_id, length, length-append, map, map-append, new_run, next_rowid, pair_rows, pos, prop_rows, put_all, put_row, refl, rowid, run_row, runs_1, schema_2, state, subst, suc, sym, taken_by, unwrap_or, value_cmp, value_rows, works, ℕ, ℤ, ◌++◌, ◌+ℤ◌, ◌+◌, ◌<◌, ◌∙◌, ◌∷◌, ◌≡◌}
+use Rattle.kt_store.proofs.Common.{AreNumbered, Chosen, Command, Database, Does, Enforced, Ghosts, HasCleanDisk, Held, Insert, Int, IsDatabase, IsValidRun, IsSettledWithRuns, IsTrue, IsSchema2Of, Leaves, Less, List, StatementMayCommit, Mode, None, Ok, Option, Row, Run, Some, StandsFor, State, Tables, Tally, RunsStatement, Trees, Values, [], all-append, ap, append-nil, arith, insert_run_sql, drop, edit_of, entry_row, entry_rows, flat_map, fold, id_in, inl, inr, ints, last_id, length, length-append, map, map-append, new_run, next_rowid, pair_rows, pos, prop_rows, put_all, put_row, refl, rowid, run_row, runs_table, schema_2, state, subst, suc, sym, taken_by, unwrap_or, value_cmp, value_rows, works, ℕ, ℤ, ◌++◌, ◌+ℤ◌, ◌+◌, ◌<◌, ◌∙◌, ◌∷◌, ◌≡◌}
 use Rattle.std.specs.List.Sorted.{IsPermutation}
 use Rattle.std.proofs.lemmas.Grind.{flat_map-append}
 use Rattle.kt_store.proofs.SqlFacts.{begin_is, begin_terms}
@@ -30,11 +30,11 @@ abbrev pub begin_rows : ℕ → ℕ → List Row
 begin_rows total started = value_rows (begin_params total started) 5 1 begin_terms
 
 module _ (runs : List Run) (total started : ℕ) (db after : Database) (tally : Tally) (has : Tables db runs) (room : length runs < 1000000) (small : total < 4294967296)
-    (changed : Changed schema_2 runs_1 (begin_rows total started) db after tally) where
+    (changed : Changed schema_2 runs_table (begin_rows total started) db after tally) where
   next : next_rowid (db.trees 2) ≡ pos (suc (length runs))
   next = ap next_rowid has.runs_are ∙ next_is 1 runs has.valid.numbered ∙ ap pos (omega arith)
 
-  news_are : (edit_of db.trees runs_1 [] Chosen 0 (begin_rows total started)).news ≡ run_row (new_run runs total started) ∷ []
+  news_are : (edit_of db.trees runs_table [] Chosen 0 (begin_rows total started)).news ≡ run_row (new_run runs total started) ∷ []
   news_are = rw (cast_null, cast_int (pos started), cast_int (pos total), cast_int (pos 0), next) refl
 
   pub last_begun : tally.last ≡ Some (pos (suc (length runs)))
@@ -54,7 +54,7 @@ module _ (runs : List Run) (total started : ℕ) (db after : Database) (tally : 
             (subst (λ rows. IsPermutation (prop_rows runs) (map (drop 1) rows)) (sym (changed.applies.tables.1.1.1.0 (λ e. cc))) has.props_are);
         valid = record {
           numbered = numbers_new runs total started has.valid.numbered;
-          each = all-append IsRun runs (new ∷ []) has.valid.each (record { small = small; ordered = tt; below = tt; sound = tt; whole = λ e. absurd cc }, tt);
+          each = all-append IsValidRun runs (new ∷ []) has.valid.each (record { small = small; ordered = tt; below = tt; sound = tt; whole = λ e. absurd cc }, tt);
           few = omega (arith, length-append runs (new ∷ []));
         };
       }
@@ -63,13 +63,13 @@ abbrev pub begin_command : Command
 begin_command = Insert 1 (Values begin_terms 5)
 
 -- no acting foreign key refers to `runs`
-pub begin_works : (params : Row) (trees : Trees) → let edit = edit_of trees runs_1 [] Chosen 0 (value_rows params 5 1 begin_terms) in works schema_2 Enforced 0 edit.table.tree (taken_by trees edit) edit.news ≡ []
+pub begin_works : (params : Row) (trees : Trees) → let edit = edit_of trees runs_table [] Chosen 0 (value_rows params 5 1 begin_terms) in works schema_2 Enforced 0 edit.table.tree (taken_by trees edit) edit.news ≡ []
 begin_works params trees = refl
 
 begin_changed : (limit : Option ℕ) (mode : Mode) (total started : ℕ) (db after : Database) (text : List ℕ) (tally : Tally) → mode.keys ≡ Enforced → db.schema ≡ schema_2
-    → Does limit mode (begin_params total started) db text None begin_command (Ok (tally, after)) → Changed schema_2 runs_1 (begin_rows total started) db after tally
+    → Does limit mode (begin_params total started) db text None begin_command (Ok (tally, after)) → Changed schema_2 runs_table (begin_rows total started) db after tally
 begin_changed limit mode total started db after text tally enforced has does =
-    changed schema_2 1 runs_1 begin_terms 5 refl refl refl begin_works limit mode (begin_params total started) db after text tally enforced has does
+    changed schema_2 1 runs_table begin_terms 5 refl refl refl begin_works limit mode (begin_params total started) db after text tally enforced has does
 
 no_end : (old : State) → Ends begin_command old → ⊥
 no_end old (inl e) = cc
@@ -85,17 +85,17 @@ module _ {S : Type 0} (g : Ghosts S) (old new : Held S) (runs : List Run) (total
       let did = begin_changed limit mode total started db after text tally enforced has.schema does in
       (begun runs total started db after tally has (room (earlier clean)) small did, last_begun runs total started db after tally has (room (earlier clean)) small did)
 
-  pub executed_begin : HasCleanDisk (state g new) → Executed g begin_text (begin_params total started) old new
-      → IsStore (state g new) (runs ++ new_run runs total started ∷ []) × ((state g new).last_rowid ≡ pos (suc (length runs))) × IsTrue (state g new).is_open × IsDatabase (state g new).now
+  pub executed_begin : HasCleanDisk (state g new) → RunsStatement g insert_run_sql (begin_params total started) old new
+      → IsSettledWithRuns (state g new) (runs ++ new_run runs total started ∷ []) × ((state g new).last_rowid ≡ pos (suc (length runs))) × IsTrue (state g new).is_open × IsDatabase (state g new).now
   executed_begin clean it =
-      let done = executed_by begin_text (begin_params total started) begin_command begin_is.0 begin_is.1 (λ _ _ _ _ ran. ran) no_end runs (runs ++ new_run runs total started ∷ []) IsLast (step clean) g old new has earlier clean it in
+      let done = executed_by insert_run_sql (begin_params total started) begin_command begin_is.0 begin_is.1 (λ _ _ _ _ ran. ran) no_end runs (runs ++ new_run runs total started ∷ []) IsLast (step clean) g old new has earlier clean it in
       (done.0, done.5 ∙ ap (λ o. unwrap_or o (state g it.mid).last_rowid) done.4, done.1, done.2)
 
-  pub crash_begin : HasCleanDisk (state g new) → (trees : Trees) → MayExecute g begin_text (begin_params total started) old trees → Keeps (runs ++ new_run runs total started ∷ []) trees
+  pub crash_begin : HasCleanDisk (state g new) → (trees : Trees) → StatementMayCommit g insert_run_sql (begin_params total started) old trees → IsSchema2Of (runs ++ new_run runs total started ∷ []) trees
   crash_begin clean trees it =
-      crash_by begin_text (begin_params total started) begin_command begin_is.0 begin_is.1 (λ _ _ _ _ ran. ran) no_end runs (runs ++ new_run runs total started ∷ []) IsLast (step clean) g old new has earlier clean trees it
+      crash_by insert_run_sql (begin_params total started) begin_command begin_is.0 begin_is.1 (λ _ _ _ _ ran. ran) no_end runs (runs ++ new_run runs total started ∷ []) IsLast (step clean) g old new has earlier clean trees it
 
 -- a crash of an open connection whose tables have runs leaves these runs
 pub leaves_commit : {S : Type 0} (g : Ghosts S) (s : Held S) (runs : List Run) → ((db : Trees) → IsTrue (state g s).is_open → (state g s).may_leave db → db ≡ (state g s).committed.trees)
-    → IsTrue (state g s).is_open → IsStore (state g s) runs → IsDatabase (state g s).now → Leaves (state g s) (Keeps runs)
+    → IsTrue (state g s).is_open → IsSettledWithRuns (state g s) runs → IsDatabase (state g s).now → Leaves (state g s) (IsSchema2Of runs)
 leaves_commit g s runs law opened has sound clean trees may = ((state g s).now, sound, law trees opened may ∙ ap (λ (d : Database). d.trees) has.settled, has.tables)

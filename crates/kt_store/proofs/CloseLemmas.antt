@@ -1,5 +1,5 @@
 -- The effect of finishing a run on the tables.
-use Rattle.kt_store.proofs.Common.{AllByRecursion, Applies, AreRuns, Database, Does, Enforced, Entry, Ghosts, Given, HasCleanDisk, Held, Incomplete, Int, IsAscending, IsComplete, IsDatabase, IsPermutation, IsRun, IsStore, IsTrue, Keeps, List, MayExecute, Mode, None, Ok, Option, Run, RunClosed, Some, StandsFor, Tables, Tally, Executed, Trees, Update, [], all_from, all_weaker, ap, arith, finished_run_row, drop, edit_of, entries_of, entry_row, entry_rows, false, finish, finish_refusal, finish_refusal_of, finish_text, flat_map, ids_of, length, map, nat_lt, nat_tests, pair_rows, pos, prop_rows, refl, run_at, runs_1, schema_2, state, subst, suc, sym, true, zero, ℕ, ◌++◌, ◌+◌, ◌<◌, ◌∙◌, ◌∷◌, ◌≡◌, ◌≤◌}
+use Rattle.kt_store.proofs.Common.{AllByRecursion, Applies, AreValidRuns, Database, Does, Enforced, Entry, Ghosts, Given, HasCleanDisk, Held, Incomplete, Int, IsAscending, IsComplete, IsDatabase, IsPermutation, IsValidRun, IsSettledWithRuns, IsTrue, IsSchema2Of, List, StatementMayCommit, Mode, None, Ok, Option, Run, RunClosed, Some, StandsFor, Tables, Tally, RunsStatement, Trees, Update, [], all_from, all_weaker, ap, arith, finished_run_row, drop, edit_of, entries_of, entry_row, entry_rows, false, finish, finish_refusal, finish_refusal_of, finish_run_sql, flat_map, ids_of, length, map, nat_lt, nat_tests, pair_rows, pos, prop_rows, refl, run_at, runs_table, schema_2, state, subst, suc, sym, true, zero, ℕ, ◌++◌, ◌+◌, ◌<◌, ◌∙◌, ◌∷◌, ◌≡◌, ◌≤◌}
 use Rattle.std.specs.List.{slice_index_or}
 use Rattle.kt_store.proofs.RunsByNumber.{finish_each, finish_unseen, run_of}
 use Rattle.kt_store.proofs.SqlFacts.{finish_is}
@@ -7,12 +7,12 @@ use Rattle.kt_store.proofs.FinishLemmas.{finish_program, finish_writes, finished
 use Rattle.kt_store.proofs.Numbered.{numbers_finish}
 use Rattle.kt_store.proofs.WriteLemmas.{executed_update, crash_update}
 
-whole_run : (r : Run) → IsRun r → length r.entries ≡ r.total → IsRun (record r { finished = true })
+whole_run : (r : Run) → IsValidRun r → length r.entries ≡ r.total → IsValidRun (record r { finished = true })
 whole_run r is whole = record { small = is.small; ordered = is.ordered; below = is.below; sound = is.sound; whole = λ done. whole }
 
 -- the tables after the UPDATE of `finish` represent the runs with one run finished
 pub finish_in : (runs : List Run) (k : ℕ) (r : Run) → run_at runs (suc k) ≡ Some r → length r.entries ≡ r.total → (db after : Database) → Tables db runs → after.schema ≡ schema_2
-    → Applies schema_2 Enforced db.trees (edit_of db.trees runs_1 (ids_of (finished_run_row r ∷ [])) Given 1 (finished_run_row r ∷ [])) after.trees → Tables after (finish (suc k) runs)
+    → Applies schema_2 Enforced db.trees (edit_of db.trees runs_table (ids_of (finished_run_row r ∷ [])) Given 1 (finished_run_row r ∷ [])) after.trees → Tables after (finish (suc k) runs)
 finish_in runs k r there whole db after has schema_is applies =
     record {
       schema = schema_is;
@@ -24,7 +24,7 @@ finish_in runs k r there whole db after has schema_is applies =
           (subst (λ l. IsPermutation (prop_rows runs) (map (drop 1) l)) (sym (applies.tables.1.1.1.0 (λ e. cc))) has.props_are);
       valid = record {
         numbered = numbers_finish (suc k) 1 runs has.valid.numbered;
-        each = finish_each IsRun k runs r has.valid.numbered has.valid.each there (whole_run r (run_of (suc k) runs r has.valid there) whole);
+        each = finish_each IsValidRun k runs r has.valid.numbered has.valid.each there (whole_run r (run_of (suc k) runs r has.valid there) whole);
         few = omega (arith, has.valid.few, finish_unseen length (λ r n. suc n) (λ r rs. refl) (suc k) (λ r n. refl) runs);
       };
     }
@@ -40,21 +40,21 @@ module _ {S : Type 0} (g : Ghosts S) (old new : Held S) (runs : List Run) (run :
   abbrev pub Closes : Type 0
   Closes = HasCleanDisk (state g old) → IsComplete run runs
 
-  executed_at : (run : ℕ) (r : Run) → run_at runs run ≡ Some r → length r.entries ≡ r.total → HasCleanDisk (state g new) → Executed g finish_text (Int (pos run) ∷ []) old new
-      → IsStore (state g new) (finish run runs) × IsTrue (state g new).is_open × IsDatabase (state g new).now
+  executed_at : (run : ℕ) (r : Run) → run_at runs run ≡ Some r → length r.entries ≡ r.total → HasCleanDisk (state g new) → RunsStatement g finish_run_sql (Int (pos run) ∷ []) old new
+      → IsSettledWithRuns (state g new) (finish run runs) × IsTrue (state g new).is_open × IsDatabase (state g new).now
   executed_at zero r there whole clean it = absurd cc
   executed_at (suc k) r there whole clean it =
-      executed_update finish_text (Int (pos (suc k)) ∷ []) 1 finish_program finish_is.0 finish_is.1 runs (finish (suc k) runs) (finish_step runs k r there whole) g old new has earlier clean it
+      executed_update finish_run_sql (Int (pos (suc k)) ∷ []) 1 finish_program finish_is.0 finish_is.1 runs (finish (suc k) runs) (finish_step runs k r there whole) g old new has earlier clean it
 
-  crash_at : (run : ℕ) (r : Run) → run_at runs run ≡ Some r → length r.entries ≡ r.total → HasCleanDisk (state g new) → (trees : Trees) → MayExecute g finish_text (Int (pos run) ∷ []) old trees → Keeps (finish run runs) trees
+  crash_at : (run : ℕ) (r : Run) → run_at runs run ≡ Some r → length r.entries ≡ r.total → HasCleanDisk (state g new) → (trees : Trees) → StatementMayCommit g finish_run_sql (Int (pos run) ∷ []) old trees → IsSchema2Of (finish run runs) trees
   crash_at zero r there whole clean trees it = absurd cc
   crash_at (suc k) r there whole clean trees it =
-      crash_update finish_text (Int (pos (suc k)) ∷ []) 1 finish_program finish_is.0 finish_is.1 runs (finish (suc k) runs) (finish_step runs k r there whole) g old new has earlier clean trees it
+      crash_update finish_run_sql (Int (pos (suc k)) ∷ []) 1 finish_program finish_is.0 finish_is.1 runs (finish (suc k) runs) (finish_step runs k r there whole) g old new has earlier clean trees it
 
-  pub executed_finish : Closes → HasCleanDisk (state g new) → Executed g finish_text (Int (pos run) ∷ []) old new → IsStore (state g new) (finish run runs) × IsTrue (state g new).is_open × IsDatabase (state g new).now
+  pub executed_finish : Closes → HasCleanDisk (state g new) → RunsStatement g finish_run_sql (Int (pos run) ∷ []) old new → IsSettledWithRuns (state g new) (finish run runs) × IsTrue (state g new).is_open × IsDatabase (state g new).now
   executed_finish closes clean it = let f = closes (earlier clean) in executed_at run f.1 f.3 f.4 clean it
 
-  pub crash_finish : Closes → HasCleanDisk (state g new) → (trees : Trees) → MayExecute g finish_text (Int (pos run) ∷ []) old trees → Keeps (finish run runs) trees
+  pub crash_finish : Closes → HasCleanDisk (state g new) → (trees : Trees) → StatementMayCommit g finish_run_sql (Int (pos run) ∷ []) old trees → IsSchema2Of (finish run runs) trees
   crash_finish closes clean trees it = let f = closes (earlier clean) in crash_at run f.1 f.3 f.4 clean trees it
 
 -- the number of ascending positions below a bound is at most the bound
@@ -78,14 +78,14 @@ pub at_places : (es : List Entry) (i : ℕ) (e : Entry) → IsAscending (λ (a b
     → e ≡ slice_index_or es i e → e.position ≡ i
 at_places es i e up below low is = at_place 0 i es e (all_from (λ (d : Entry). 0 ≤ d.position) es (λ d _. omega arith)) up (subst (λ n. AllByRecursion (λ (d : Entry). d.position < n) es) (omega arith) below) low is ∙ omega arith
 
-pub at_most : (r : Run) → IsRun r → length r.entries ≤ r.total
+pub at_most : (r : Run) → IsValidRun r → length r.entries ≤ r.total
 at_most r is = omega (arith, no_more 0 r.total r.entries (omega arith) (all_from (λ (e : Entry). 0 ≤ e.position) r.entries (λ e _. omega arith)) is.ordered is.below)
 
 module _ (runs : List Run) (run : ℕ) (r : Run) (there : run_at runs run ≡ Some r) where
   pub closed_already : r.finished ≡ true → finish_refusal runs run ≡ Some RunClosed
   closed_already done = ap finish_refusal_of there ∙ rw done refl
 
-  module _ (unclosed : r.finished ≡ false) (valid : AreRuns runs) (n : ℕ) (is : n ≡ length (entries_of (run_at runs run))) where
+  module _ (unclosed : r.finished ≡ false) (valid : AreValidRuns runs) (n : ℕ) (is : n ≡ length (entries_of (run_at runs run))) where
     counted : n ≡ length r.entries
     counted = is ∙ ap (λ o. length (entries_of o)) there
 

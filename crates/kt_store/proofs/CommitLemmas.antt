@@ -1,5 +1,5 @@
 -- The statements of a transaction, executed in order, and the state after their commit.
-use Rattle.kt_store.proofs.Common.{Commits, CommitsNothingYet, Database, Error, ExecutesInside, Fails, FailsToCommit, Ghosts, HasCleanDisk, Held, IsSettledWhileOpen, IsDatabase, IsRolledBack, IsSettled, IsTrue, Keeps, KeepsCommit, Leaves, List, MayCommit, Result, Row, Run, ExecutesInOrder, ExecutesOne, StandsFor, State, Statement, Survives, Tables, Trees, RollsBack, Variable, [], ap, arith, begun, both_ways, cases_Bool, drop, drop-cons, drop_more, false, get_or, inl, inr, inside_keeps, keeps_then, length, map, pair_statement, pair_statements, plain_statements, refl, state, subst, suc, survives_begin, survives_then, survives_weaker, sym, ℕ, ◌+◌, ◌<◌, ◌∙◌, ◌∷◌, ◌≡◌}
+use Rattle.kt_store.proofs.Common.{Commits, CommitsNothingYet, Database, Error, ExecutesInside, Fails, FailsToCommit, Ghosts, HasCleanDisk, Held, IsSettledWhileOpen, IsDatabase, IsRolledBack, IsSettled, IsTrue, IsSchema2Of, KeepsCommit, Leaves, List, MayCommit, Result, Row, Run, ExecutesInOrder, ExecutesOne, StandsFor, State, Statement, Survives, Tables, Trees, RollsBack, Variable, [], ap, arith, begun, both_ways, cases_Bool, drop, drop-cons, drop_more, false, get_or, inl, inr, inside_keeps, keeps_then, length, map, pair_statement, pair_statements, plain_statements, refl, state, subst, suc, survives_begin, survives_then, survives_weaker, sym, ℕ, ◌+◌, ◌<◌, ◌∙◌, ◌∷◌, ◌≡◌}
 use Rattle.kt_store.proofs.StepLemmas.{undone_settled}
 
 module _ {S : Type 0} (g : Ghosts S) where
@@ -91,17 +91,17 @@ module _ {S : Type 0} (g : Ghosts S) (statements : List Statement) (old new : He
       record { autocommit = it.2.mode; settled = it.2.committed_is ∙ sym it.2.now_is; tables = subst (λ (db : Database). Tables db more) (sym it.2.now_is) (made (early clean) it.0 it.1).0 }
 
   -- after the commit, a crash leaves `more`
-  pub commit_lasts : ((db : Trees) → IsTrue (state g new).is_open → (state g new).may_leave db → db ≡ (state g new).committed.trees) → (HasCleanDisk (state g new) → Commits g statements old new) → Leaves (state g new) (Keeps more)
+  pub commit_lasts : ((db : Trees) → IsTrue (state g new).is_open → (state g new).may_leave db → db ≡ (state g new).committed.trees) → (HasCleanDisk (state g new) → Commits g statements old new) → Leaves (state g new) (IsSchema2Of more)
   commit_lasts law done clean trees may =
       let it = done clean in
       let has = commit_stands done clean it.2.is_open in
       ((state g new).now, subst IsDatabase (sym it.2.now_is) (made (early clean) it.0 it.1).1, law trees it.2.is_open may ∙ ap (λ (d : Database). d.trees) has.settled, has.tables)
 
   -- during the commit, a crash leaves what it left before, or `more`
-  pub commit_crash : Survives (state g old) (state g new) (Keeps more)
-  commit_crash = survives_weaker (state g old) (state g new) (MayCommit g statements old) (Keeps more)
+  pub commit_crash : Survives (state g old) (state g new) (IsSchema2Of more)
+  commit_crash = survives_weaker (state g old) (state g new) (MayCommit g statements old) (IsSchema2Of more)
       (λ clean db it. let all = made (early clean) it.0 it.1 in ((state g it.0).now, all.1, it.2, all.0)) survives
 
   pub commit_takes : ((db : Trees) → IsTrue (state g new).is_open → (state g new).may_leave db → db ≡ (state g new).committed.trees) → (HasCleanDisk (state g new) → Commits g statements old new)
-      → StandsFor (state g new) more × Leaves (state g new) (Keeps more) × Survives (state g old) (state g new) (Keeps more)
+      → StandsFor (state g new) more × Leaves (state g new) (IsSchema2Of more) × Survives (state g old) (state g new) (IsSchema2Of more)
   commit_takes law done = (commit_stands done, commit_lasts law done, commit_crash)

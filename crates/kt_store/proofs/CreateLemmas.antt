@@ -1,5 +1,5 @@
 -- The effect of the statements that create the tables.
-use Rattle.kt_store.proofs.Common.{Chosen, CreateTable, Database, Enforced, Executes, Ghosts, Held, Insert, Int, IsDatabase, IsPermutation, IsPermutation-refl, IsPlain, IsTrue, List, None, Ok, Row, ExecutesInOrder, Schema, State, Table, Tables, Tally, Text, Trees, Values, Writes, [], ap, arith, begun, codes, command_of, create_entries, create_meta, create_props, create_runs, drop, edit_of, entries, everything, false, lacks_sequence, make_statements, map, mark_text, meta, meta_1, mode_of, no_schema, pos, props, refl, runs, runs_as, schema_1, schema_2, state, statement_of, subst, sym, taken_by, understood, value_rows, works, ℕ, ◌∙◌, ◌∷◌, ◌≡◌}
+use Rattle.kt_store.proofs.Common.{Chosen, CreateTable, Database, Enforced, Executes, Ghosts, Held, Insert, Int, IsDatabase, IsPermutation, IsPermutation-refl, IsPlain, IsTrue, List, None, Ok, Row, ExecutesInOrder, Schema, State, Table, Tables, Tally, Text, Trees, Values, Writes, [], ap, arith, begun, codes, command_of, create_entries_sql, create_meta_sql, create_props_sql, create_runs_sql, drop, edit_of, entries, everything, false, lacks_sequence, creation_statements, map, insert_schema_sql, meta, meta_table, mode_of, no_schema, pos, props, refl, runs, runs_as, schema_1, schema_2, state, statement_of, subst, sym, taken_by, understood, value_rows, works, ℕ, ◌∙◌, ◌∷◌, ◌≡◌}
 use Rattle.sqlite.specs.Compile.{table_defined_by}
 use Rattle.sqlite.specs.Change.{created, next_tree, KeepsRows}
 use Rattle.kt_store.proofs.SqlFacts.{mark_is, mark_terms}
@@ -15,19 +15,19 @@ schema_b = created schema_a runs
 abbrev pub IsCreate : Schema → List ℕ → Table → Type 0
 IsCreate schema sql table = (command_of (understood schema sql) ≡ CreateTable) × (statement_of sql (understood schema sql) ≡ sql) × IsPlain (understood schema sql) × (table_defined_by sql ≡ Ok table) × (lacks_sequence (created schema table) ≡ false)
 
-pub meta_create : IsCreate no_schema create_meta meta
+pub meta_create : IsCreate no_schema create_meta_sql meta
 unfolding understood everything
 meta_create = (refl, refl, (refl, refl), refl, refl)
 
-pub runs_create : IsCreate schema_a create_runs runs
+pub runs_create : IsCreate schema_a create_runs_sql runs
 unfolding understood everything
 runs_create = (refl, refl, (refl, refl), refl, refl)
 
-pub entries_create : IsCreate schema_b create_entries entries
+pub entries_create : IsCreate schema_b create_entries_sql entries
 unfolding understood everything
 entries_create = (refl, refl, (refl, refl), refl, refl)
 
-pub props_create : IsCreate schema_1 create_props props
+pub props_create : IsCreate schema_1 create_props_sql props
 unfolding understood everything
 props_create = (refl, refl, (refl, refl), refl, refl)
 
@@ -56,20 +56,20 @@ makes schema sql table is old new count has h =
 abbrev mark_command : Rattle.sqlite.specs.Command.Command
 mark_command = Insert 0 (Values mark_terms 3)
 
-mark_works : (params : Row) (trees : Trees) → let edit = edit_of trees meta_1 [] Chosen 0 (value_rows params 3 1 mark_terms) in works schema_2 Enforced 0 edit.table.tree (taken_by trees edit) edit.news ≡ []
+mark_works : (params : Row) (trees : Trees) → let edit = edit_of trees meta_table [] Chosen 0 (value_rows params 3 1 mark_terms) in works schema_2 Enforced 0 edit.table.tree (taken_by trees edit) edit.news ≡ []
 mark_works params trees = refl
 
 -- the five statements that create the tables, executed in order, lead to tables without runs
-pub made_all : (a b c m d e : State) (i j k o l : ℕ) → a.now.schema ≡ no_schema → Executes create_meta [] a b (Ok i) → Executes create_runs [] b c (Ok j) → Executes create_entries [] c m (Ok k) → Executes create_props [] m d (Ok o) → Executes mark_text [] d e (Ok l)
+pub made_all : (a b c m d e : State) (i j k o l : ℕ) → a.now.schema ≡ no_schema → Executes create_meta_sql [] a b (Ok i) → Executes create_runs_sql [] b c (Ok j) → Executes create_entries_sql [] c m (Ok k) → Executes create_props_sql [] m d (Ok o) → Executes insert_schema_sql [] d e (Ok l)
     → Tables e.now [] × IsDatabase e.now
 made_all a b c m d e i j k o l has one two three fourth four =
-    let first = makes no_schema create_meta meta meta_create a b i has one in
-    let second = makes schema_a create_runs runs runs_create b c j first.schema_is two in
-    let third = makes schema_b create_entries entries entries_create c m k second.schema_is three in
-    let last = makes schema_1 create_props props props_create m d o third.schema_is fourth in
-    let text = statement_of mark_text (understood schema_2 mark_text) in
-    let w : Writes d e None mark_command text [] l = runs_as mark_text [] d e schema_2 last.schema_is mark_command mark_is.0 mark_is.1 l four in
-    let did = changed schema_2 0 meta_1 mark_terms 3 refl refl refl mark_works d.step_limit (mode_of d) [] d.now e.now text w.tally refl last.schema_is w.changed in
+    let first = makes no_schema create_meta_sql meta meta_create a b i has one in
+    let second = makes schema_a create_runs_sql runs runs_create b c j first.schema_is two in
+    let third = makes schema_b create_entries_sql entries entries_create c m k second.schema_is three in
+    let last = makes schema_1 create_props_sql props props_create m d o third.schema_is fourth in
+    let text = statement_of insert_schema_sql (understood schema_2 insert_schema_sql) in
+    let w : Writes d e None mark_command text [] l = runs_as insert_schema_sql [] d e schema_2 last.schema_is mark_command mark_is.0 mark_is.1 l four in
+    let did = changed schema_2 0 meta_table mark_terms 3 refl refl refl mark_works d.step_limit (mode_of d) [] d.now e.now text w.tally refl last.schema_is w.changed in
     let meta_empty : d.now.trees 0 ≡ [] = last.others.0 ∙ third.others.0 ∙ second.others.0 ∙ first.empty in
     let runs_empty : d.now.trees 2 ≡ [] = last.others.1.0 ∙ third.others.1.0 ∙ second.empty in
     let marked : e.now.trees 0 ≡ (Int (pos 1) ∷ Text (codes "schema") ∷ Int (pos 2) ∷ []) ∷ [] = did.applies.rows ∙ rw (meta_empty, cast_null, cast_int (pos 2)) refl in (
@@ -86,7 +86,7 @@ made_all a b c m d e i j k o l has one two three fourth four =
 
 -- the five statements that create the tables, executed in a transaction, lead to tables without
 -- runs
-pub made_in : {S : Type 0} (g : Ghosts S) (old left : Held S) → (IsTrue (state g old).is_open → (state g old).now.schema ≡ no_schema) → ExecutesInOrder g make_statements (begun old) left → Tables (state g left).now [] × IsDatabase (state g left).now
+pub made_in : {S : Type 0} (g : Ghosts S) (old left : Held S) → (IsTrue (state g old).is_open → (state g old).now.schema ≡ no_schema) → ExecutesInOrder g creation_statements (begun old) left → Tables (state g left).now [] × IsDatabase (state g left).now
 made_in g old left has ran =
     let two = ran.2 in
     let three = two.2 in

@@ -1,5 +1,5 @@
 -- The results of the queries of entries by position.
-use Rattle.kt_store.proofs.Common.{AllByRecursion, AreRuns, Binary, Bool, Entry, Ghosts, Held, Int, IsAscending, IsEntry, IsPermutation, IsRun, IsStore, IsSureAnswer, Less, List, None, Option, Output, Query, Row, Run, Shown, QueriesRuns, Some, State, Term, [], ap, ap₂, arith, ascending, ascending-filter, ascending-map, ascending_weaker, binary, col, cond, drop, entries_of, entries_text, entry_row, entry_rows, false, filter, from_truth, has_position, holds, is_true, length, length-map, list_all, map, map-map, nat_lt, nat_tests, output, output_cmp, overlay, pos, reads_as, refl, run_at, schema_2, state, subst, sym, entry_query, true, whole_columns, ℕ, ◌&&◌, ◌<◌, ◌==◌, ◌||◌, ◌∙◌, ◌∷◌, ◌≡◌}
+use Rattle.kt_store.proofs.Common.{AllByRecursion, AreValidRuns, Binary, Bool, Entry, Ghosts, Held, Int, IsAscending, IsValidEntry, IsPermutation, IsValidRun, IsSettledWithRuns, IsSureAnswer, Less, List, None, Option, Output, Query, Row, Run, Shown, QueriesRuns, Some, State, Term, [], ap, ap₂, arith, ascending, ascending-filter, ascending-map, ascending_weaker, binary, col, cond, drop, entries_of, select_entries_sql, entry_row, entry_rows, false, filter, from_truth, has_position, holds, is_true, length, length-map, list_all, map, map-map, nat_lt, nat_tests, output, output_cmp, overlay, pos, reads_as, refl, run_at, schema_2, state, subst, sym, select_entry_sql, true, whole_columns, ℕ, ◌&&◌, ◌<◌, ◌==◌, ◌||◌, ◌∙◌, ◌∷◌, ◌≡◌}
 use Rattle.kt_store.proofs.QueryLemmas.{selects, answered_sorted}
 use Rattle.kt_store.proofs.EntryLemmas.{back, of_stored, of_run, tests, each, all_pass, and_true, truth}
 use Rattle.kt_store.proofs.Values.{below, same_test}
@@ -37,15 +37,15 @@ module _ (wheres project : List Term) (params : Row) where
 
     -- the query returns the columns of those entries of run `n` that `keep` selects, ordered by
     -- position
-    pub tells_kept : (old : State) (runs : List Run) (rows : List Row) → IsStore old runs → IsAscending (λ (a b : Entry). a.position < b.position) (entries_of (run_at runs n))
+    pub tells_kept : (old : State) (runs : List Run) (rows : List Row) → IsSettledWithRuns old runs → IsAscending (λ (a b : Entry). a.position < b.position) (entries_of (run_at runs n))
         → IsSureAnswer query (overlay old.now.trees []) params rows → rows ≡ map (λ e. (entry_out e).1) (filter keep (entries_of (run_at runs n)))
-    tells_kept old runs rows has up sure =
+    tells_kept old runs rows has up ensure_sound =
         let es = filter keep (entries_of (run_at runs n)) in
         let from = of_stored (old.now.trees 3) (entry_rows runs) has.tables.entries_are passes out (λ r. (same r).0) (λ r. (same r).1) in
         let outs : map (λ r. out (back r)) (filter (λ r. passes (back r)) (entry_rows runs)) ≡ map entry_out es =
         ap (map (λ r. out (back r))) (of_run (λ r. passes (back r)) keep n runs picks has.tables.valid.numbered) ∙ map-map (λ r. out (back r)) (entry_row n) es in
         let alike = subst (λ l. IsPermutation l (map out (filter passes (old.now.trees 3)))) outs from in
-        answered_sorted 3 wheres project query.order old.now.trees params rows sure (map entry_out es) alike (rises es (ascending-filter _ keep (entries_of (run_at runs n)) up))
+        answered_sorted 3 wheres project query.order old.now.trees params rows ensure_sound (map entry_out es) alike (rises es (ascending-filter _ keep (entries_of (run_at runs n)) up))
         ∙ map-map (λ (o : Output). o.1) entry_out es
 
 -- ---- the result of the query for the entries of a run
@@ -53,17 +53,17 @@ module _ (wheres project : List Term) (params : Row) where
 abbrev Up : List Entry → Type 0
 Up es = IsAscending (λ (a b : Entry). a.position < b.position) es
 
-pub up_of : (runs : List Run) (n : ℕ) → AreRuns runs → Up (entries_of (run_at runs n))
+pub up_of : (runs : List Run) (n : ℕ) → AreValidRuns runs → Up (entries_of (run_at runs n))
 up_of runs n valid = go (run_at runs n) (λ r there. run_of n runs r valid there)
   where
-    go : (o : Option Run) → ((r : Run) → o ≡ Some r → IsRun r) → Up (entries_of o)
+    go : (o : Option Run) → ((r : Run) → o ≡ Some r → IsValidRun r) → Up (entries_of o)
     go None h = tt
     go (Some r) h = (h r refl).ordered
 
-pub sound_of : (runs : List Run) (n : ℕ) → AreRuns runs → AllByRecursion IsEntry (entries_of (run_at runs n))
+pub sound_of : (runs : List Run) (n : ℕ) → AreValidRuns runs → AllByRecursion IsValidEntry (entries_of (run_at runs n))
 sound_of runs n valid = go (run_at runs n) (λ r there. run_of n runs r valid there)
   where
-    go : (o : Option Run) → ((r : Run) → o ≡ Some r → IsRun r) → AllByRecursion IsEntry (entries_of o)
+    go : (o : Option Run) → ((r : Run) → o ≡ Some r → IsValidRun r) → AllByRecursion IsValidEntry (entries_of o)
     go None h = tt
     go (Some r) h = (h r refl).sound
 
@@ -74,9 +74,9 @@ same_rows : (n : ℕ) (r : Row) → Same tests entries_query.project (entries_pa
 same_rows n [] = (refl, refl)
 same_rows n (x ∷ r) = (refl, refl)
 
-pub tells_entries : (old new : State) (runs : List Run) (n : ℕ) (rows : List Row) → IsStore old runs → Shown entries_text (entries_params n) old new rows → rows ≡ map whole_columns (entries_of (run_at runs n))
+pub tells_entries : (old new : State) (runs : List Run) (n : ℕ) (rows : List Row) → IsSettledWithRuns old runs → Shown select_entries_sql (entries_params n) old new rows → rows ≡ map whole_columns (entries_of (run_at runs n))
 tells_entries old new runs n rows has h =
-    let reads = reads_as entries_text (entries_params n) old new schema_2 has.tables.schema _ entries_select_is.0 entries_select_is.2 entries_select_is.1 rows h in
+    let reads = reads_as select_entries_sql (entries_params n) old new schema_2 has.tables.schema _ entries_select_is.0 entries_select_is.2 entries_select_is.1 rows h in
     tells_kept tests entries_query.project (entries_params n) (same_rows n) n (λ (e : Entry). true) (each n) old runs rows has (up_of runs n has.tables.valid) reads.answer
     ∙ ap (map whole_columns) (all_pass (entries_of (run_at runs n)))
 
@@ -112,10 +112,10 @@ any_left p (e ∷ es) = go (e.position == p) (any_left p es)
 pub counted_none : (p : ℕ) (es : List Entry) → length (filter (has p) es) ≡ 0 → has_position p es ≡ false
 counted_none p es none = sym (any_left p es) ∙ grind (arith, nat_tests, none)
 
-pub tells_there : {S : Type 0} (g : Ghosts S) (new : Held S) (runs : List Run) (n p : ℕ) (rows : List Row) → QueriesRuns g runs entry_query (there_params n p) new rows → nat_lt 0 (length rows) ≡ has_position p (entries_of (run_at runs n))
+pub tells_there : {S : Type 0} (g : Ghosts S) (new : Held S) (runs : List Run) (n p : ℕ) (rows : List Row) → QueriesRuns g runs select_entry_sql (there_params n p) new rows → nat_lt 0 (length rows) ≡ has_position p (entries_of (run_at runs n))
 tells_there g new runs n p rows it =
     let params = there_params n p in
     let es = entries_of (run_at runs n) in
-    let reads = reads_as entry_query params (state g it.mid) (state g new) schema_2 it.stored.tables.schema _ there_is.0 there_is.2 there_is.1 rows it.shown in
+    let reads = reads_as select_entry_sql params (state g it.mid) (state g new) schema_2 it.stored.tables.schema _ there_is.0 there_is.2 there_is.1 rows it.shown in
     let are = tells_kept there_tests there_query.project params (there_rows n p) n (has p) (there_each n p) (state g it.mid) runs rows it.stored (up_of runs n it.stored.tables.valid) reads.answer in
     ap (λ l. nat_lt 0 (length l)) are ∙ ap (nat_lt 0) (length-map (filter (has p) es) _) ∙ any_left p es

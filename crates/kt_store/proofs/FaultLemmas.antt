@@ -1,5 +1,5 @@
 -- Facts about the faults that calls return.
-use Rattle.kt_store.proofs.Common.{Err, IfErr, IfOk, IsErrAnd, IsNoMemory, IsStoreFault, NoMemory, Ok, OnErr, OnOk, Result, StoreFault, subst, sym, ◌≡◌}
+use Rattle.kt_store.proofs.Common.{Err, IfErr, IfOk, IsErrAnd, IsNoMemory, IsDatabaseFault, NoMemory, Ok, OnErr, OnOk, Result, StoreFault, subst, sym, ◌≡◌}
 
 -- a fact about a fault holds for the fault of a result that returns it
 pub if_same : {T : Type 0} (Q : StoreFault → Type 0) (r : Result T StoreFault) (e : StoreFault) → IsErrAnd r (λ x. x ≡ e) → Q e → IfErr r Q
@@ -38,11 +38,11 @@ fault_of B C P (Ok x) f = tt
 fault_of B C P (Err e) f = f
 
 -- an out-of-memory fault is a store fault
-pub starved : (fault : StoreFault) → IsNoMemory fault → IsStoreFault fault
+pub starved : (fault : StoreFault) → IsNoMemory fault → IsDatabaseFault fault
 starved (NoMemory refusal) h = tt
 starved _ h = absurd h
 
 -- a fact about each store fault holds for a returned store fault
-pub if_trouble : {T : Type 0} (Q : StoreFault → Type 0) (r : Result T StoreFault) → IsErrAnd r IsStoreFault → ((e : StoreFault) → IsStoreFault e → Q e) → IfErr r Q
+pub if_trouble : {T : Type 0} (Q : StoreFault → Type 0) (r : Result T StoreFault) → IsErrAnd r IsDatabaseFault → ((e : StoreFault) → IsDatabaseFault e → Q e) → IfErr r Q
 if_trouble Q (Ok x) h each = absurd h
 if_trouble Q (Err fault) h each = each fault h

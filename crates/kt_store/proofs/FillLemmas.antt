@@ -1,5 +1,5 @@
 -- The effect of the statements that insert an entry and its properties.
-use Rattle.kt_store.proofs.Common.{AllByRecursion, Applies, AreRuns, CanAdd, Chosen, Database, Enforced, Entry, Executes, Ghosts, HasCleanDisk, HasTexts, Held, Insert, Int, IsDatabase, IsPair, IsPermutation, IsPermutation-cons, IsPermutation-map, IsPermutation-middle, IsPermutation-sym, IsPermutation-trans, IsTrue, List, None, Ok, Row, Run, ExecutesInOrder, StandsFor, State, Statement, Tables, Text, Values, Variable, Writes, [], and_parts, ap, are_fresh, arith, begun, cast_row, codes, drop, edit_of, entries_table, entry_row, entry_rows, entry_statements, false, is_taken, kind_code, length, map, mode_of, next_rowid, not, not-true, numbered, pair_row, pair_rows, pair_rows_from, pair_statements, pair_text, pos, prop_rows, props_1, put_all, put_row, put_text, refl, run_row, runs_as, schema_2, state, statement_of, subst, suc, sym, true, understood, value_rows, with_entry, ℕ, ◌++◌, ◌+◌, ◌∙◌, ◌∷◌, ◌≡◌}
+use Rattle.kt_store.proofs.Common.{AllByRecursion, Applies, AreValidRuns, CanAdd, Chosen, Database, Enforced, Entry, Executes, Ghosts, HasCleanDisk, HasEncodableTexts, Held, Insert, Int, IsDatabase, IsEncodableProperty, IsPermutation, IsPermutation-cons, IsPermutation-map, IsPermutation-middle, IsPermutation-sym, IsPermutation-trans, IsTrue, List, None, Ok, Row, Run, ExecutesInOrder, StandsFor, State, Statement, Tables, Text, Values, Variable, Writes, [], and_parts, ap, are_fresh, arith, begun, cast_row, codes, drop, edit_of, entries_table, entry_row, entry_rows, entry_statements, false, is_taken, kind_code, length, map, mode_of, next_rowid, not, not-true, numbered, pair_row, pair_rows, pair_rows_from, pair_statements, insert_prop_sql, pos, prop_rows, props_table, put_all, put_row, insert_entry_sql, refl, run_row, runs_as, schema_2, state, statement_of, subst, suc, sym, true, understood, value_rows, with_entry, ℕ, ◌++◌, ◌+◌, ◌∙◌, ◌∷◌, ◌≡◌}
 use Rattle.kt_store.proofs.SqlFacts.{put_is, put_terms, pair_is, pair_terms}
 use Rattle.kt_store.proofs.InsertLemmas.{changed}
 use Rattle.kt_store.proofs.RunsByNumber.{entry_unseen}
@@ -44,8 +44,8 @@ moved runs entries props more db same has = record {
 
 -- the rows after an insertion of an entry or of properties that obeys the rules of the schema
 module _ (runs : List Run) (entries props : List Row) (db after : Database) (has : HasRows runs entries props db) (schema_is : after.schema ≡ schema_2) where
-  pub entry_in : (n : ℕ) (e : Entry) → Applies schema_2 Enforced db.trees (edit_of db.trees entries_table [] Chosen 0 (put_rows n e)) after.trees → HasRows runs (entry_row n e ∷ entries) props after
-  entry_in n e applies =
+  pub entry_from_row : (n : ℕ) (e : Entry) → Applies schema_2 Enforced db.trees (edit_of db.trees entries_table [] Chosen 0 (put_rows n e)) after.trees → HasRows runs (entry_row n e ∷ entries) props after
+  entry_from_row n e applies =
       let news_are : (edit_of db.trees entries_table [] Chosen 0 (put_rows n e)).news ≡ numbered Chosen (db.trees 3) (map back (entry_row n e ∷ [])) =
       rw (cast_null, cast_int (pos n), cast_int (pos e.position), cast_int (pos (kind_code e.verdict.kind)), cast_int (pos e.started), cast_int (pos e.millis)) refl in
       record {
@@ -57,9 +57,9 @@ module _ (runs : List Run) (entries props : List Row) (db after : Database) (has
         props_are = subst (λ l. IsPermutation props (map (drop 1) l)) (sym (applies.tables.1.1.1.0 (λ e. cc))) has.props_are;
       }
 
-  pub pairs_in : (sources rows : List Row) → map (λ s. cast_row props_1 (drop 0 s)) sources ≡ map back rows → Applies schema_2 Enforced db.trees (edit_of db.trees props_1 [] Chosen 0 sources) after.trees → HasRows runs entries (rows ++ props) after
-  pairs_in sources rows rows_are applies =
-      let news_are : (edit_of db.trees props_1 [] Chosen 0 sources).news ≡ numbered Chosen (db.trees 5) (map back rows) = ap (numbered Chosen (db.trees 5)) rows_are in
+  pub pairs_from_rows : (sources rows : List Row) → map (λ s. cast_row props_table (drop 0 s)) sources ≡ map back rows → Applies schema_2 Enforced db.trees (edit_of db.trees props_table [] Chosen 0 sources) after.trees → HasRows runs entries (rows ++ props) after
+  pairs_from_rows sources rows rows_are applies =
+      let news_are : (edit_of db.trees props_table [] Chosen 0 sources).news ≡ numbered Chosen (db.trees 5) (map back rows) = ap (numbered Chosen (db.trees 5)) rows_are in
       record {
         schema = schema_is;
         marked = ap (map (drop 1)) (applies.tables.0 (λ e. cc)) ∙ has.marked;
@@ -70,20 +70,20 @@ module _ (runs : List Run) (entries props : List Row) (db after : Database) (has
       }
 
 module _ (runs : List Run) (entries props : List Row) (old new : State) (count : ℕ) (has : HasRows runs entries props old.now) where
-  pub put_inside : (n : ℕ) (e : Entry) → Executes put_text (entry_row n e) old new (Ok count) → HasRows runs (entry_row n e ∷ entries) props new.now × IsDatabase new.now
+  pub put_inside : (n : ℕ) (e : Entry) → Executes insert_entry_sql (entry_row n e) old new (Ok count) → HasRows runs (entry_row n e ∷ entries) props new.now × IsDatabase new.now
   put_inside n e h =
-      let text = statement_of put_text (understood schema_2 put_text) in
-      let w : Writes old new None (Insert 2 (Values put_terms 13)) text (entry_row n e) count = runs_as put_text (entry_row n e) old new schema_2 has.schema (Insert 2 (Values put_terms 13)) put_is.0 put_is.1 count h in
+      let text = statement_of insert_entry_sql (understood schema_2 insert_entry_sql) in
+      let w : Writes old new None (Insert 2 (Values put_terms 13)) text (entry_row n e) count = runs_as insert_entry_sql (entry_row n e) old new schema_2 has.schema (Insert 2 (Values put_terms 13)) put_is.0 put_is.1 count h in
       let did = changed schema_2 2 entries_table put_terms 13 refl refl refl put_works old.step_limit (mode_of old) (entry_row n e) old.now new.now text w.tally refl has.schema w.changed in
-      (entry_in runs entries props old.now new.now has did.schema_is n e did.applies, w.sound)
+      (entry_from_row runs entries props old.now new.now has did.schema_is n e did.applies, w.sound)
 
-  pair_inside : (n p k : ℕ) (v : Variable) → Executes pair_text (pair_row n p k v) old new (Ok count) → HasRows runs entries (pair_row n p k v ∷ props) new.now × IsDatabase new.now
+  pair_inside : (n p k : ℕ) (v : Variable) → Executes insert_prop_sql (pair_row n p k v) old new (Ok count) → HasRows runs entries (pair_row n p k v ∷ props) new.now × IsDatabase new.now
   pair_inside n p k v h =
       let params = pair_row n p k v in
-      let text = statement_of pair_text (understood schema_2 pair_text) in
-      let w : Writes old new None (Insert 3 (Values pair_terms 6)) text params count = runs_as pair_text params old new schema_2 has.schema (Insert 3 (Values pair_terms 6)) pair_is.0 pair_is.1 count h in
-      let did = changed schema_2 3 props_1 pair_terms 6 refl refl refl (λ _ _. refl) old.step_limit (mode_of old) params old.now new.now text w.tally refl has.schema w.changed in
-      (pairs_in runs entries props old.now new.now has did.schema_is (value_rows params 6 1 pair_terms) (params ∷ []) (rw (cast_null, cast_int (pos n), cast_int (pos p), cast_int (pos k)) refl) did.applies, w.sound)
+      let text = statement_of insert_prop_sql (understood schema_2 insert_prop_sql) in
+      let w : Writes old new None (Insert 3 (Values pair_terms 6)) text params count = runs_as insert_prop_sql params old new schema_2 has.schema (Insert 3 (Values pair_terms 6)) pair_is.0 pair_is.1 count h in
+      let did = changed schema_2 3 props_table pair_terms 6 refl refl refl (λ _ _. refl) old.step_limit (mode_of old) params old.now new.now text w.tally refl has.schema w.changed in
+      (pairs_from_rows runs entries props old.now new.now has did.schema_is (value_rows params 6 1 pair_terms) (params ∷ []) (rw (cast_null, cast_int (pos n), cast_int (pos p), cast_int (pos k)) refl) did.applies, w.sound)
 
 module _ {S : Type 0} (g : Ghosts S) (runs : List Run) (entries : List Row) (n p : ℕ) where
   pairs_inside : (k : ℕ) (vs : List Variable) (props : List Row) (old new : Held S) → HasRows runs entries props (state g old).now → IsDatabase (state g old).now
@@ -96,7 +96,7 @@ module _ {S : Type 0} (g : Ghosts S) (runs : List Run) (entries : List Row) (n p
 
 -- the texts of inserted properties are representable in UTF-8
 module _ {S : Type 0} (g : Ghosts S) (n p : ℕ) where
-  pairs_spelled : (k : ℕ) (vs : List Variable) (old new : Held S) → ExecutesInOrder g (pair_statements n p k vs) old new → AllByRecursion IsPair vs
+  pairs_spelled : (k : ℕ) (vs : List Variable) (old new : Held S) → ExecutesInOrder g (pair_statements n p k vs) old new → AllByRecursion IsEncodableProperty vs
   pairs_spelled k [] old new ran = tt
   pairs_spelled k (v ∷ vs) old new ran = ((ran.1.2.0, ran.1.2.1.0), pairs_spelled (suc k) vs ran.0 new ran.2)
 
@@ -105,7 +105,7 @@ module _ {S : Type 0} (g : Ghosts S) (n p : ℕ) where
 pub rows_of : (runs : List Run) (db : Database) → Tables db runs → HasRows runs (entry_rows runs) (prop_rows runs) db
 rows_of runs db has = record { schema = has.schema; marked = has.marked; runs_are = has.runs_are; entries_are = has.entries_are; props_are = has.props_are }
 
-pub tables_of : (runs : List Run) (run : ℕ) (e : Entry) → CanAdd run e runs → HasTexts e → AreRuns runs → (db : Database)
+pub tables_of : (runs : List Run) (run : ℕ) (e : Entry) → CanAdd run e runs → HasEncodableTexts e → AreValidRuns runs → (db : Database)
     → HasRows runs (entry_row run e ∷ entry_rows runs) (pair_rows run e ++ prop_rows runs) db → Tables db (with_entry run e runs)
 tables_of runs run e fits texts were db has =
     let number : 1 + fits.0 ≡ run = omega (arith, fits.1) in
@@ -124,7 +124,7 @@ tables_of runs run e fits texts were db has =
 
 module _ {S : Type 0} (g : Ghosts S) where
   -- the texts of an inserted entry are representable in UTF-8
-  spelled : (n : ℕ) (e : Entry) (old new : Held S) → ExecutesInOrder g (entry_statements n e) old new → HasTexts e
+  spelled : (n : ℕ) (e : Entry) (old new : Held S) → ExecutesInOrder g (entry_statements n e) old new → HasEncodableTexts e
   spelled n e old new ran = (ran.1.2.0, ran.1.2.1.0, ran.1.2.1.1.0, pairs_spelled g n e.position 0 e.meta ran.0 new ran.2)
 
   -- the tables after the insertion of an entry and its properties represent the runs with the entry

@@ -1,5 +1,5 @@
 -- The effect of the UPDATE of `finish`.
-use Rattle.kt_store.proofs.Common.{Answers, Applies, AreNumbered, AtPlace, Bool, Database, Does, Enforced, Given, Int, IsPermutation, Less, List, Mode, None, Null, Ok, OnRows, Option, Program, Row, Run, Some, Tables, Tally, Task, Trees, Update, Updates, Written, [], ap, arith, col, finished_run_row, edit_of, false, filter, filter_all, finish, ids_of, is_eq, lit, map, nat_tests, not, one_permutation, one_step, option_to_list, pos, put_all, put_row, refl, rowid, run_at, run_row, runs_1, schema_2, slice_get, subst, suc, sym, taken_by, true, value_cmp, without_rowid, works, zero, ℕ, ◌+◌, ◌<◌, ◌==◌, ◌∙◌, ◌∷◌, ◌≡◌}
+use Rattle.kt_store.proofs.Common.{Answers, Applies, AreNumbered, AtPlace, Bool, Database, Does, Enforced, Given, Int, IsPermutation, Less, List, Mode, None, Null, Ok, OnRows, Option, Program, Row, Run, Some, Tables, Tally, Task, Trees, Update, Updates, Written, [], ap, arith, col, finished_run_row, edit_of, false, filter, filter_all, finish, ids_of, is_eq, lit, map, nat_tests, not, one_permutation, one_step, option_to_list, pos, put_all, put_row, refl, rowid, run_at, run_row, runs_table, schema_2, slice_get, subst, suc, sym, taken_by, true, value_cmp, without_rowid, works, zero, ℕ, ◌+◌, ◌<◌, ◌==◌, ◌∙◌, ◌∷◌, ◌≡◌}
 use Rattle.sqlite_rules.specs.Action.{Writes}
 use Rattle.kt_store.proofs.SqlFacts.{finish_query, is}
 use Rattle.kt_store.proofs.InsertLemmas.{concluded}
@@ -19,19 +19,19 @@ updates task q given db done h =
     let wrote = went asked.2 in
     (asked.0, asked.1, subst (λ t. Writes task.schema task.keys db (edit_of db task.table (ids_of asked.0) Given 1 asked.0) (Ok t)) (sym (ap (λ (w : Written). w.trees) (same_value wrote.2))) wrote.1)
 
-pub finish_works : (r : Run) (trees : Trees) → let edit = edit_of trees runs_1 (ids_of (finished_run_row r ∷ [])) Given 1 (finished_run_row r ∷ []) in works schema_2 Enforced 0 edit.table.tree (taken_by trees edit) edit.news ≡ []
+pub finish_works : (r : Run) (trees : Trees) → let edit = edit_of trees runs_table (ids_of (finished_run_row r ∷ [])) Given 1 (finished_run_row r ∷ []) in works schema_2 Enforced 0 edit.table.tree (taken_by trees edit) edit.news ≡ []
 finish_works r trees = refl
 
 -- the UPDATE of `finish` writes the row of one run as finished
 pub finish_writes : (limit : Option ℕ) (mode : Mode) (n : ℕ) (db after : Database) (text : List ℕ) (tally : Tally) (runs : List Run) (r : Run) → mode.keys ≡ Enforced → Tables db runs → run_at runs n ≡ Some r
     → Does limit mode (Int (pos n) ∷ []) db text None (Update 1 finish_program) (Ok (tally, after))
-    → (after.schema ≡ schema_2) × Applies schema_2 Enforced db.trees (edit_of db.trees runs_1 (ids_of (finished_run_row r ∷ [])) Given 1 (finished_run_row r ∷ [])) after.trees
+    → (after.schema ≡ schema_2) × Applies schema_2 Enforced db.trees (edit_of db.trees runs_table (ids_of (finished_run_row r ∷ [])) Given 1 (finished_run_row r ∷ [])) after.trees
 finish_writes limit mode n db after text tally runs r enforced has there does =
     let params = Int (pos n) ∷ [] in
     let on_table = subst (λ x. AtPlace (λ t. OnRows (record { limit = limit; keys = mode.keys; schema = x; table = t; params = params }) mode None (Update 1 finish_program) db.trees) (slice_get x.tables 1) (Ok (tally, after))) has.schema does in
-    let task : Task = record { limit = limit; keys = Enforced; schema = schema_2; table = runs_1; params = params } in
+    let task : Task = record { limit = limit; keys = Enforced; schema = schema_2; table = runs_table; params = params } in
     let rows : OnRows task mode None (Update 1 finish_program) db.trees (Ok (tally, after)) =
-    subst (λ k. OnRows (record { limit = limit; keys = k; schema = schema_2; table = runs_1; params = params }) mode None (Update 1 finish_program) db.trees (Ok (tally, after))) enforced on_table in
+    subst (λ k. OnRows (record { limit = limit; keys = k; schema = schema_2; table = runs_table; params = params }) mode None (Update 1 finish_program) db.trees (Ok (tally, after))) enforced on_table in
     let done = went rows in
     let ends = concluded task mode done.0 tally after done.2 in
     let wrote = updates task finish_program params db.trees done.0 done.1 in
@@ -41,8 +41,8 @@ finish_writes limit mode n db after text tally runs r enforced has there does =
     let found : picked 2 tests project [] db.trees params ≡ run_row r ∷ [] =
     ap (filter _) has.runs_are ∙ picked_run n (col 0 0) params (λ r. refl) runs has.valid.numbered ∙ ap (λ o. map run_row (option_to_list o)) there in
     let one : wrote.0 ≡ finished_run_row r ∷ [] = one_permutation (finished_run_row r) wrote.0 (subst (λ l. IsPermutation (map (show 2 tests project [] db.trees params) l) wrote.0) found all) in
-    let edit : Writes schema_2 Enforced db.trees (edit_of db.trees runs_1 (ids_of (finished_run_row r ∷ [])) Given 1 (finished_run_row r ∷ [])) (Ok done.0.trees) =
-    subst (λ l. Writes schema_2 Enforced db.trees (edit_of db.trees runs_1 (ids_of l) Given 1 l) (Ok done.0.trees)) one wrote.2 in
+    let edit : Writes schema_2 Enforced db.trees (edit_of db.trees runs_table (ids_of (finished_run_row r ∷ [])) Given 1 (finished_run_row r ∷ [])) (Ok done.0.trees) =
+    subst (λ l. Writes schema_2 Enforced db.trees (edit_of db.trees runs_table (ids_of l) Given 1 l) (Ok done.0.trees)) one wrote.2 in
     (ap (λ (d : Database). d.schema) ends.1, subst (Applies schema_2 Enforced db.trees _) (sym (ap (λ (d : Database). d.trees) ends.1)) (one_step schema_2 Enforced db.trees done.0.trees _ (finish_works r db.trees) edit))
 
 abbrev lacks : ℕ → Row → Bool
@@ -79,10 +79,10 @@ replaced from (suc k) (x ∷ runs) r h there =
     rw (apart, stays) (rw first (ap (λ l. run_row x ∷ l) rest))
 
 pub finished_rows : (k : ℕ) (db after : Trees) (runs : List Run) (r : Run) → AreNumbered 1 runs → db 2 ≡ map run_row runs → run_at runs (suc k) ≡ Some r
-    → Applies schema_2 Enforced db (edit_of db runs_1 (ids_of (finished_run_row r ∷ [])) Given 1 (finished_run_row r ∷ [])) after → after 2 ≡ map run_row (finish (suc k) runs)
+    → Applies schema_2 Enforced db (edit_of db runs_table (ids_of (finished_run_row r ∷ [])) Given 1 (finished_run_row r ∷ [])) after → after 2 ≡ map run_row (finish (suc k) runs)
 finished_rows k db after runs r h rows there did =
     let number : r.number ≡ suc k = number_at 1 k runs r h there ∙ omega arith in
-    let news : (edit_of db runs_1 (ids_of (finished_run_row r ∷ [])) Given 1 (finished_run_row r ∷ [])).news ≡ run_row (record r { finished = true }) ∷ [] =
+    let news : (edit_of db runs_table (ids_of (finished_run_row r ∷ [])) Given 1 (finished_run_row r ∷ [])).news ≡ run_row (record r { finished = true }) ∷ [] =
     rw (cast_int (pos r.number), cast_null, cast_int (pos r.started), cast_int (pos r.total), cast_int (pos 1)) refl in
     did.rows ∙ ap (put_all (without_rowid (pos r.number) (db 2))) news
     ∙ ap (λ l. put_row (run_row (record r { finished = true })) (without_rowid (pos r.number) l)) rows

@@ -1,5 +1,5 @@
 -- The result of the query for the schema number.
-use Rattle.kt_store.proofs.Common.{Asked, AsksNumber, Bool, Database, Ghosts, HasCleanDisk, Held, IsSettledWhileOpen, Int, IsEmpty, IsPermutation, IsTrue, IsUnchanged, List, MayShow, None, IsUnchangedOrRolledBack, Row, Run, ListsSchemaNumber, StoresSchemaNumber, Schema, Shown, Some, StandsFor, RepresentsInSchema1, State, Survives, Term, Text, Value, [], ap, arith, schema_with_meta, binary, codes, col, column, drop, entries_table, filter, holds, index_of, inl, list_all, lit, map, meta_1, meta_text, one_permutation, pos, props_1, reads_as, refl, runs_1, slice_get, state, subst, sym, true, understood, value_cmp, ℤ, ◌∙◌, ◌∷◌, ◌≡◌, ◌≢◌}
+use Rattle.kt_store.proofs.Common.{RunsQuery, ReadsSchemaNumber, Bool, Database, Ghosts, HasCleanDisk, Held, IsSettledWhileOpen, Int, IsEmpty, IsPermutation, IsTrue, IsUnchanged, List, QueryMayCommit, None, IsUnchangedOrRolledBack, Row, Run, ListsSchemaNumber, StoresSchemaNumber, Schema, Shown, Some, StandsFor, RepresentsInSchema1, State, Survives, Term, Text, Value, [], ap, arith, schema_with_meta, binary, codes, col, column, drop, entries_table, filter, holds, index_of, inl, list_all, lit, map, meta_table, select_schema_sql, one_permutation, pos, props_table, reads_as, refl, runs_table, slice_get, state, subst, sym, true, understood, value_cmp, ℤ, ◌∙◌, ◌∷◌, ◌≡◌, ◌≢◌}
 use Rattle.sqlite.specs.Given.{IsPlain}
 use Rattle.kt_store.proofs.AskLemmas.{asked_unchanged, asked_leaves}
 use Rattle.kt_store.proofs.StepLemmas.{same_settled}
@@ -30,10 +30,10 @@ one_row n _ is = absurd cc
 one_shown : (n : ℤ) (rows : List Row) → map (drop 1) rows ≡ (Text (codes "schema") ∷ Int n ∷ []) ∷ [] → map shows (filter passes rows) ≡ (Int n ∷ []) ∷ []
 one_shown n rows h = let it = one_row n rows h in subst (λ l. map shows (filter passes l) ≡ (Int n ∷ []) ∷ []) (sym it.1) (rw (passes_it n it.0) refl)
 
-pub tells_meta : (old new : State) (n : ℤ) (rows : List Row) → ListsSchemaNumber n old → Shown meta_text [] old new rows → rows ≡ (Int n ∷ []) ∷ []
+pub tells_meta : (old new : State) (n : ℤ) (rows : List Row) → ListsSchemaNumber n old → Shown select_schema_sql [] old new rows → rows ≡ (Int n ∷ []) ∷ []
 tells_meta old new n rows it h =
     let means = meta_any it.others it.indexes it.views in
-    let reads = reads_as meta_text [] old new (schema_with_meta it.others it.indexes it.views) it.schema _ means.0 means.2 means.1 rows h in
+    let reads = reads_as select_schema_sql [] old new (schema_with_meta it.others it.indexes it.views) it.schema _ means.0 means.2 means.1 rows h in
     let all = answered 0 tests (col 1 2 ∷ []) [] old.now.trees [] rows reads.answer in
     one_permutation (Int n ∷ []) rows (subst (λ l. IsPermutation l rows) (one_shown n (old.now.trees 0) it.marked) all)
 
@@ -46,37 +46,37 @@ says_then old mid n same has = record {
   marked = ap (λ (db : Database). map (drop 1) (db.trees 0)) same ∙ has.marked;
 }
 
-pub says_plain : (n : ℤ) (s : State) → StoresSchemaNumber n s → HasCleanDisk s → IsTrue s.is_open → IsPlain (understood s.now.schema meta_text)
+pub says_plain : (n : ℤ) (s : State) → StoresSchemaNumber n s → HasCleanDisk s → IsTrue s.is_open → IsPlain (understood s.now.schema select_schema_sql)
 says_plain n s says clean opened =
     let it = says clean opened in
-    subst (λ schema. IsPlain (understood schema meta_text)) (sym it.schema) (meta_any it.others it.indexes it.views).2
+    subst (λ schema. IsPlain (understood schema select_schema_sql)) (sym it.schema) (meta_any it.others it.indexes it.views).2
 
 module _ {S : Type 0} (g : Ghosts S) (old new : Held S) (earlier : HasCleanDisk (state g new) → HasCleanDisk (state g old)) where
-  pub asked_meta : (n : ℤ) (rows : List Row) → StoresSchemaNumber n (state g old) → HasCleanDisk (state g new) → Asked g meta_text [] old new rows → rows ≡ (Int n ∷ []) ∷ []
+  pub asked_meta : (n : ℤ) (rows : List Row) → StoresSchemaNumber n (state g old) → HasCleanDisk (state g new) → RunsQuery g select_schema_sql [] old new rows → rows ≡ (Int n ∷ []) ∷ []
   asked_meta n rows says clean it =
       let same = it.same.0.now_is in
       let has = says (earlier clean) it.same.0.was_open in
       tells_meta (state g it.mid) (state g new) n rows (says_then (state g old) (state g it.mid) n same has) it.shown
 
 -- the state of a connection after a query for the schema number, for any result
-module _ {S : Type 0} (g : Ghosts S) (old new : Held S) (survives : Survives (state g old) (state g new) (MayShow g meta_text [] old)) where
+module _ {S : Type 0} (g : Ghosts S) (old new : Held S) (survives : Survives (state g old) (state g new) (QueryMayCommit g select_schema_sql [] old)) where
   earlier : HasCleanDisk (state g new) → HasCleanDisk (state g old)
   earlier k = omega (arith, k, survives.clean)
 
-  pub asks_number : ((n : ℤ) → StoresSchemaNumber n (state g old) → HasCleanDisk (state g new) → IsUnchangedOrRolledBack (state g old) (state g new)) → AsksNumber g old new
+  pub asks_number : ((n : ℤ) → StoresSchemaNumber n (state g old) → HasCleanDisk (state g new) → IsUnchangedOrRolledBack (state g old) (state g new)) → ReadsSchemaNumber g old new
   asks_number rests = record {
     earlier = earlier;
     rests = rests;
-    crash = λ n says. asked_leaves g old new earlier meta_text (says_plain n _ says) [] survives;
+    crash = λ n says. asked_leaves g old new earlier select_schema_sql (says_plain n _ says) [] survives;
   }
 
-  pub tells_number : (rows : List Row) → (HasCleanDisk (state g new) → Asked g meta_text [] old new rows) → AsksNumber g old new
-  tells_number rows asked = asks_number (λ n says clean. inl (asked_unchanged g old new earlier meta_text (says_plain n _ says) [] rows clean (asked clean)))
+  pub tells_number : (rows : List Row) → (HasCleanDisk (state g new) → RunsQuery g select_schema_sql [] old new rows) → ReadsSchemaNumber g old new
+  tells_number rows asked = asks_number (λ n says clean. inl (asked_unchanged g old new earlier select_schema_sql (says_plain n _ says) [] rows clean (asked clean)))
 
 pub says_two : (s : State) (runs : List Run) → StandsFor s runs → StoresSchemaNumber (pos 2) s
 says_two s runs has clean opened = record {
-  others = runs_1 ∷ entries_table ∷ props_1 ∷ [];
-  indexes = index_of meta_1 1 ∷ index_of entries_table 4 ∷ index_of props_1 6 ∷ [];
+  others = runs_table ∷ entries_table ∷ props_table ∷ [];
+  indexes = index_of meta_table 1 ∷ index_of entries_table 4 ∷ index_of props_table 6 ∷ [];
   views = [];
   schema = (has clean opened).tables.schema;
   marked = (has clean opened).tables.marked;
@@ -84,8 +84,8 @@ says_two s runs has clean opened = record {
 
 pub says_one : (s : State) (runs : List Run) → RepresentsInSchema1 s runs → StoresSchemaNumber (pos 1) s
 says_one s runs has clean opened = record {
-  others = runs_1 ∷ entries_table ∷ [];
-  indexes = index_of meta_1 1 ∷ index_of entries_table 4 ∷ [];
+  others = runs_table ∷ entries_table ∷ [];
+  indexes = index_of meta_table 1 ∷ index_of entries_table 4 ∷ [];
   views = [];
   schema = (has clean opened).tables.schema;
   marked = (has clean opened).tables.marked;
@@ -121,7 +121,7 @@ module _ (old mid : State) (earlier : HasCleanDisk mid → HasCleanDisk old) (sa
   says_filled n says clean none =
       let it = same clean in
       let has = says (earlier clean) it.0.was_open in
-      let e : meta_1 ∷ has.others ≡ [] = sym (ap (λ (db : Database). db.schema.tables) it.0.now_is ∙ ap (λ (s : Schema). s.tables) has.schema) ∙ none in
+      let e : meta_table ∷ has.others ≡ [] = sym (ap (λ (db : Database). db.schema.tables) it.0.now_is ∙ ap (λ (s : Schema). s.tables) has.schema) ∙ none in
       cc
 
   pub empty_blank : IsEmpty old → HasCleanDisk mid → mid.now.schema.tables ≡ []

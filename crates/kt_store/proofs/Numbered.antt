@@ -1,20 +1,20 @@
 -- The condition under which a run accepts an entry. Each call keeps runs numbered from 1, and their
 -- entries ordered by position.
-use Rattle.kt_store.proofs.Common.{Agrees, AllByRecursion, AreNumbered, AreOrdered, AreRuns, BadPosition, Began, Bool, CanAdd, Entry, Finished, IsAscending, HasNoReasonIfPassed, IsEntry, IsRun, List, None, Ok, Option, Put, RepeatedPosition, Run, RunClosed, Some, StoreCall, [], all-append, all-slice_get, all_weaker, ap, arith, cases_Bool, runs_after, cond, entries_of, false, finish, has_position, if◌then◌else◌, inl, inr, insert_at, length, nat_le, nat_lt, nat_tests, new_run, or_parts, put_refusal, put_refusal_of, refl, run_at, slice_get, slice_get_within, suc, sym, true, with_entry, zero, ℕ, ◌++◌, ◌+◌, ◌<◌, ◌==◌, ◌∙◌, ◌∷◌, ◌≡◌, ◌≤◌}
+use Rattle.kt_store.proofs.Common.{Agrees, AllByRecursion, AreNumbered, AreOrdered, AreValidRuns, BadPosition, Began, Bool, CanAdd, Entry, Finished, IsAscending, HasNoReasonIfPassed, IsValidEntry, IsValidRun, List, None, Ok, Option, Put, RepeatedPosition, Run, RunClosed, Some, StoreCall, [], all-append, all-slice_get, all_weaker, ap, arith, cases_Bool, runs_after, cond, entries_of, false, finish, has_position, if◌then◌else◌, inl, inr, insert_by_position, length, nat_le, nat_lt, nat_tests, new_run, or_parts, put_refusal, put_refusal_of, refl, run_at, slice_get, slice_get_within, suc, sym, true, with_entry, zero, ℕ, ◌++◌, ◌+◌, ◌<◌, ◌==◌, ◌∙◌, ◌∷◌, ◌≡◌, ◌≤◌}
 use Rattle.kt_store.proofs.RunsByNumber.{entry_each, run_of}
 
 abbrev pub lower : Entry → Entry → Type 0
 lower a b = a.position < b.position
 
-all_insert : (P : Entry → Type 0) (e : Entry) (es : List Entry) → P e → AllByRecursion P es → AllByRecursion P (insert_at e es)
+all_insert : (P : Entry → Type 0) (e : Entry) (es : List Entry) → P e → AllByRecursion P es → AllByRecursion P (insert_by_position e es)
 all_insert P e [] h hs = (h, tt)
 all_insert P e (x ∷ es) h hs = go (nat_lt e.position x.position) (all_insert P e es h hs.1)
   where
-    go : (b : Bool) → AllByRecursion P (insert_at e es) → AllByRecursion P (cond b (e ∷ x ∷ es) (x ∷ insert_at e es))
+    go : (b : Bool) → AllByRecursion P (insert_by_position e es) → AllByRecursion P (cond b (e ∷ x ∷ es) (x ∷ insert_by_position e es))
     go true more = (h, (hs.0, hs.1))
     go false more = (hs.0, more)
 
-pub ascends : (e : Entry) (es : List Entry) → IsAscending lower es → has_position e.position es ≡ false → IsAscending lower (insert_at e es)
+pub ascends : (e : Entry) (es : List Entry) → IsAscending lower es → has_position e.position es ≡ false → IsAscending lower (insert_by_position e es)
 ascends e [] h free = (tt, tt)
 ascends e (x ∷ es) h free = elim (cases_Bool (nat_lt e.position x.position)) [
   | inl before ↦ let low : lower e x = grind (arith, nat_tests, before) in rw before ((low, all_weaker (lower x) (lower e) (λ y above. omega (arith, low, above)) es h.0), (h.0, h.1))
@@ -24,12 +24,12 @@ ascends e (x ∷ es) h free = elim (cases_Bool (nat_lt e.position x.position)) [
       rw after (all_insert (lower x) e es high h.0, ascends e es h.1 other.1)
 ]
 
-run_takes : (e : Entry) (r : Run) → IsEntry e → IsRun r → r.finished ≡ false → e.position < r.total → has_position e.position r.entries ≡ false → IsRun (record r { entries = insert_at e r.entries })
+run_takes : (e : Entry) (r : Run) → IsValidEntry e → IsValidRun r → r.finished ≡ false → e.position < r.total → has_position e.position r.entries ≡ false → IsValidRun (record r { entries = insert_by_position e r.entries })
 run_takes e r sound is unclosed low free = record {
   small = is.small;
   ordered = ascends e r.entries is.ordered free;
   below = all_insert (λ (x : Entry). x.position < r.total) e r.entries low is.below;
-  sound = all_insert IsEntry e r.entries sound is.sound;
+  sound = all_insert IsValidEntry e r.entries sound is.sound;
   whole = λ done. absurd (let e : true ≡ false = sym done ∙ unclosed in cc);
 }
 
@@ -52,21 +52,21 @@ module _ (runs : List Run) (run : ℕ) (e : Entry) (r : Run) (there : run_at run
           let is : has_position e.position r.entries ≡ true = ap (λ o. has_position e.position (entries_of o)) (sym there) ∙ here in
           ap (λ o. put_refusal_of o e) there ∙ rw (unclosed, under, is) refl
 
-      pub taken : HasNoReasonIfPassed e → AreRuns runs → has_position e.position (entries_of (run_at runs run)) ≡ false
+      pub taken : HasNoReasonIfPassed e → AreValidRuns runs → has_position e.position (entries_of (run_at runs run)) ≡ false
           → (put_refusal runs run e ≡ None) × CanAdd run e runs
       taken passed valid free =
           let is : has_position e.position r.entries ≡ false = ap (λ o. has_position e.position (entries_of o)) (sym there) ∙ free in
           (ap (λ o. put_refusal_of o e) there ∙ rw (unclosed, under, is) refl, fits run there valid is)
         where
-          fits : (run : ℕ) → run_at runs run ≡ Some r → AreRuns runs → has_position e.position r.entries ≡ false → CanAdd run e runs
+          fits : (run : ℕ) → run_at runs run ≡ Some r → AreValidRuns runs → has_position e.position r.entries ≡ false → CanAdd run e runs
           fits zero there valid is = absurd cc
           fits (suc k) there valid is = (
             k,
             refl,
             slice_get_within runs k r there,
             λ has.
-                let sound : IsEntry e = record { program = has.0; case_name = has.1; reason = has.2; passed = passed; meta = has.3 } in
-                entry_each IsRun k runs r valid.numbered valid.each there e (run_takes e r sound (run_of (suc k) runs r valid there) unclosed low is),
+                let sound : IsValidEntry e = record { program = has.0; case_name = has.1; reason = has.2; passed = passed; meta = has.3 } in
+                entry_each IsValidRun k runs r valid.numbered valid.each there e (run_takes e r sound (run_of (suc k) runs r valid there) unclosed low is),
           )
 
 -- ---- each call keeps runs numbered from 1, and their entries ordered by position
@@ -84,7 +84,7 @@ numbers_of n r s runs more false p q h k = (p, k)
 
 pub numbers_entry : (k : ℕ) (e : Entry) (n : ℕ) (runs : List Run) → AreNumbered n runs → AreNumbered n (with_entry k e runs)
 numbers_entry k e n [] h = tt
-numbers_entry k e n (r ∷ runs) h = numbers_of n r (record r { entries = insert_at e r.entries }) runs (with_entry k e runs) (r.number == k) h.0 h.0 h.1 (numbers_entry k e (suc n) runs h.1)
+numbers_entry k e n (r ∷ runs) h = numbers_of n r (record r { entries = insert_by_position e r.entries }) runs (with_entry k e runs) (r.number == k) h.0 h.0 h.1 (numbers_entry k e (suc n) runs h.1)
 
 pub numbers_finish : (k n : ℕ) (runs : List Run) → AreNumbered n runs → AreNumbered n (finish k runs)
 numbers_finish k n [] h = tt

@@ -1,5 +1,5 @@
 -- The result of the query for the properties of an entry.
-use Rattle.kt_store.proofs.Common.{AllByRecursion, AreNumbered, AreRuns, Binary, Bool, Entry, IsAscending, IsPermutation, IsStore, Less, List, None, Option, Output, Row, Run, Shown, Some, State, Variable, [], all-append, all_weaker, ap, append-nil, ap₂, arith, ascending, ascending-map, binary, col, drop, entries_of, entry_at, false, filter, filter-append, filter_all, filter_none, find, flat_map, from_truth, is_true, list_all, holds, map, map-map, nat_tests, option_to_list, output, output_cmp, pair_columns, pair_row, pair_rows, pair_rows_from, pairs_of, pairs_text, prop_rows, reads_as, refl, run_at, schema_2, subst, suc, true, ℕ, ◌&&◌, ◌++◌, ◌<◌, ◌==◌, ◌∙◌, ◌∷◌, ◌≡◌, ◌≢◌, ◌≤◌}
+use Rattle.kt_store.proofs.Common.{AllByRecursion, AreNumbered, AreValidRuns, Binary, Bool, Entry, IsAscending, IsPermutation, IsSettledWithRuns, Less, List, None, Option, Output, Row, Run, Shown, Some, State, Variable, [], all-append, all_weaker, ap, append-nil, ap₂, arith, ascending, ascending-map, binary, col, drop, entries_of, entry_at, false, filter, filter-append, filter_all, filter_none, find, flat_map, from_truth, is_true, list_all, holds, map, map-map, nat_tests, option_to_list, output, output_cmp, pair_columns, pair_row, pair_rows, pair_rows_from, pairs_of, select_props_sql, prop_rows, reads_as, refl, run_at, schema_2, subst, suc, true, ℕ, ◌&&◌, ◌++◌, ◌<◌, ◌==◌, ◌∙◌, ◌∷◌, ◌≡◌, ◌≢◌, ◌≤◌}
 use Rattle.kt_store.proofs.SqlFacts.{pairs_select_is, pairs_query}
 use Rattle.kt_store.proofs.QueryLemmas.{answered_sorted}
 use Rattle.kt_store.proofs.EntryLemmas.{back, of_stored, of_one, and_true, truth}
@@ -62,7 +62,7 @@ one_entry n p (e ∷ es) up = by (one_entry n p es up.1) (has p e) refl
 
 -- a filter on run and position over the rows of all properties keeps those of this run's entry at
 -- this position
-pub of_entry : (test : Row → Bool) (n p : ℕ) (runs : List Run) → AreRuns runs → ((m q k : ℕ) (v : Variable) → test (pair_row m q k v) ≡ (m == n) && (q == p))
+pub of_entry : (test : Row → Bool) (n p : ℕ) (runs : List Run) → AreValidRuns runs → ((m q k : ℕ) (v : Variable) → test (pair_row m q k v) ≡ (m == n) && (q == p))
     → filter test (prop_rows runs) ≡ pair_rows_from n p 0 (pairs_of (entry_at (run_at runs n) p))
 of_entry test n p runs valid each =
     of_pairs test n (λ q. q == p) runs each valid.numbered ∙ one_entry n p (entries_of (run_at runs n)) (up_of runs n valid) ∙ ap (pair_rows_from n p 0) (found (run_at runs n))
@@ -114,12 +114,12 @@ module _ (n p : ℕ) where
   lower_places : (k j : ℕ) (v w : Variable) → k < j → lower (shows (pair_row n p k v)) (shows (pair_row n p j w))
   lower_places k j v w h = rw (below k j h) refl
 
-pub tells_pairs : (old new : State) (runs : List Run) (n p : ℕ) (rows : List Row) → IsStore old runs → Shown pairs_text (there_params n p) old new rows → rows ≡ map pair_columns (pairs_of (entry_at (run_at runs n) p))
+pub tells_pairs : (old new : State) (runs : List Run) (n p : ℕ) (rows : List Row) → IsSettledWithRuns old runs → Shown select_props_sql (there_params n p) old new rows → rows ≡ map pair_columns (pairs_of (entry_at (run_at runs n) p))
 tells_pairs old new runs n p rows has h =
     let params = there_params n p in
     let vs = pairs_of (entry_at (run_at runs n) p) in
     let mine = pair_rows_from n p 0 vs in
-    let reads = reads_as pairs_text params old new schema_2 has.tables.schema _ pairs_select_is.0 pairs_select_is.2 pairs_select_is.1 rows h in
+    let reads = reads_as select_props_sql params old new schema_2 has.tables.schema _ pairs_select_is.0 pairs_select_is.2 pairs_select_is.1 rows h in
     let from = of_stored (old.now.trees 5) (prop_rows runs) has.tables.props_are (passes params) (out params) (same_passes params) (same_out params) in
     let one = of_entry (λ r. passes params (back r)) n p runs has.tables.valid (each_pair n p) in
     let same = subst (λ l. IsPermutation l (map (out params) (filter (passes params) (old.now.trees 5)))) (ap (map (shows n p)) one) from in

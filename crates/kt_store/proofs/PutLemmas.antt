@@ -1,6 +1,6 @@
 -- The effect of the INSERT of `put`, and the rows of entries and properties after an entry is
 -- added.
-use Rattle.kt_store.proofs.Common.{AllByRecursion, AreNumbered, Bool, Chosen, Enforced, Entry, Equal, Greater, HaveNoPairs, IsPermutation, IsPermutation-append_comm, IsPermutation-append_left, IsPermutation-append_right, IsPermutation-cons, IsPermutation-middle, IsPermutation-refl, IsPermutation-trans, Less, List, Ordering, Row, Run, Trees, [], ap, append_assoc, arith, cond, edit_of, entries_table, entry_row, entry_rows, false, flat_map, flat_map_same_on, flat_map_single, insert_at, is_eq, is_taken, length, map, match_ordering, nat_lt, nat_tests, pair_rows, pair_rows_from, prop_rows, put_row, refl, rowid, schema_2, subst, subst₂, suc, sym, taken_by, true, value_cmp, value_rows, with_entry, works, zero, ℕ, ◌++◌, ◌+◌, ◌<◌, ◌==◌, ◌||◌, ◌∙◌, ◌∷◌, ◌≡◌}
+use Rattle.kt_store.proofs.Common.{AllByRecursion, AreNumbered, Bool, Chosen, Enforced, Entry, Equal, Greater, HaveNoPairs, IsPermutation, IsPermutation-append_comm, IsPermutation-append_left, IsPermutation-append_right, IsPermutation-cons, IsPermutation-middle, IsPermutation-refl, IsPermutation-trans, Less, List, Ordering, Row, Run, Trees, [], ap, append_assoc, arith, cond, edit_of, entries_table, entry_row, entry_rows, false, flat_map, flat_map_same_on, flat_map_single, insert_by_position, is_eq, is_taken, length, map, match_ordering, nat_lt, nat_tests, pair_rows, pair_rows_from, prop_rows, put_row, refl, rowid, schema_2, subst, subst₂, suc, sym, taken_by, true, value_cmp, value_rows, with_entry, works, zero, ℕ, ◌++◌, ◌+◌, ◌<◌, ◌==◌, ◌||◌, ◌∙◌, ◌∷◌, ◌≡◌}
 use Rattle.kt_store.proofs.SqlFacts.{put_terms}
 
 -- a row with a new rowid is added to the others
@@ -29,12 +29,12 @@ swap_blocks a b c = subst₂ IsPermutation (append_assoc a b c) (append_assoc b 
 module _ (of : ℕ → Entry → List Row) where
   -- the rows of a new entry and of a run's entries are those of the entries with the new one
   -- inserted, in some order
-  inserted : (run : ℕ) (e : Entry) (es : List Entry) → IsPermutation (of run e ++ flat_map (of run) es) (flat_map (of run) (insert_at e es))
+  inserted : (run : ℕ) (e : Entry) (es : List Entry) → IsPermutation (of run e ++ flat_map (of run) es) (flat_map (of run) (insert_by_position e es))
   inserted run e [] = IsPermutation-refl _
   inserted run e (x ∷ es) = go (nat_lt e.position x.position) (inserted run e es)
     where
-      go : (b : Bool) → IsPermutation (of run e ++ flat_map (of run) es) (flat_map (of run) (insert_at e es))
-          → IsPermutation (of run e ++ (of run x ++ flat_map (of run) es)) (flat_map (of run) (cond b (e ∷ x ∷ es) (x ∷ insert_at e es)))
+      go : (b : Bool) → IsPermutation (of run e ++ flat_map (of run) es) (flat_map (of run) (insert_by_position e es))
+          → IsPermutation (of run e ++ (of run x ++ flat_map (of run) es)) (flat_map (of run) (cond b (e ∷ x ∷ es) (x ∷ insert_by_position e es)))
       go true more = IsPermutation-refl _
       go false more = IsPermutation-trans _ _ _ (swap_blocks (of run e) (of run x) (flat_map (of run) es)) (IsPermutation-append_right (of run x) _ _ more)
 
@@ -46,9 +46,9 @@ module _ (of : ℕ → Entry → List Row) where
   more from zero e (r ∷ runs) h low =
       let same : (r.number == from + 0) ≡ true = grind (arith, nat_tests, h.0) in
       let number : from + 0 ≡ r.number = omega (arith, h.0) in
-      rw same (subst (λ n. IsPermutation (of n e ++ flat_map rows_of (r ∷ runs)) (flat_map (of r.number) (insert_at e r.entries) ++ flat_map rows_of runs)) (sym number)
-      (subst (λ l. IsPermutation l (flat_map (of r.number) (insert_at e r.entries) ++ flat_map rows_of runs)) (append_assoc (of r.number e) (rows_of r) (flat_map rows_of runs))
-      (IsPermutation-append_left (flat_map rows_of runs) (of r.number e ++ rows_of r) (flat_map (of r.number) (insert_at e r.entries)) (inserted r.number e r.entries))))
+      rw same (subst (λ n. IsPermutation (of n e ++ flat_map rows_of (r ∷ runs)) (flat_map (of r.number) (insert_by_position e r.entries) ++ flat_map rows_of runs)) (sym number)
+      (subst (λ l. IsPermutation l (flat_map (of r.number) (insert_by_position e r.entries) ++ flat_map rows_of runs)) (append_assoc (of r.number e) (rows_of r) (flat_map rows_of runs))
+      (IsPermutation-append_left (flat_map rows_of runs) (of r.number e ++ rows_of r) (flat_map (of r.number) (insert_by_position e r.entries)) (inserted r.number e r.entries))))
   more from (suc k) e (r ∷ runs) h low =
       let apart : (r.number == from + suc k) ≡ false = grind (arith, nat_tests, h.0) in
       let place : suc from + k ≡ from + suc k = omega arith in

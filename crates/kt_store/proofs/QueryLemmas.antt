@@ -38,9 +38,9 @@ module _ (t : ℕ) (tests project : List Term) (order : List (Term × Key)) (db 
   abbrev pub outputs : List Row → List Output
   outputs rows = map (λ r. output q (params ∷ r ∷ [])) rows
 
-  module _ (rows : List Row) (sure : IsSureAnswer q (overlay db []) params rows) where
+  module _ (rows : List Row) (ensure_sound : IsSureAnswer q (overlay db []) params rows) where
     abbrev a : IsAnswerAs Null q (overlay db []) params rows
-    a = sure Null
+    a = ensure_sound Null
 
     kept : a.kept ≡ outputs picked
     kept = a.distinct ∙ ap (map (output q)) (a.grouped ∙ ap (flat_map (λ r. matches_as Null (overlay db []) tests end (params ∷ r ∷ []))) (overlay_none db t) ∙ found (db t)) ∙ map-map _ _ picked

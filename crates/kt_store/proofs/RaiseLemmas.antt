@@ -1,5 +1,5 @@
 -- The effect of the statements that migrate schema 1 to schema 2.
-use Rattle.kt_store.proofs.Common.{AllByRecursion, Applies, AtPlace, Bool, Database, Does, Enforced, Equal, Executes, Ghosts, Given, Greater, Held, Int, Integer, IsDatabase, IsPermutation, IsPermutation-refl, IsTrue, Less, List, Mode, None, Null, Ok, IsSchema1Database, OnRows, Option, Ordering, Program, Row, Run, ExecutesInOrder, State, Tables, Tally, Task, Term, Text, Trees, Unique, Update, Value, [], agree, and_parts, ap, are_fresh, arith, begun, binary, cast, clashes, codes, col, cond, create_props, differ, drop, edit_of, entry_rows, false, filter, first_key, has_rowid, have_rowids, id_in, ids_of, int_is, ints, is_eq, is_int, is_null, lit, map, match_ordering, meta_1, mode_of, not, one_permutation, one_step, or_left, or_right, passes, plain, pos, prop_rows, props, put_all, raise_statements, raise_text, refl, runs_as, schema_1, schema_2, slice_get, state, statement_of, subst, sym, taken_by, true, understood, value_cmp, value_cmp-Int, without_rowid, works, ℕ, ◌&&◌, ◌||◌, ◌∙◌, ◌∷◌, ◌≡◌}
+use Rattle.kt_store.proofs.Common.{AllByRecursion, Applies, AtPlace, Bool, Database, Does, Enforced, Equal, Executes, Ghosts, Given, Greater, Held, Int, Integer, IsDatabase, IsPermutation, IsPermutation-refl, IsTrue, Less, List, Mode, None, Null, Ok, IsSchema1Database, OnRows, Option, Ordering, Program, Row, Run, ExecutesInOrder, State, Tables, Tally, Task, Term, Text, Trees, Unique, Update, Value, [], agree, and_parts, ap, are_fresh, arith, begun, binary, cast, clashes, codes, col, cond, create_props_sql, differ, drop, edit_of, entry_rows, false, filter, first_key, has_rowid, have_rowids, id_in, ids_of, int_is, ints, is_eq, is_int, is_null, lit, map, match_ordering, meta_table, mode_of, not, one_permutation, one_step, or_left, or_right, passes, plain, pos, prop_rows, props, put_all, migration_statements, update_schema_sql, refl, runs_as, schema_1, schema_2, slice_get, state, statement_of, subst, sym, taken_by, true, understood, value_cmp, value_cmp-Int, without_rowid, works, ℕ, ◌&&◌, ◌||◌, ◌∙◌, ◌∷◌, ◌≡◌}
 use Rattle.kt_store.proofs.Values.{cast_null, cast_int, went}
 use Rattle.sqlite_rules.specs.Action.{Writes}
 use Rattle.sqlite.specs.State as told
@@ -34,20 +34,20 @@ refuted true rest h is = let e : false ≡ true = h in cc
 refuted false rest h is = cc
 
 abbrev IsUnique : Trees → Type 0
-IsUnique db = AllByRecursion (λ row. passes Unique schema_2 db meta_1 row ≡ true) (db 0)
+IsUnique db = AllByRecursion (λ row. passes Unique schema_2 db meta_table row ≡ true) (db 0)
 
 -- the names of the rows of `meta` are unique, so `meta` never has both the row of schema number 1
 -- and that of 2
 module _ (db : Trees) (x y : Value) (unique : IsUnique db) (one : is_null x ≡ false) (two : is_null y ≡ false) where
   never_before : value_cmp x y ≡ Less → ¬ (db 0 ≡ number_row x ∷ next_row y ∷ [])
   never_before cmp is =
-      let rows = subst (AllByRecursion (λ row. passes Unique schema_2 db meta_1 row ≡ true)) is unique in
+      let rows = subst (AllByRecursion (λ row. passes Unique schema_2 db meta_table row ≡ true)) is unique in
       let clash : clashes plain (1 ∷ []) (db 0) (next_row y) ≡ true = ap (λ l. clashes plain (1 ∷ []) l (next_row y)) is ∙ rw (same_name x y, differs x y Less one two cmp refl) refl in
       refuted (clashes plain (1 ∷ []) (db 0) (next_row y)) _ rows.1.0 clash
 
   never_behind : value_cmp x y ≡ Greater → ¬ (db 0 ≡ next_row y ∷ number_row x ∷ [])
   never_behind cmp is =
-      let rows = subst (AllByRecursion (λ row. passes Unique schema_2 db meta_1 row ≡ true)) is unique in
+      let rows = subst (AllByRecursion (λ row. passes Unique schema_2 db meta_table row ≡ true)) is unique in
       let clash : clashes plain (1 ∷ []) (db 0) (next_row y) ≡ true = ap (λ l. clashes plain (1 ∷ []) l (next_row y)) is ∙ or_right _ _ (or_left _ false (rw (same_name x y, differs x y Greater one two cmp refl) refl)) in
       refuted (clashes plain (1 ∷ []) (db 0) (next_row y)) _ rows.0 clash
 
@@ -81,7 +81,7 @@ raise_program = record { lets = []; body = raise_query }
 abbrev raised_row : Value → Row
 raised_row x = x ∷ x ∷ Text (codes "schema") ∷ Int (pos 2) ∷ []
 
-raise_works : (rowid : Value) (trees : Trees) → let edit = edit_of trees meta_1 (ids_of (raised_row rowid ∷ [])) Given 1 (raised_row rowid ∷ []) in works schema_2 Enforced 0 edit.table.tree (taken_by trees edit) edit.news ≡ []
+raise_works : (rowid : Value) (trees : Trees) → let edit = edit_of trees meta_table (ids_of (raised_row rowid ∷ [])) Given 1 (raised_row rowid ∷ []) in works schema_2 Enforced 0 edit.table.tree (taken_by trees edit) edit.news ≡ []
 raise_works rowid trees = refl
 
 abbrev project : List Term
@@ -89,29 +89,29 @@ project = col 1 0 ∷ col 1 0 ∷ col 1 1 ∷ lit (Int (pos 2)) ∷ []
 
 module _ (rowid : Value) (db after : Database) (has : db.schema ≡ schema_2) (marked : db.trees 0 ≡ number_row rowid ∷ []) where
   abbrev Raises : Type 0
-  Raises = Applies schema_2 Enforced db.trees (edit_of db.trees meta_1 (ids_of (raised_row rowid ∷ [])) Given 1 (raised_row rowid ∷ [])) after.trees
+  Raises = Applies schema_2 Enforced db.trees (edit_of db.trees meta_table (ids_of (raised_row rowid ∷ [])) Given 1 (raised_row rowid ∷ [])) after.trees
 
   raise_writes : (limit : Option ℕ) (mode : Mode) (text : List ℕ) (tally : Tally) → mode.keys ≡ Enforced → Does limit mode [] db text None (Update 0 raise_program) (Ok (tally, after))
       → (after.schema ≡ schema_2) × Raises
   raise_writes limit mode text tally enforced does =
       let params : Row = [] in
       let on_table = subst (λ x. AtPlace (λ t. OnRows (record { limit = limit; keys = mode.keys; schema = x; table = t; params = params }) mode None (Update 0 raise_program) db.trees) (slice_get x.tables 0) (Ok (tally, after))) has does in
-      let task : Task = record { limit = limit; keys = Enforced; schema = schema_2; table = meta_1; params = params } in
+      let task : Task = record { limit = limit; keys = Enforced; schema = schema_2; table = meta_table; params = params } in
       let rows : OnRows task mode None (Update 0 raise_program) db.trees (Ok (tally, after)) =
-      subst (λ k. OnRows (record { limit = limit; keys = k; schema = schema_2; table = meta_1; params = params }) mode None (Update 0 raise_program) db.trees (Ok (tally, after))) enforced on_table in
+      subst (λ k. OnRows (record { limit = limit; keys = k; schema = schema_2; table = meta_table; params = params }) mode None (Update 0 raise_program) db.trees (Ok (tally, after))) enforced on_table in
       let done = went rows in
       let ends = concluded task mode done.0 tally after done.2 in
       let wrote = updates task raise_program params db.trees done.0 done.1 in
       let all = answered 0 tests project [] db.trees params wrote.0 wrote.1.answer in
       let found : picked 0 tests project [] db.trees params ≡ number_row rowid ∷ [] = ap (filter _) marked ∙ rw (passes_it (pos 1) rowid) refl in
       let one : wrote.0 ≡ raised_row rowid ∷ [] = one_permutation (raised_row rowid) wrote.0 (subst (λ l. IsPermutation (map (show 0 tests project [] db.trees params) l) wrote.0) found all) in
-      let edit : Writes schema_2 Enforced db.trees (edit_of db.trees meta_1 (ids_of (raised_row rowid ∷ [])) Given 1 (raised_row rowid ∷ [])) (Ok done.0.trees) =
-      subst (λ l. Writes schema_2 Enforced db.trees (edit_of db.trees meta_1 (ids_of l) Given 1 l) (Ok done.0.trees)) one wrote.2 in
+      let edit : Writes schema_2 Enforced db.trees (edit_of db.trees meta_table (ids_of (raised_row rowid ∷ [])) Given 1 (raised_row rowid ∷ [])) (Ok done.0.trees) =
+      subst (λ l. Writes schema_2 Enforced db.trees (edit_of db.trees meta_table (ids_of l) Given 1 l) (Ok done.0.trees)) one wrote.2 in
       (ap (λ (d : Database). d.schema) ends.1, subst (Applies schema_2 Enforced db.trees _) (sym (ap (λ (d : Database). d.trees) ends.1)) (one_step schema_2 Enforced db.trees done.0.trees _ (raise_works rowid db.trees) edit))
 
   raised_rows : Raises → map (drop 1) (after.trees 0) ≡ (Text (codes "schema") ∷ Int (pos 2) ∷ []) ∷ []
   raised_rows did =
-      let news : (edit_of db.trees meta_1 (ids_of (raised_row rowid ∷ [])) Given 1 (raised_row rowid ∷ [])).news ≡ next_row (cast Integer rowid) ∷ [] = rw (cast_int (pos 2)) refl in
+      let news : (edit_of db.trees meta_table (ids_of (raised_row rowid ∷ [])) Given 1 (raised_row rowid ∷ [])).news ≡ next_row (cast Integer rowid) ∷ [] = rw (cast_int (pos 2)) refl in
       let left : without_rowid (id_in rowid) (db.trees 0) ≡ without_rowid (id_in rowid) (number_row rowid ∷ []) = ap (without_rowid (id_in rowid)) marked in
       alone after.trees rowid (has_rowid (id_in rowid) (number_row rowid)) refl (did.fits.rules Unique (λ e. cc)).0
       (subst (λ l. have_rowids l ≡ true) news did.keyed)
@@ -123,11 +123,11 @@ no_rows = []
 
 -- the two statements of the migration, executed in order, lead to tables of schema 2 with the same
 -- runs
-pub raised_all : (a b c : State) (i j : ℕ) (runs : List Run) → IsSchema1Database a.now runs → Executes create_props [] a b (Ok i) → Executes raise_text [] b c (Ok j) → Tables c.now runs × IsDatabase c.now
+pub raised_all : (a b c : State) (i j : ℕ) (runs : List Run) → IsSchema1Database a.now runs → Executes create_props_sql [] a b (Ok i) → Executes update_schema_sql [] b c (Ok j) → Tables c.now runs × IsDatabase c.now
 raised_all a b c i j runs has one two =
-    let first = makes schema_1 create_props props props_create a b i has.schema one in
-    let text = statement_of raise_text (understood schema_2 raise_text) in
-    let w : told.Writes b c None (Update 0 raise_program) text [] j = runs_as raise_text [] b c schema_2 first.schema_is (Update 0 raise_program) raise_is.0 raise_is.1 j two in
+    let first = makes schema_1 create_props_sql props props_create a b i has.schema one in
+    let text = statement_of update_schema_sql (understood schema_2 update_schema_sql) in
+    let w : told.Writes b c None (Update 0 raise_program) text [] j = runs_as update_schema_sql [] b c schema_2 first.schema_is (Update 0 raise_program) raise_is.0 raise_is.1 j two in
     let row = one_row (pos 1) (a.now.trees 0) has.marked in
     let marked : b.now.trees 0 ≡ number_row row.0 ∷ [] = first.others.0 ∙ row.1 in
     let did = raise_writes row.0 b.now c.now first.schema_is marked b.step_limit (mode_of b) text w.tally refl w.changed in
@@ -145,7 +145,7 @@ raised_all a b c i j runs has one two =
 
 -- the two statements of the migration, executed in a transaction, lead to tables of schema 2 with
 -- the same runs
-pub raised_in : {S : Type 0} (g : Ghosts S) (old left : Held S) (runs : List Run) → (IsTrue (state g old).is_open → IsSchema1Database (state g old).now runs) → ExecutesInOrder g raise_statements (begun old) left
+pub raised_in : {S : Type 0} (g : Ghosts S) (old left : Held S) (runs : List Run) → (IsTrue (state g old).is_open → IsSchema1Database (state g old).now runs) → ExecutesInOrder g migration_statements (begun old) left
     → Tables (state g left).now runs × IsDatabase (state g left).now
 raised_in g old left runs has ran =
     let two = ran.2 in

@@ -1,5 +1,5 @@
 -- The results of the queries for one run and for all runs.
-use Rattle.kt_store.proofs.Common.{AllByRecursion, AreNumbered, Binary, Bool, Compare, Eq, Ghosts, Held, Int, IsAscending, IsPermutation, IsStore, Less, List, None, Option, Row, Run, Shown, QueriesRuns, Some, State, Term, Trees, [], ap, ap₂, arith, ascending, binary, col, column, eval, false, filter, filter-map, filter_same, flag, flat_map_single, get_or, head_columns, holds, is_eq, is_some, is_true, last_run, length, length_permutation, list_all, map, map-map, nat_lt, nat_tests, nil_from_length, one_permutation, option_map, option_to_list, output, output_cmp, pos, reads_as, refl, rowid, run_at, run_row, run_text, runs_text, schema_2, slice_get, state, subst, suc, sym, take, true, unsigned_abs, value_cmp, zero, ℕ, ◌&&◌, ◌++◌, ◌<◌, ◌∙◌, ◌∷◌, ◌≡◌, ◌≢◌, ◌≤◌}
+use Rattle.kt_store.proofs.Common.{AllByRecursion, AreNumbered, Binary, Bool, Compare, Eq, Ghosts, Held, Int, IsAscending, IsPermutation, IsSettledWithRuns, Less, List, None, Option, Row, Run, Shown, QueriesRuns, Some, State, Term, Trees, [], ap, ap₂, arith, ascending, binary, col, column, eval, false, filter, filter-map, filter_same, flag, flat_map_single, get_or, head_columns, holds, is_eq, is_some, is_true, greatest_run_number, length, length_permutation, list_all, map, map-map, nat_lt, nat_tests, nil_from_length, one_permutation, option_map, option_to_list, output, output_cmp, pos, reads_as, refl, rowid, run_at, run_row, select_run_sql, select_runs_sql, schema_2, slice_get, state, subst, suc, sym, take, true, unsigned_abs, value_cmp, zero, ℕ, ◌&&◌, ◌++◌, ◌<◌, ◌∙◌, ◌∷◌, ◌≡◌, ◌≢◌, ◌≤◌}
 use Rattle.kt_store.proofs.RunsByNumber.{all_above}
 use Rattle.kt_store.proofs.EntryLemmas.{and_true, of_one, truth, all_pass}
 use Rattle.kt_store.proofs.SqlFacts.{is, run_is, runs_select_is, runs_query}
@@ -44,10 +44,10 @@ shown_rows : (trees : Trees) (n : ℕ) (o : Option Run) (rows : List Row)
 shown_rows trees n None rows h = h
 shown_rows trees n (Some r) rows h = h
 
-pub tells_run : {S : Type 0} (g : Ghosts S) (new : Held S) (runs : List Run) (n : ℕ) (rows : List Row) → QueriesRuns g runs run_text (Int (pos n) ∷ []) new rows → rows ≡ map head_row (option_to_list (run_at runs n))
+pub tells_run : {S : Type 0} (g : Ghosts S) (new : Held S) (runs : List Run) (n : ℕ) (rows : List Row) → QueriesRuns g runs select_run_sql (Int (pos n) ∷ []) new rows → rows ≡ map head_row (option_to_list (run_at runs n))
 tells_run g new runs n rows it =
     let params = Int (pos n) ∷ [] in
-    let reads = reads_as run_text params (state g it.mid) (state g new) schema_2 it.stored.tables.schema _ run_is.0 run_is.2 run_is.1 rows it.shown in
+    let reads = reads_as select_run_sql params (state g it.mid) (state g new) schema_2 it.stored.tables.schema _ run_is.0 run_is.2 run_is.1 rows it.shown in
     let tests = is (col 1 0) (col 0 0) ∷ [] in
     let project = col 1 3 ∷ col 1 4 ∷ [] in
     let all = answered 2 tests project [] (state g it.mid).now.trees params rows reads.answer in
@@ -94,8 +94,8 @@ none_past [] k h = omega arith
 none_past (r ∷ runs) zero h = absurd (let e : true ≡ false = h in cc)
 none_past (r ∷ runs) (suc k) h = omega (arith, none_past runs k h)
 
-module _ (runs : List Run) (found : Option (ℕ × ℕ)) (told : found ≡ option_map head (run_at runs last_run)) where
-  pub has_room : is_some found ≡ false → length runs < last_run
+module _ (runs : List Run) (found : Option (ℕ × ℕ)) (told : found ≡ option_map head (run_at runs greatest_run_number)) where
+  pub has_room : is_some found ≡ false → length runs < greatest_run_number
   has_room none = omega (arith, none_past runs 999999 (ap is_some (sym told) ∙ none))
 
 -- ---- the result of the query for all runs
@@ -113,9 +113,9 @@ rises : (from : ℕ) (runs : List Run) → AreNumbered from runs → IsAscending
 rises from [] h = tt
 rises from (r ∷ runs) h = (all_above (lower (run_row r)) r.number (suc from) runs (lower_runs r) h.1 (omega (arith, h.0)), rises (suc from) runs h.1)
 
-pub tells_heads : (old new : State) (runs : List Run) (rows : List Row) → IsStore old runs → Shown runs_text [] old new rows → rows ≡ map head_columns runs
+pub tells_heads : (old new : State) (runs : List Run) (rows : List Row) → IsSettledWithRuns old runs → Shown select_runs_sql [] old new rows → rows ≡ map head_columns runs
 tells_heads old new runs rows has h =
-    let reads = reads_as runs_text [] old new schema_2 has.tables.schema _ runs_select_is.0 runs_select_is.2 runs_select_is.1 rows h in
+    let reads = reads_as select_runs_sql [] old new schema_2 has.tables.schema _ runs_select_is.0 runs_select_is.2 runs_select_is.1 rows h in
     let picked : filter (λ (r : Row). true) (old.now.trees 2) ≡ map run_row runs = all_pass (old.now.trees 2) ∙ has.tables.runs_are in
     answered_in_order 2 [] (col 1 0 ∷ col 1 2 ∷ col 1 3 ∷ col 1 4 ∷ []) ((col 1 0, ascending Binary) ∷ []) old.now.trees [] rows reads.answer
     (subst (IsAscending lower) (sym picked) (rises 1 runs has.tables.valid.numbered))

@@ -1,5 +1,5 @@
 -- Runs that are found and changed by number.
-use Rattle.kt_store.proofs.Common.{AllByRecursion, AreNumbered, AreRuns, Bool, Entry, IsRun, List, None, Option, Row, Run, RunHead, Some, [], all-slice_get, ap, arith, cond, false, find, finish, head_at, head_of, insert_at, length, length-map, map, nat_tests, option_map, refl, run_at, run_row, slice_get, subst, suc, sym, true, unwrap_or, with_entry, zero, ℕ, ◌+◌, ◌<◌, ◌==◌, ◌∙◌, ◌∷◌, ◌≡◌}
+use Rattle.kt_store.proofs.Common.{AllByRecursion, AreNumbered, AreValidRuns, Bool, Entry, IsValidRun, List, None, Option, Row, Run, RunHead, Some, [], all-slice_get, ap, arith, cond, false, find, finish, head_at, head_of, insert_by_position, length, length-map, map, nat_tests, option_map, refl, run_at, run_row, slice_get, subst, suc, sym, true, unwrap_or, with_entry, zero, ℕ, ◌+◌, ◌<◌, ◌==◌, ◌∙◌, ◌∷◌, ◌≡◌}
 
 pub number_at : (from k : ℕ) (runs : List Run) (r : Run) → AreNumbered from runs → slice_get runs k ≡ Some r → r.number ≡ from + k
 number_at from k [] r h there = absurd cc
@@ -12,9 +12,9 @@ pub all_above : (P : Row → Type 0) (n from : ℕ) (runs : List Run) → ((r : 
 all_above P n from [] each h low = tt
 all_above P n from (r ∷ runs) each h low = (each r (omega (arith, h.0, low)), all_above P n (suc from) runs each h.1 (omega (arith, low)))
 
-pub run_of : (run : ℕ) (runs : List Run) (r : Run) → AreRuns runs → run_at runs run ≡ Some r → IsRun r
+pub run_of : (run : ℕ) (runs : List Run) (r : Run) → AreValidRuns runs → run_at runs run ≡ Some r → IsValidRun r
 run_of zero runs r valid there = absurd cc
-run_of (suc k) runs r valid there = all-slice_get IsRun runs k r there valid.each
+run_of (suc k) runs r valid there = all-slice_get IsValidRun runs k r there valid.each
 
 -- no run has a number below that of the first run
 none_before : (n from : ℕ) (runs : List Run) → AreNumbered from runs → n < from → find (λ (r : Run). r.number == n) runs ≡ None
@@ -77,15 +77,15 @@ module _ (n : ℕ) (f : Run → Run) (changed : List Run → List Run) (nil : ch
       subst (AllByRecursion P) (sym (cons x runs)) (rw apart (all.0, each P (suc from) k runs r (omega (arith, is)) h.1 all.1 there new))
 
 module _ {X : Type 0} (F : List Run → X) (G : Run → X → X) (is : (r : Run) (rs : List Run) → F (r ∷ rs) ≡ G r (F rs)) where
-  pub entry_unseen : (run : ℕ) (e : Entry) → ((r : Run) (x : X) → G (record r { entries = insert_at e r.entries }) x ≡ G r x) → (runs : List Run) → F (with_entry run e runs) ≡ F runs
-  entry_unseen run e = unseen run (λ (r : Run). record r { entries = insert_at e r.entries }) (with_entry run e) refl (λ r rs. refl) F G is
+  pub entry_unseen : (run : ℕ) (e : Entry) → ((r : Run) (x : X) → G (record r { entries = insert_by_position e r.entries }) x ≡ G r x) → (runs : List Run) → F (with_entry run e runs) ≡ F runs
+  entry_unseen run e = unseen run (λ (r : Run). record r { entries = insert_by_position e r.entries }) (with_entry run e) refl (λ r rs. refl) F G is
 
   pub finish_unseen : (run : ℕ) → ((r : Run) (x : X) → G (record r { finished = true }) x ≡ G r x) → (runs : List Run) → F (finish run runs) ≡ F runs
   finish_unseen run = unseen run (λ (r : Run). record r { finished = true }) (finish run) refl (λ r rs. refl) F G is
 
 module _ (P : Run → Type 0) (k : ℕ) (runs : List Run) (r : Run) (h : AreNumbered 1 runs) (all : AllByRecursion P runs) (there : slice_get runs k ≡ Some r) where
-  pub entry_each : (e : Entry) → P (record r { entries = insert_at e r.entries }) → AllByRecursion P (with_entry (suc k) e runs)
-  entry_each e = each (suc k) (λ (x : Run). record x { entries = insert_at e x.entries }) (with_entry (suc k) e) refl (λ r rs. refl) P 1 k runs r (omega arith) h all there
+  pub entry_each : (e : Entry) → P (record r { entries = insert_by_position e r.entries }) → AllByRecursion P (with_entry (suc k) e runs)
+  entry_each e = each (suc k) (λ (x : Run). record x { entries = insert_by_position e x.entries }) (with_entry (suc k) e) refl (λ r rs. refl) P 1 k runs r (omega arith) h all there
 
   pub finish_each : P (record r { finished = true }) → AllByRecursion P (finish (suc k) runs)
   finish_each = each (suc k) (λ (x : Run). record x { finished = true }) (finish (suc k)) refl (λ r rs. refl) P 1 k runs r (omega arith) h all there

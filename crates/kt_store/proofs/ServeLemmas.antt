@@ -1,10 +1,10 @@
 -- The calls of a store over the tables of a database obey `Serves`, also for crashes.
-use Rattle.kt_store.proofs.Common.{Agrees, Began, Changes, Entry, Err, Finished, Ghosts, HasCleanDisk, Held, IfErr, IfOk, IsErrAnd, IsStoreFault, Keeps, IsSchema2OfOne, KeepsRuns, Leaves, List, OnlyReadsRuns, MayChange, Ok, OnErr, OnOk, SurvivesCrash, Put, Reads, Result, Run, Serves, StandsFor, State, StoreCall, StoreFault, Survives, Trees, [], arith, runs_after, finish, inl, inr, new_run, refl, results, state, subst, survives_then, survives_weaker, sym, with_entry, ℕ, ◌++◌, ◌∷◌, ◌≡◌}
+use Rattle.kt_store.proofs.Common.{Agrees, Began, Changes, Entry, Err, Finished, Ghosts, HasCleanDisk, Held, IfErr, IfOk, IsErrAnd, IsDatabaseFault, IsSchema2Of, IsSchema2OfOne, KeepsRuns, Leaves, List, OnlyReadsRuns, MayChange, Ok, OnErr, OnOk, SurvivesCrash, Put, Reads, Result, Run, Serves, StandsFor, State, StoreCall, StoreFault, Survives, Trees, [], arith, runs_after, finish, inl, inr, new_run, refl, results, state, subst, survives_then, survives_weaker, sym, with_entry, ℕ, ◌++◌, ◌∷◌, ◌≡◌}
 use Rattle.kt_store.proofs.AskLemmas.{was_clean}
 use Rattle.kt_store.proofs.Numbered.{numbers_changed, ordered_changed}
 
 -- a call that may commit `change` adds `change` to the runs that a crash may leave
-pub survived : (old new : State) (change runs : List Run) (may : List (List Run)) → Survives old new (Keeps change) → Leaves old (IsSchema2OfOne (runs ∷ may)) → Leaves new (IsSchema2OfOne (runs ∷ change ∷ may))
+pub survived : (old new : State) (change runs : List Run) (may : List (List Run)) → Survives old new (IsSchema2Of change) → Leaves old (IsSchema2OfOne (runs ∷ may)) → Leaves new (IsSchema2OfOne (runs ∷ change ∷ may))
 survived old new change runs may s l clean trees h = elim (s.crash clean trees h) [
   | inl m ↦ elim (l (omega (arith, clean, s.clean)) trees m) [ inl k ↦ inl k | inr k ↦ inr (inr k) ]
   | inr k ↦ inr (inl k)
@@ -15,7 +15,7 @@ survived old new change runs may s l clean trees h = elim (s.crash clean trees h
 pub record IsWrite {R : Type 0} (LeavesOne : R → List (List Run) → Type 0) {T : Type 0} (call : Result T StoreFault → StoreCall) (change : List Run → List Run) : Type 0 where
   pub done : (x : T) (runs : List Run) → runs_after (call (Ok x)) runs ≡ change runs
   pub refused : (e : StoreFault) (runs : List Run) → runs_after (call (Err e)) runs ≡ runs
-  pub fails : (e : StoreFault) (runs : List Run) → IsStoreFault e → Agrees runs (call (Err e))
+  pub fails : (e : StoreFault) (runs : List Run) → IsDatabaseFault e → Agrees runs (call (Err e))
   pub lasts : (x : T) (runs : List Run) (may : List (List Run)) (old new : R) → LeavesOne new (change runs ∷ []) → SurvivesCrash LeavesOne (call (Ok x)) runs may old new
   pub survives : (e : StoreFault) (runs : List Run) (may : List (List Run)) (old new : R) → (LeavesOne old (runs ∷ may) → LeavesOne new (runs ∷ change runs ∷ may)) → SurvivesCrash LeavesOne (call (Err e)) runs may old new
 
@@ -91,7 +91,7 @@ module _ {S : Type 0} (g : Ghosts S) (old new : Held S) (looked : OnlyReadsRuns 
 
   unwritten : (change runs : List Run) (may : List (List Run)) → StandsFor (state g old) runs → Leaves (state g old) (IsSchema2OfOne (runs ∷ may)) → Leaves (state g new) (IsSchema2OfOne (runs ∷ change ∷ may))
   unwritten change runs may has left =
-      survived (state g old) (state g new) change runs may (survives_weaker (state g old) (state g new) (λ _. ⊥) (Keeps change) (λ _ db none. absurd none) (looked.crash runs has)) left
+      survived (state g old) (state g new) change runs may (survives_weaker (state g old) (state g new) (λ _. ⊥) (IsSchema2Of change) (λ _ db none. absurd none) (looked.crash runs has)) left
 
 module _ {S : Type 0} (g : Ghosts S) {T : Type 0} (call : Result T StoreFault → StoreCall) (change : List Run → List Run) (is : IsWrite (results g).leaves call change) where
   -- a call that fails before it writes obeys `Serves`
@@ -102,7 +102,7 @@ module _ {S : Type 0} (g : Ghosts S) {T : Type 0} (call : Result T StoreFault �
 
   -- a call whose first step reads, and whose second step writes
   module _ (old mid new : Held S) (looked : OnlyReadsRuns g old mid) (Allowed : List Run → Type 0) (allowed : (runs : List Run) → StandsFor (state g old) runs → HasCleanDisk (state g mid) → Allowed runs) (may_change : MayChange g mid new Allowed change) where
-    second : (runs : List Run) → StandsFor (state g old) runs → Survives (state g mid) (state g new) (Keeps (change runs))
+    second : (runs : List Run) → StandsFor (state g old) runs → Survives (state g mid) (state g new) (IsSchema2Of (change runs))
     second runs has = may_change runs (looked.stands runs has) (allowed runs has)
 
     mid_clean : (runs : List Run) → StandsFor (state g old) runs → HasCleanDisk (state g new) → HasCleanDisk (state g mid)
@@ -114,10 +114,10 @@ module _ {S : Type 0} (g : Ghosts S) {T : Type 0} (call : Result T StoreFault �
     written : (runs : List Run) (may : List (List Run)) → StandsFor (state g old) runs → Leaves (state g old) (IsSchema2OfOne (runs ∷ may)) → Leaves (state g new) (IsSchema2OfOne (runs ∷ change runs ∷ may))
     written runs may has left =
         survived (state g old) (state g new) (change runs) runs may
-        (survives_then (state g old) (state g mid) (state g new) (λ _. ⊥) (Keeps (change runs)) (Keeps (change runs)) (λ _ db none. absurd none) (λ _ db it. it) (looked.crash runs has) (second runs has)) left
+        (survives_then (state g old) (state g mid) (state g new) (λ _. ⊥) (IsSchema2Of (change runs)) (IsSchema2Of (change runs)) (λ _ db none. absurd none) (λ _ db it. it) (looked.crash runs has) (second runs has)) left
 
     pub write_called : (r : Result T StoreFault) → OnOk r (Changes g mid new Allowed change)
-        → ((runs : List Run) → StandsFor (state g old) runs → HasCleanDisk (state g mid) → HasCleanDisk (state g new) → IfOk r (λ x. Agrees runs (call (Ok x)))) → IfErr r IsStoreFault → OnErr r (KeepsRuns g mid new) → Serves (results g) (call r) old new
+        → ((runs : List Run) → StandsFor (state g old) runs → HasCleanDisk (state g mid) → HasCleanDisk (state g new) → IfOk r (λ x. Agrees runs (call (Ok x)))) → IfErr r IsDatabaseFault → OnErr r (KeepsRuns g mid new) → Serves (results g) (call r) old new
     write_called (Ok x) changes agrees failed kept =
         serves g (call (Ok x)) old new (λ runs has. subst (StandsFor (state g new)) (sym (is.done x runs)) (changes.stands runs (looked.stands runs has) (allowed runs has))) old_clean
         (λ runs has clean. agrees runs has (mid_clean runs has clean) clean)

@@ -1,5 +1,5 @@
 -- The state of a connection after a statement, if its tables represented runs before.
-use Rattle.kt_store.proofs.Common.{Command, CommitsBy, Compiled, Database, Err, Error, FailsToQuery, FailsToShow, Ghosts, HasCleanDisk, Held, IsSettledWhileOpen, IsDatabase, IsLive, IsNotRun, IsPlain, IsRolledBack, IsSettled, IsStore, IsTrue, IsUnchanged, IsUndone, Keeps, IsAnySchemaOf, IsSchema1Of, Leaves, List, None, Option, IsUnchangedOrRolledBack, Row, Run, RunsCommand, Schema, Some, State, Survives, Tables, Trees, ap, append-nil, arith, command_of, inl, inr, state, statement_of, subst, subst₂, survives_then, sym, unchanged_then, understood, ℕ, ◌∙◌, ◌≡◌}
+use Rattle.kt_store.proofs.Common.{Command, CommitsBy, Compiled, Database, Err, Error, FailsToQuery, FailsToShow, Ghosts, HasCleanDisk, Held, IsSettledWhileOpen, IsDatabase, IsLive, IsNotRun, IsPlain, IsRolledBack, IsSettled, IsSettledWithRuns, IsTrue, IsUnchanged, IsUndone, IsSchema2Of, IsAnySchemaOf, IsSchema1Of, Leaves, List, None, Option, IsUnchangedOrRolledBack, Row, Run, RunsCommand, Schema, Some, State, Survives, Tables, Trees, ap, append-nil, arith, command_of, inl, inr, state, statement_of, subst, subst₂, survives_then, sym, unchanged_then, understood, ℕ, ◌∙◌, ◌≡◌}
 use Rattle.sqlite_schema.specs.declared.command.Returning.{Returning}
 use Rattle.sqlite.specs.State.{MayCommit}
 
@@ -48,7 +48,7 @@ module _ (P : Database → Type 0) (old new : State) where
     | inr undone ↦ undone_settled (has (earlier clean) (undone.was_open opened)) (rolled_back old new undone) opened
   ]
 
-pub same_store : (old new : State) (runs : List Run) → IsStore old runs → IsUnchanged old new → IsStore new runs
+pub same_store : (old new : State) (runs : List Run) → IsSettledWithRuns old runs → IsUnchanged old new → IsSettledWithRuns new runs
 same_store old new runs has same = same_settled (λ db. Tables db runs) old new has same
 
 module _ (sql : List ℕ) (params : Row) (old : State) (schema : Schema) (has : old.now.schema ≡ schema) (command : Command) (is : command_of (understood schema sql) ≡ command)
@@ -82,7 +82,7 @@ outlives old new P it left clean trees may = elim (it.crash clean trees may) [
 ]
 
 -- during a migration, a crash leaves the runs in schema 1 or 2
-pub either_left : (old new : State) (runs : List Run) → Survives old new (Keeps runs) → Leaves old (IsSchema1Of runs) → Leaves new (IsAnySchemaOf runs)
+pub either_left : (old new : State) (runs : List Run) → Survives old new (IsSchema2Of runs) → Leaves old (IsSchema1Of runs) → Leaves new (IsAnySchemaOf runs)
 either_left old new runs it left clean trees may = elim (it.crash clean trees may) [
   | inl earlier ↦ inl (left (omega (arith, clean, it.clean)) trees earlier)
   | inr made ↦ inr made

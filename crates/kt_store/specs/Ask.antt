@@ -13,13 +13,13 @@ abbrev pub IsNoMemory : StoreFault → Type 0
 IsNoMemory (NoMemory refusal) = ⊤
 IsNoMemory _ = ⊥
 
--- `IsStoreFault fault`: `fault` reports that memory ran out or that the database failed
-abbrev pub IsStoreFault : StoreFault → Type 0
-IsStoreFault (NoMemory refusal) = ⊤
-IsStoreFault (Store statement) = ⊤
-IsStoreFault _ = ⊥
+-- `IsDatabaseFault fault`: `fault` reports that memory ran out or that the database failed
+abbrev pub IsDatabaseFault : StoreFault → Type 0
+IsDatabaseFault (NoMemory refusal) = ⊤
+IsDatabaseFault (Store statement) = ⊤
+IsDatabaseFault _ = ⊥
 
--- `fault_words fault`: the message that a command prints for `fault`, in characters
-abbrev pub fault_words : StoreFault → List ℕ
-fault_words (NoMemory refusal) = codes "out of memory"
-fault_words _ = codes "results store failed"
+-- `fault_message fault`: the message that a command prints for `fault`, in characters
+abbrev pub fault_message : StoreFault → List ℕ
+fault_message (NoMemory refusal) = codes "out of memory"
+fault_message _ = codes "results store failed"

@@ -1,4 +1,4 @@
--- Results in a file: opening and closing it.
+-- Results in a file: opening and closing it. A view is the state of a store as contracts see it.
 use Rattle.std.specs.Prelude.{◌≡◌, ◌≢◌, ◌⊎◌, ◌≤◌, ◌%◌, pos, length, List, IsTrue, ℕ, Bool, []}
 use Rattle.sqlite_disk.specs.declared.Disk as disk
 use Rattle.sqlite_disk.specs.declared.Files.{Files}
@@ -6,7 +6,7 @@ use Rattle.sqlite_wal.specs.Files.{outcomes}
 use Rattle.sqlite_wal.specs.Reads.{AreClean}
 use Rattle.sqlite_store.specs.FileStore.{files as files_in, faults, is_shielded}
 use Rattle.sqlite.specs.Start.{FindsIn}
-use Rattle.kt_store.specs.Attaching.{DatabaseBefore, IsOf, AttachSucceeds}
+use Rattle.kt_store.specs.Attaching.{InitialDatabase, Describes, AttachSucceeds}
 use Rattle.kt_store.specs.Runs.{HasSchemaNumber}
 use Rattle.kt_store.specs.Seeks.{HasCommitted, OpensRuns}
 use Rattle.kt_store.specs.Stands.{StandsFor}
@@ -19,7 +19,8 @@ use Rattle.sqlite_wal.specs.PageSize.{IsPageSize}
 use Rattle.kt_store.specs.Types.{FileStore, HasCleanDisk, Held, HoldsDatabase, Image, IsClean, IsOpened, IsQuiet, PageMap, Recovers, Run, Trees, View, file_state, recovers, stored_size, view}
 
 -- `HasTrees is_numbered trees image`: the two files with the content `image` recover to a sound
--- file with `trees`; if `is_numbered` is `true`, the trees are numbered
+-- file with `trees`. If `is_numbered` is `true`, the trees are numbered: tree `t` is the object
+-- with the rowid `t` + 1 in SQLite's schema list.
 pub record HasTrees (is_numbered : Bool) (trees : Trees) (image : Image) : Type 0 where
   pub size : ℕ
   pub pages : PageMap
@@ -29,9 +30,9 @@ pub record HasTrees (is_numbered : Bool) (trees : Trees) (image : Image) : Type 
   pub file : ∥ IsOurs size is_numbered wanted pages ∥₁
   pub reads : trees ≡ file_trees size wanted pages
 
--- `StaysNumbered old new`: `old` and `new` are the views of a store before and after a call; if
--- `new` is open, `old` is open, and the trees are numbered in both or in neither, unless the disk
--- has returned wrong data
+-- `StaysNumbered old new`: `old` and `new` are the views of a store before and after a call. If
+-- `new` is open, `old` is open, and the trees are numbered in both or in neither. Nothing is stated
+-- if the disk has returned wrong data.
 abbrev pub StaysNumbered : View → View → Type 0
 StaysNumbered old new = IsClean new → IsTrue new.is_open → IsTrue old.is_open × (new.is_numbered ≡ old.is_numbered)
 
@@ -56,18 +57,19 @@ pub data IsReadAs (old : Image) : Image → Type 0 where
       → ((db : Trees) (held : HoldsDatabase old db) → held.0 ≡ size) → IsReadAs old new
 
 module _ {D : Type 0} {g : disk.Ghosts D} where
-  -- `IsOfFile image conn`: the connection `conn` shows the database of the files `image`, possibly
-  -- after they were read
-  abbrev pub IsOfFile : Image → Held (FileStore D g) → Type 0
-  IsOfFile image conn = HasCleanDisk (file_state conn) → IsOpened conn × ((read : Image) × IsReadAs image read × FindsIn read (file_state conn))
+  -- `IsConnectionTo image conn`: the connection `conn` shows the database of the files `image`.
+  -- Reading the files may have changed their bytes as `IsReadAs` states. Nothing is stated if the
+  -- disk has returned wrong data.
+  abbrev pub IsConnectionTo : Image → Held (FileStore D g) → Type 0
+  IsConnectionTo image conn = HasCleanDisk (file_state conn) → IsOpened conn × ((read : Image) × IsReadAs image read × FindsIn read (file_state conn))
 
-  -- `AreOfFile image results`: `results` were attached to a connection that shows the database of
+  -- `AreResultsOf image results`: `results` were attached to a connection that shows the database of
   -- `image`
-  abbrev pub AreOfFile : Image → Held (FileStore D g) → Type 0
-  AreOfFile image results = (conn : Held (FileStore D g)) × IsOfFile image conn × ((was : DatabaseBefore) → IsOf was (file_state conn) → AttachSucceeds was (file_state conn) (file_state results))
+  abbrev pub AreResultsOf : Image → Held (FileStore D g) → Type 0
+  AreResultsOf image results = (conn : Held (FileStore D g)) × IsConnectionTo image conn × ((was : InitialDatabase) → Describes was (file_state conn) → AttachSucceeds was (file_state conn) (file_state results))
 
-  -- `Follows results store`: `store` has the last commit of `results`, and a crash leaves only what
-  -- a crash of `results` leaves
+  -- `Follows results store`: `store` has the last commit of `results`, and a crash of `store`
+  -- leaves only what a crash of `results` leaves
   pub record Follows (results : Held (FileStore D g)) (store : FileStore D g) : Type 0 where
     pub stands : (runs : List Run) → StandsFor (file_state results) runs → HasCommitted (view store) runs
     pub earlier : IsClean (view store) → HasCleanDisk (file_state results)
@@ -84,7 +86,7 @@ module _ {D : Type 0} {g : disk.Ghosts D} where
   -- 2 or were attached
   pub record Finds (image : Image) (store : FileStore D g) : Type 0 where
     pub held : OpensRuns image store
-    pub whose : Lists image store ⊎ ((results : Held (FileStore D g)) × AreOfFile image results × Follows results store)
+    pub whose : Lists image store ⊎ ((results : Held (FileStore D g)) × AreResultsOf image results × Follows results store)
     pub numbered : IsClean (view store) → MustBeChecked image → IsTrue (view store).is_numbered
 
   -- `Ends store`: the close of `store` left two files, of which the database file alone has the
@@ -98,18 +100,18 @@ module _ {D : Type 0} {g : disk.Ghosts D} where
     pub left : AreClean g files.log files.db → (image : Image) → outcomes g files.log files.db image → HasTrees (view store).is_numbered (view store).committed image
         × HasTrees (view store).is_numbered (view store).committed (record image { log = [] })
 
-  -- `FailsToEnd store last`: the close of `store` failed, and left `last`. The two files of `last`
+  -- `FailsToClose store last`: the close of `store` failed, and left `last`. The two files of `last`
   -- have trees that a crash of `store` leaves.
-  pub record FailsToEnd (store last : FileStore D g) : Type 0 where
+  pub record FailsToClose (store last : FileStore D g) : Type 0 where
     pub quiet : IsQuiet view faults recovers is_shielded store last
     pub left : AreClean g (files_in last).0 (files_in last).1 → (image : Image) → outcomes g (files_in last).0 (files_in last).1 image
         → ∥ ((trees : Trees) × recovers store trees × HasTrees (view last).is_numbered trees image) ∥₁
 
-  -- `Closed before last runs after`: a process opened the files `before`, made calls, and closed
+  -- `OpensAndCloses before last runs after`: a process opened the files `before`, made calls, and closed
   -- its store `last`, whose last commit has `runs`. The files may then be `after`, also after a
   -- crash. The open checks all trees of `before`, or `before` doesn't list the tables of results.
   -- The disk returned what was written.
-  pub record Closed (before : Image) (last : FileStore D g) (runs : List Run) (after : Image) : Type 0 where
+  pub record OpensAndCloses (before : Image) (last : FileStore D g) (runs : List Run) (after : Image) : Type 0 where
     pub first : FileStore D g
     pub opened : Finds before first
     pub checked : ListsTables before → MustBeChecked before

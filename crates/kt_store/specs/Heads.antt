@@ -29,9 +29,9 @@ without_outputs e = record e { body = no_output; cleanup = no_output }
 abbrev pub without_pairs : Entry → Entry
 without_pairs e = record e { meta = [] }
 
--- `outlined e`: entry `e` without its properties and outputs
-abbrev pub outlined : Entry → Entry
-outlined e = without_outputs (without_pairs e)
+-- `outline_entry e`: entry `e` without its properties and outputs
+abbrev pub outline_entry : Entry → Entry
+outline_entry e = without_outputs (without_pairs e)
 
 -- `pairs_of e`: the properties of entry `e`, or none if `e` is `None`
 abbrev pub pairs_of : Option Entry → List Variable
@@ -42,8 +42,8 @@ pairs_of (Some e) = e.meta
 abbrev pub outputs_of : Entry → CaseOutputs
 outputs_of e = record { body = e.body; cleanup = e.cleanup }
 
--- `entry_at r position`: the first entry of run `r` at `position`, or `None` without this run or
--- entry
+-- `entry_at r position`: the first entry of run `r` at `position`, or `None` if `r` is `None` or
+-- has no such entry
 abbrev pub entry_at : Option Run → ℕ → Option Entry
 entry_at None position = None
 entry_at (Some r) position = find (λ (e : Entry). e.position == position) r.entries

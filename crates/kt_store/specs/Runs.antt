@@ -3,7 +3,7 @@ use Rattle.std.specs.Prelude.{◌≡◌, ℕ, zero, suc, nat_lt, nat_le, ◌==�
 use Rattle.kt_base.specs.declared.verdict.Kind.{Kind}
 use Rattle.kt_store.specs.Tables.{schema_1, schema_2}
 use Rattle.std.specs.Str.{chars, IsUtf8}
-use Rattle.kt_store.specs.Types.{AllByRecursion, BadPosition, Blob, Broken, Database, Entry, ExpectedFailure, Failed, Incomplete, Int, IsAscending, IsDatabase, NoRun, Null, Passed, RepeatedPosition, Row, Run, RunClosed, Skipped, StoreFault, Text, Trees, Variable, last_run, list_any, utf8}
+use Rattle.kt_store.specs.Types.{AllByRecursion, BadPosition, Blob, Broken, Database, Entry, ExpectedFailure, Failed, Incomplete, Int, IsAscending, IsDatabase, NoRun, Null, Passed, RepeatedPosition, Row, Run, RunClosed, Skipped, StoreFault, Text, Trees, Variable, greatest_run_number, list_any, utf8}
 
 -- `kind_code kind`: the number that represents `kind` in the tables
 abbrev pub kind_code : Kind → ℕ
@@ -38,7 +38,7 @@ abbrev pub pair_row : ℕ → ℕ → ℕ → Variable → Row
 pair_row run position place v = Int (pos run) ∷ Int (pos position) ∷ Int (pos place) ∷ Text (utf8 v.name) ∷ Text (utf8 v.value) ∷ []
 
 -- `pair_rows_from run position place pairs`: the rows of the properties `pairs` of the entry at
--- `position` of run `run`, with indexes from `place`
+-- `position` of run `run`. The indexes of the properties begin with `place`.
 abbrev pub pair_rows_from : ℕ → ℕ → ℕ → List Variable → List Row
 pair_rows_from run position place [] = []
 pair_rows_from run position place (v ∷ pairs) = pair_row run position place v ∷ pair_rows_from run position (suc place) pairs
@@ -56,76 +56,75 @@ abbrev pub AreNumbered : ℕ → List Run → Type 0
 AreNumbered n [] = ⊤
 AreNumbered n (r ∷ runs) = (r.number ≡ n) × AreNumbered (suc n) runs
 
--- `IsText text`: UTF-8 can represent the characters of `text`, so decoding its bytes returns `text`
-abbrev pub IsText : List ℕ → Type 0
-IsText text = (chars (utf8 text) ≡ text) × IsUtf8 (utf8 text)
+-- `IsEncodable text`: UTF-8 can represent the characters of `text`, so decoding its bytes returns `text`
+abbrev pub IsEncodable : List ℕ → Type 0
+IsEncodable text = (chars (utf8 text) ≡ text) × IsUtf8 (utf8 text)
 
--- `IsPair v`: the name and the value of property `v` are representable in UTF-8
-abbrev pub IsPair : Variable → Type 0
-IsPair v = IsText v.name × IsText v.value
+-- `IsEncodableProperty v`: the name and the value of property `v` are representable in UTF-8
+abbrev pub IsEncodableProperty : Variable → Type 0
+IsEncodableProperty v = IsEncodable v.name × IsEncodable v.value
 
--- `IsEntry e`: the texts of entry `e` are representable in UTF-8, and its reason is empty if the
+-- `IsValidEntry e`: the texts of entry `e` are representable in UTF-8, and its reason is empty if the
 -- case passed
-pub record IsEntry (e : Entry) : Type 0 where
-  pub program : IsText e.program
-  pub case_name : IsText e.case_name
-  pub reason : IsText e.verdict.reason
+pub record IsValidEntry (e : Entry) : Type 0 where
+  pub program : IsEncodable e.program
+  pub case_name : IsEncodable e.case_name
+  pub reason : IsEncodable e.verdict.reason
   pub passed : e.verdict.kind ≡ Passed → e.verdict.reason ≡ []
-  pub meta : AllByRecursion IsPair e.meta
+  pub meta : AllByRecursion IsEncodableProperty e.meta
 
--- `IsRun r`: the total of run `r` is below 2^32. Its entries meet `IsEntry`, ascend by position
+-- `IsValidRun r`: the total of run `r` is below 2^32. Its entries meet `IsValidEntry`, ascend by position
 -- without a repetition, and have positions below the total. A finished run has as many entries as
 -- its total.
-pub record IsRun (r : Run) : Type 0 where
+pub record IsValidRun (r : Run) : Type 0 where
   pub small : r.total < 4294967296
   pub ordered : IsAscending (λ (a b : Entry). a.position < b.position) r.entries
   pub below : AllByRecursion (λ (e : Entry). e.position < r.total) r.entries
-  pub sound : AllByRecursion IsEntry r.entries
+  pub sound : AllByRecursion IsValidEntry r.entries
   pub whole : r.finished ≡ true → length r.entries ≡ r.total
 
--- `AreRuns runs`: `runs` are numbered from 1, each of them meets `IsRun`, and there are at most
+-- `AreValidRuns runs`: `runs` are numbered from 1, each of them meets `IsValidRun`, and there are at most
 -- 1,000,000
-pub record AreRuns (runs : List Run) : Type 0 where
+pub record AreValidRuns (runs : List Run) : Type 0 where
   pub numbered : AreNumbered 1 runs
-  pub each : AllByRecursion IsRun runs
-  pub few : length runs ≤ last_run
+  pub each : AllByRecursion IsValidRun runs
+  pub few : length runs ≤ greatest_run_number
 
 -- `AreOrdered runs`: in each of `runs`, the entries ascend by position without a repetition
 abbrev pub AreOrdered : List Run → Type 0
 AreOrdered runs = AllByRecursion (λ (r : Run). IsAscending (λ (a b : Entry). a.position < b.position) r.entries) runs
 
--- `HasSchemaNumber n trees`: the table `meta` in `trees` has one row, which is the schema number
--- `n`
+-- `HasSchemaNumber n trees`: the table `meta` in `trees` has one row, with the schema number `n`
 abbrev pub HasSchemaNumber : ℤ → Trees → Type 0
 HasSchemaNumber n trees = map (drop 1) (trees 0) ≡ (Text (codes "schema") ∷ Int n ∷ []) ∷ []
 
 -- `Tables db runs`: database `db` has schema 2, and its rows are exactly those of `runs`, which
--- meet `AreRuns`
+-- meet `AreValidRuns`
 pub record Tables (db : Database) (runs : List Run) : Type 0 where
   pub schema : db.schema ≡ schema_2
   pub marked : HasSchemaNumber (pos 2) db.trees
   pub runs_are : db.trees 2 ≡ map run_row runs
   pub entries_are : IsPermutation (entry_rows runs) (map (drop 1) (db.trees 3))
   pub props_are : IsPermutation (prop_rows runs) (map (drop 1) (db.trees 5))
-  pub valid : AreRuns runs
+  pub valid : AreValidRuns runs
 
 -- `HaveNoPairs runs`: no entry of `runs` has a property
 abbrev pub HaveNoPairs : List Run → Type 0
 HaveNoPairs runs = AllByRecursion (λ (r : Run). AllByRecursion (λ (e : Entry). e.meta ≡ []) r.entries) runs
 
 -- `IsSchema1Database db runs`: database `db` has schema 1, and its rows are exactly those of
--- `runs`, which meet `AreRuns` and have no properties
+-- `runs`, which meet `AreValidRuns` and have no properties
 pub record IsSchema1Database (db : Database) (runs : List Run) : Type 0 where
   pub schema : db.schema ≡ schema_1
   pub marked : HasSchemaNumber (pos 1) db.trees
   pub runs_are : db.trees 2 ≡ map run_row runs
   pub entries_are : IsPermutation (entry_rows runs) (map (drop 1) (db.trees 3))
   pub bare : HaveNoPairs runs
-  pub valid : AreRuns runs
+  pub valid : AreValidRuns runs
 
--- `Keeps runs trees`: `trees` are the B-trees of a database of schema 2 with exactly `runs`
-abbrev pub Keeps : List Run → Trees → Type 0
-Keeps runs trees = (db : Database) × IsDatabase db × (trees ≡ db.trees) × Tables db runs
+-- `IsSchema2Of runs trees`: `trees` are the B-trees of a database of schema 2 with exactly `runs`
+abbrev pub IsSchema2Of : List Run → Trees → Type 0
+IsSchema2Of runs trees = (db : Database) × IsDatabase db × (trees ≡ db.trees) × Tables db runs
 
 -- `IsSchema1Of runs trees`: `trees` are the B-trees of a database of schema 1 with exactly `runs`
 abbrev pub IsSchema1Of : List Run → Trees → Type 0
@@ -134,16 +133,16 @@ IsSchema1Of runs trees = (db : Database) × IsDatabase db × (trees ≡ db.trees
 -- `IsAnySchemaOf runs trees`: `trees` are the B-trees of a database of schema 1 or 2 with exactly
 -- `runs`
 abbrev pub IsAnySchemaOf : List Run → Trees → Type 0
-IsAnySchemaOf runs trees = IsSchema1Of runs trees ⊎ Keeps runs trees
+IsAnySchemaOf runs trees = IsSchema1Of runs trees ⊎ IsSchema2Of runs trees
 
 -- `IsSchema2OfOne lists trees`: `trees` are the B-trees of a database of schema 2 with exactly the
 -- runs of one of `lists`
 abbrev pub IsSchema2OfOne : List (List Run) → Trees → Type 0
 IsSchema2OfOne [] trees = ⊥
-IsSchema2OfOne (runs ∷ others) trees = Keeps runs trees ⊎ IsSchema2OfOne others trees
+IsSchema2OfOne (runs ∷ others) trees = IsSchema2Of runs trees ⊎ IsSchema2OfOne others trees
 
--- `new_run runs total started`: the run of `total` cases that is added after `runs`, at the
--- timestamp `started`: with the next number, unfinished, and without entries
+-- `new_run runs total started`: the run that a begin appends to `runs`. It has the next number,
+-- `total` cases and the timestamp `started`, is unfinished, and has no entries.
 abbrev pub new_run : List Run → ℕ → ℕ → Run
 new_run runs total started = record { number = suc (length runs); started = started; total = total; finished = false; entries = [] }
 
@@ -152,16 +151,16 @@ abbrev pub run_at : List Run → ℕ → Option Run
 run_at runs zero = None
 run_at runs (suc k) = slice_get runs k
 
--- `insert_at e es`: the entries `es` with `e` inserted before the first entry with a greater
+-- `insert_by_position e es`: the entries `es` with `e` inserted before the first entry with a greater
 -- position
-abbrev pub insert_at : Entry → List Entry → List Entry
-insert_at e [] = e ∷ []
-insert_at e (x ∷ es) = if nat_lt e.position x.position then e ∷ x ∷ es else x ∷ insert_at e es
+abbrev pub insert_by_position : Entry → List Entry → List Entry
+insert_by_position e [] = e ∷ []
+insert_by_position e (x ∷ es) = if nat_lt e.position x.position then e ∷ x ∷ es else x ∷ insert_by_position e es
 
 -- `with_entry run e runs`: `runs` with entry `e` inserted into the first run with number `run`
 abbrev pub with_entry : ℕ → Entry → List Run → List Run
 with_entry run e [] = []
-with_entry run e (r ∷ runs) = if r.number == run then record r { entries = insert_at e r.entries } ∷ runs else r ∷ with_entry run e runs
+with_entry run e (r ∷ runs) = if r.number == run then record r { entries = insert_by_position e r.entries } ∷ runs else r ∷ with_entry run e runs
 
 -- `finish run runs`: `runs` with the first run with number `run` marked as finished
 abbrev pub finish : ℕ → List Run → List Run

@@ -1,12 +1,12 @@
 -- The effect of a store call on the represented runs, by the result of the call.
 use Rattle.std.specs.Prelude.{suc, List, [], ◌∷◌, ◌++◌, ◌≡◌, ◌<◌, ◌≤◌, ◌⊎◌, Some, None, Ok, Err, length, map}
-use Rattle.kt_store.specs.Ask.{IsStoreFault}
-use Rattle.kt_store.specs.Heads.{head_at, outlined, pairs_of, outputs_of, entry_at}
+use Rattle.kt_store.specs.Ask.{IsDatabaseFault}
+use Rattle.kt_store.specs.Heads.{head_at, outline_entry, pairs_of, outputs_of, entry_at}
 use Rattle.kt_store.specs.Runs.{AreNumbered, AreOrdered, IsSchema2OfOne, new_run, run_at, with_entry, put_refusal, finish, finish_refusal}
 use Rattle.kt_store.specs.Stands.{Leaves, StandsFor}
 use Rattle.kt_store.specs.StoreCalls.{StoreCall, Began, Put, Finished, Head, Outline, Pairs, Outputs}
 use Rattle.kt_store.specs.declared.result_store.StoreSpec as store
-use Rattle.kt_store.specs.Types.{Entry, Ghosts, HasCleanDisk, Held, NoRun, Run, StoreFull, last_run, state}
+use Rattle.kt_store.specs.Types.{Entry, Ghosts, HasCleanDisk, Held, NoRun, Run, StoreFull, greatest_run_number, state}
 
 -- `runs_after call runs`: the runs of a store with `runs` after `call`; a failed call and a call
 -- that reads change nothing
@@ -19,27 +19,27 @@ runs_after _ runs = runs
 -- `Agrees runs call`: the result of `call` is correct for a store with `runs`. An error is the
 -- first that applies, or it reports that memory ran out or that the database failed.
 abbrev pub Agrees : List Run → StoreCall → Type 0
-Agrees runs (Began total moment (Ok number)) = (number ≡ suc (length runs)) × (length runs < last_run)
-Agrees runs (Began total moment (Err fault)) = IsStoreFault fault ⊎ ((fault ≡ StoreFull) × (last_run ≤ length runs))
+Agrees runs (Began total moment (Ok number)) = (number ≡ suc (length runs)) × (length runs < greatest_run_number)
+Agrees runs (Began total moment (Err fault)) = IsDatabaseFault fault ⊎ ((fault ≡ StoreFull) × (greatest_run_number ≤ length runs))
 Agrees runs (Put number e (Ok done)) = put_refusal runs number e ≡ None
-Agrees runs (Put number e (Err fault)) = IsStoreFault fault ⊎ (put_refusal runs number e ≡ Some fault)
+Agrees runs (Put number e (Err fault)) = IsDatabaseFault fault ⊎ (put_refusal runs number e ≡ Some fault)
 Agrees runs (Finished number (Ok done)) = finish_refusal runs number ≡ None
-Agrees runs (Finished number (Err fault)) = IsStoreFault fault ⊎ (finish_refusal runs number ≡ Some fault)
+Agrees runs (Finished number (Err fault)) = IsDatabaseFault fault ⊎ (finish_refusal runs number ≡ Some fault)
 Agrees runs (Head number (Ok head)) = head ≡ head_at runs number
-Agrees runs (Head number (Err fault)) = IsStoreFault fault
-Agrees runs (Outline number (Ok entries)) = (run' : Run) × (run_at runs number ≡ Some run') × (entries ≡ map outlined run'.entries)
-Agrees runs (Outline number (Err fault)) = IsStoreFault fault ⊎ ((fault ≡ NoRun) × (run_at runs number ≡ None))
+Agrees runs (Head number (Err fault)) = IsDatabaseFault fault
+Agrees runs (Outline number (Ok entries)) = (run' : Run) × (run_at runs number ≡ Some run') × (entries ≡ map outline_entry run'.entries)
+Agrees runs (Outline number (Err fault)) = IsDatabaseFault fault ⊎ ((fault ≡ NoRun) × (run_at runs number ≡ None))
 Agrees runs (Pairs number position (Ok pairs)) = pairs ≡ pairs_of (entry_at (run_at runs number) position)
-Agrees runs (Pairs number position (Err fault)) = IsStoreFault fault
+Agrees runs (Pairs number position (Err fault)) = IsDatabaseFault fault
 Agrees runs (Outputs number position (Ok outputs)) = (e : Entry) × (entry_at (run_at runs number) position ≡ Some e) × (outputs ≡ outputs_of e)
-Agrees runs (Outputs number position (Err fault)) = IsStoreFault fault ⊎ ((fault ≡ NoRun) × (entry_at (run_at runs number) position ≡ None))
+Agrees runs (Outputs number position (Err fault)) = IsDatabaseFault fault ⊎ ((fault ≡ NoRun) × (entry_at (run_at runs number) position ≡ None))
 
 module _ {R : Type 0} (LeavesOne : R → List (List Run) → Type 0) where
   -- `SurvivesCrash LeavesOne call runs may old new`: a crash after `call` leaves permitted runs, if
   -- `call` takes a store with `runs` from the state `old` to `new`. `LeavesOne s lists`: in state
-  -- `s`, a crash leaves one of `lists`. `may` are the outcomes possible before the call. After a
-  -- successful call that writes, only the changed runs are possible. A failed call adds the changed
-  -- runs to the outcomes. A call that reads adds nothing.
+  -- `s`, a crash leaves one of `lists`. `may` are lists of runs that a crash might leave before the
+  -- call. After a successful call that writes, only the changed runs are possible. A failed call
+  -- adds the changed runs to the lists. A call that reads adds nothing.
   abbrev pub SurvivesCrash : StoreCall → List Run → List (List Run) → R → R → Type 0
   SurvivesCrash (Began total moment (Ok number)) runs may old new = LeavesOne new ((runs ++ new_run runs total moment ∷ []) ∷ [])
   SurvivesCrash (Began total moment (Err fault)) runs may old new = LeavesOne old (runs ∷ may) → LeavesOne new (runs ∷ (runs ++ new_run runs total moment ∷ []) ∷ may)

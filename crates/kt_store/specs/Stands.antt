@@ -4,7 +4,7 @@ use Rattle.sqlite_resolve.specs.declared.compiled.Compiled.{Compiled}
 use Rattle.sqlite.specs.Table.{Table}
 use Rattle.sqlite_schema.specs.declared.schema.Index.{Index}
 use Rattle.sqlite_schema.specs.declared.schema.View.{View}
-use Rattle.kt_store.specs.Tables.{no_schema, schema_with_meta, runs_text, entries_text, pairs_text}
+use Rattle.kt_store.specs.Tables.{no_schema, schema_with_meta, select_runs_sql, select_entries_sql, select_props_sql}
 use Rattle.kt_store.specs.Runs.{HasSchemaNumber, Tables, IsSchema1Database}
 use Rattle.kt_store.specs.Types.{Database, Ghosts, HasCleanDisk, Held, Run, State, Trees, state, understood}
 
@@ -20,10 +20,10 @@ pub record IsSettled (P : Database → Type 0) (s : State) : Type 0 where
 abbrev pub IsSettledWhileOpen : (Database → Type 0) → State → Type 0
 IsSettledWhileOpen P s = HasCleanDisk s → IsTrue s.is_open → IsSettled P s
 
--- `IsStore s runs`: in state `s` of a connection no transaction is open, and the tables have
+-- `IsSettledWithRuns s runs`: in state `s` of a connection no transaction is open, and the tables have
 -- exactly `runs`
-abbrev pub IsStore : State → List Run → Type 0
-IsStore s runs = IsSettled (λ db. Tables db runs) s
+abbrev pub IsSettledWithRuns : State → List Run → Type 0
+IsSettledWithRuns s runs = IsSettled (λ db. Tables db runs) s
 
 -- `StandsFor s runs`: in state `s` of a connection, no transaction is open, and the database has
 -- schema 2 with exactly `runs`. Nothing is stated for a closed connection or a disk that returned
@@ -31,9 +31,9 @@ IsStore s runs = IsSettled (λ db. Tables db runs) s
 abbrev pub StandsFor : State → List Run → Type 0
 StandsFor s runs = IsSettledWhileOpen (λ db. Tables db runs) s
 
--- `HoldsForRuns g old new P`: `P` holds for the runs that the tables of connection `old`
--- represented before a call to `new`, unless the disk has returned wrong data. `g` is the
--- specification of connections.
+-- `HoldsForRuns g old new P`: `P` holds for the runs that the tables of connection `old` represent.
+-- `new` is the connection after a call. Nothing is stated if the disk has returned wrong data by
+-- then. `g` is the specification of connections.
 abbrev pub HoldsForRuns : {S : Type 0} → Ghosts S → Held S → Held S → (List Run → Type 0) → Type 0
 HoldsForRuns g old new P = (runs : List Run) → StandsFor (state g old) runs → HasCleanDisk (state g new) → P runs
 
@@ -68,13 +68,13 @@ pub record ListsSchemaNumber (n : ℤ) (s : State) : Type 0 where
 abbrev pub StoresSchemaNumber : ℤ → State → Type 0
 StoresSchemaNumber n s = HasCleanDisk s → IsTrue s.is_open → ListsSchemaNumber n s
 
--- `IsUnderstood s sql`: SQLite can prepare the statement `sql` over the tables of state `s`
-abbrev pub IsUnderstood : State → List ℕ → Type 0
-IsUnderstood s sql = (c : Compiled) × (understood s.now.schema sql ≡ Ok c)
+-- `IsPreparable s sql`: SQLite can prepare the statement `sql` over the tables of state `s`
+abbrev pub IsPreparable : State → List ℕ → Type 0
+IsPreparable s sql = (c : Compiled) × (understood s.now.schema sql ≡ Ok c)
 
 -- `HasTables n s`: in state `s` SQLite can prepare the queries of schema `n`: for runs, for entries
 -- and, in schema 2, for properties
 pub record HasTables (n : ℤ) (s : State) : Type 0 where
-  pub runs : IsUnderstood s runs_text
-  pub entries : IsUnderstood s entries_text
-  pub pairs : n ≡ pos 2 → IsUnderstood s pairs_text
+  pub runs : IsPreparable s select_runs_sql
+  pub entries : IsPreparable s select_entries_sql
+  pub pairs : n ≡ pos 2 → IsPreparable s select_props_sql

@@ -22,30 +22,31 @@ abbrev pub no_schema : Schema
 no_schema = record { tables = []; indexes = []; views = [] }
 
 -- the statement that creates the table `meta`, which has the schema number
-abbrev pub create_meta : List ℕ
-create_meta = codes "CREATE TABLE meta (name TEXT PRIMARY KEY, value INTEGER NOT NULL) STRICT"
+abbrev pub create_meta_sql : List ℕ
+create_meta_sql = codes "CREATE TABLE meta (name TEXT PRIMARY KEY, value INTEGER NOT NULL) STRICT"
 
 -- the statement that creates the table `runs`
-abbrev pub create_runs : List ℕ
-create_runs = codes "CREATE TABLE runs (id INTEGER PRIMARY KEY, started INTEGER NOT NULL, total INTEGER NOT NULL, finished INTEGER NOT NULL CHECK (finished IN (0, 1))) STRICT"
+abbrev pub create_runs_sql : List ℕ
+create_runs_sql = codes "CREATE TABLE runs (id INTEGER PRIMARY KEY, started INTEGER NOT NULL, total INTEGER NOT NULL, finished INTEGER NOT NULL CHECK (finished IN (0, 1))) STRICT"
 
 -- the statement that creates the table `entries`
-abbrev pub create_entries : List ℕ
-create_entries = codes "CREATE TABLE entries (run INTEGER NOT NULL REFERENCES runs (id), position INTEGER NOT NULL, program TEXT NOT NULL, case_name TEXT NOT NULL, kind INTEGER NOT NULL CHECK (kind BETWEEN 0 AND 4), reason TEXT NOT NULL, started INTEGER NOT NULL, millis INTEGER NOT NULL, body_out BLOB NOT NULL, body_err BLOB NOT NULL, clean_out BLOB NOT NULL, clean_err BLOB NOT NULL, PRIMARY KEY (run, position)) STRICT"
+abbrev pub create_entries_sql : List ℕ
+create_entries_sql = codes "CREATE TABLE entries (run INTEGER NOT NULL REFERENCES runs (id), position INTEGER NOT NULL, program TEXT NOT NULL, case_name TEXT NOT NULL, kind INTEGER NOT NULL CHECK (kind BETWEEN 0 AND 4), reason TEXT NOT NULL, started INTEGER NOT NULL, millis INTEGER NOT NULL, body_out BLOB NOT NULL, body_err BLOB NOT NULL, clean_out BLOB NOT NULL, clean_err BLOB NOT NULL, PRIMARY KEY (run, position)) STRICT"
 
 -- `column name kind not_null`: a column with `name` that accepts only values of `kind`, and NULL
 -- only if `not_null` is `false`
 abbrev pub column : List ℕ → Kind → Bool → Column
 column name kind not_null = record { name = name; kind = kind; is_strict = true; not_null = not_null; default = Null; collation = Binary }
 
--- the record of the columns whose default is the current time, for a table without such columns
-abbrev pub plain_columns : Stamps
-plain_columns = record { places = []; terms = []; formats = [] }
+-- the list of the columns whose default is the current time, for a table without such columns: it
+-- is empty
+abbrev pub no_time_defaults : Stamps
+no_time_defaults = record { places = []; terms = []; formats = [] }
 
 -- `bare_table name columns`: a table with `name` and `columns`, without a key, check or reference
 abbrev pub bare_table : List ℕ → List Column → Table
 bare_table name columns =
-    record { name = name; tree = 0; columns = columns; key = None; primary = []; uniques = []; orders = []; checks = []; references = []; computed = []; stamps = plain_columns; is_counted = false }
+    record { name = name; tree = 0; columns = columns; key = None; primary = []; uniques = []; orders = []; checks = []; references = []; computed = []; stamps = no_time_defaults; is_counted = false }
 
 -- the table `meta`, which has the schema number, before it has a B-tree
 abbrev pub meta : Table
@@ -85,8 +86,8 @@ entries = record (bare_table (codes "entries") entries_columns) {
 }
 
 -- the statement that creates the table `props`, which has the properties of entries
-abbrev pub create_props : List ℕ
-create_props = codes "CREATE TABLE props (run INTEGER NOT NULL, position INTEGER NOT NULL, place INTEGER NOT NULL, name TEXT NOT NULL, value TEXT NOT NULL, PRIMARY KEY (run, position, place)) STRICT"
+abbrev pub create_props_sql : List ℕ
+create_props_sql = codes "CREATE TABLE props (run INTEGER NOT NULL, position INTEGER NOT NULL, place INTEGER NOT NULL, name TEXT NOT NULL, value TEXT NOT NULL, PRIMARY KEY (run, position, place)) STRICT"
 
 -- the columns of the table `props`
 abbrev pub props_columns : List Column
@@ -102,74 +103,74 @@ abbrev pub index_of : Table → ℕ → Index
 index_of table tree = automatic table 0 (slice_index_or table.uniques 0 []) tree
 
 -- the table `meta`, stored in B-tree 0
-abbrev pub meta_1 : Table
-meta_1 = record meta { tree = 0 }
+abbrev pub meta_table : Table
+meta_table = record meta { tree = 0 }
 
 -- the table `runs`, stored in B-tree 2
-abbrev pub runs_1 : Table
-runs_1 = record runs { tree = 2 }
+abbrev pub runs_table : Table
+runs_table = record runs { tree = 2 }
 
 -- the table `entries`, stored in B-tree 3
 abbrev pub entries_table : Table
 entries_table = record entries { tree = 3 }
 
 -- the table `props`, stored in B-tree 5
-abbrev pub props_1 : Table
-props_1 = record props { tree = 5 }
+abbrev pub props_table : Table
+props_table = record props { tree = 5 }
 
 -- the three tables of schema 1 and their indexes
 abbrev pub schema_1 : Schema
-schema_1 = record { tables = meta_1 ∷ runs_1 ∷ entries_table ∷ []; indexes = index_of meta_1 1 ∷ index_of entries_table 4 ∷ []; views = [] }
+schema_1 = record { tables = meta_table ∷ runs_table ∷ entries_table ∷ []; indexes = index_of meta_table 1 ∷ index_of entries_table 4 ∷ []; views = [] }
 
 -- the four tables of schema 2 and their indexes
 abbrev pub schema_2 : Schema
-schema_2 = record { tables = meta_1 ∷ runs_1 ∷ entries_table ∷ props_1 ∷ []; indexes = index_of meta_1 1 ∷ index_of entries_table 4 ∷ index_of props_1 6 ∷ []; views = [] }
+schema_2 = record { tables = meta_table ∷ runs_table ∷ entries_table ∷ props_table ∷ []; indexes = index_of meta_table 1 ∷ index_of entries_table 4 ∷ index_of props_table 6 ∷ []; views = [] }
 
 -- `schema_with_meta others indexes views`: a schema with the table `meta` first, then the tables
 -- `others`, and with `indexes` and `views`
 abbrev pub schema_with_meta : List Table → List Index → List View → Schema
-schema_with_meta others indexes views = record { tables = meta_1 ∷ others; indexes = indexes; views = views }
+schema_with_meta others indexes views = record { tables = meta_table ∷ others; indexes = indexes; views = views }
 
 -- the statement that inserts an unfinished run
-abbrev pub begin_text : List ℕ
-begin_text = codes "INSERT INTO runs (started, total, finished) VALUES (?1, ?2, 0)"
+abbrev pub insert_run_sql : List ℕ
+insert_run_sql = codes "INSERT INTO runs (started, total, finished) VALUES (?1, ?2, 0)"
 
 -- the query for the total and the finished flag of a run
-abbrev pub run_text : List ℕ
-run_text = codes "SELECT total, finished FROM runs WHERE id = ?1"
+abbrev pub select_run_sql : List ℕ
+select_run_sql = codes "SELECT total, finished FROM runs WHERE id = ?1"
 
 -- the statement that marks a run as finished
-abbrev pub finish_text : List ℕ
-finish_text = codes "UPDATE runs SET finished = 1 WHERE id = ?1"
+abbrev pub finish_run_sql : List ℕ
+finish_run_sql = codes "UPDATE runs SET finished = 1 WHERE id = ?1"
 
 -- the query for all runs, ordered by number
-abbrev pub runs_text : List ℕ
-runs_text = codes "SELECT id, started, total, finished FROM runs ORDER BY id"
+abbrev pub select_runs_sql : List ℕ
+select_runs_sql = codes "SELECT id, started, total, finished FROM runs ORDER BY id"
 
--- the query for the position of the entry of a run at a position: one row if there is such an entry
-abbrev pub entry_query : List ℕ
-entry_query = codes "SELECT position FROM entries WHERE run = ?1 AND position = ?2 ORDER BY position"
+-- the query that returns one row if a run has an entry at a position, else no row
+abbrev pub select_entry_sql : List ℕ
+select_entry_sql = codes "SELECT position FROM entries WHERE run = ?1 AND position = ?2 ORDER BY position"
 
 -- the statement that inserts an entry
-abbrev pub put_text : List ℕ
-put_text = codes "INSERT INTO entries (run, position, program, case_name, kind, reason, started, millis, body_out, body_err, clean_out, clean_err) VALUES (?1, ?2, ?3, ?4, ?5, ?6, ?7, ?8, ?9, ?10, ?11, ?12)"
+abbrev pub insert_entry_sql : List ℕ
+insert_entry_sql = codes "INSERT INTO entries (run, position, program, case_name, kind, reason, started, millis, body_out, body_err, clean_out, clean_err) VALUES (?1, ?2, ?3, ?4, ?5, ?6, ?7, ?8, ?9, ?10, ?11, ?12)"
 
 -- the query for the entries of a run, ordered by position
-abbrev pub entries_text : List ℕ
-entries_text = codes "SELECT position, program, case_name, kind, reason, started, millis, body_out, body_err, clean_out, clean_err FROM entries WHERE run = ?1 ORDER BY position"
+abbrev pub select_entries_sql : List ℕ
+select_entries_sql = codes "SELECT position, program, case_name, kind, reason, started, millis, body_out, body_err, clean_out, clean_err FROM entries WHERE run = ?1 ORDER BY position"
 
--- the query for the properties of the entry of a run at a position, in their order
-abbrev pub pairs_text : List ℕ
-pairs_text = codes "SELECT name, value FROM props WHERE run = ?1 AND position = ?2 ORDER BY place"
+-- the query for the properties of the entry at a position of a run, in their recorded order
+abbrev pub select_props_sql : List ℕ
+select_props_sql = codes "SELECT name, value FROM props WHERE run = ?1 AND position = ?2 ORDER BY place"
 
 -- the query for the schema number
-abbrev pub meta_text : List ℕ
-meta_text = codes "SELECT value FROM meta WHERE name = 'schema'"
+abbrev pub select_schema_sql : List ℕ
+select_schema_sql = codes "SELECT value FROM meta WHERE name = 'schema'"
 
 -- the statement that inserts the schema number 2
-abbrev pub mark_text : List ℕ
-mark_text = codes "INSERT INTO meta (name, value) VALUES ('schema', 2)"
+abbrev pub insert_schema_sql : List ℕ
+insert_schema_sql = codes "INSERT INTO meta (name, value) VALUES ('schema', 2)"
 
 -- the statement that updates the schema number to 2
-abbrev pub raise_text : List ℕ
-raise_text = codes "UPDATE meta SET value = 2 WHERE name = 'schema'"
+abbrev pub update_schema_sql : List ℕ
+update_schema_sql = codes "UPDATE meta SET value = 2 WHERE name = 'schema'"

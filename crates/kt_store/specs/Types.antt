@@ -1,6 +1,6 @@
 -- Re-exports of the types and names that this crate's definitions use. Declares nothing.
 pub use Rattle.std.specs.List.{AllByRecursion, find, list_any}
-pub use Rattle.kt_base.specs.Limits.{last_run}
+pub use Rattle.kt_base.specs.Limits.{greatest_run_number}
 pub use Rattle.kt_base.specs.Utf8.{utf8}
 pub use Rattle.kt_base.specs.declared.entry.Entry.{Entry}
 pub use Rattle.kt_base.specs.declared.entry.Run.{Run}

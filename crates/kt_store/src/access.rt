@@ -1,6 +1,7 @@
 /// A kind of access to a results file: to add a run, or to read runs.
 ///
-/// Both create a missing file, migrate schema 1 and copy commits of the log into the file.
+/// With both kinds, a missing file is created, schema 1 is migrated, and commits in the log are
+/// copied into the file.
 #[derive(Clone, Copy)]
 pub enum Access {
     /// Access to add a run.

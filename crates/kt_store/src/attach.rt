@@ -1,10 +1,10 @@
 ghost use Rattle.std.specs.Prelude.{◌≡◌, ◌≢◌, ◌⊎◌, ◌<◌, ℤ, pos, true, false, [], IfOk, OnOk, OnErr, IfErr};
-ghost use Rattle.kt_store.specs.Common.{HasCleanDisk, IsLive, IsUnchanged, state, IsUnchangedOrRolledBack, IsStoreFault, Blank, Older, IsOf, AttachSucceeds, AttachFails, HasNumber, WasClean, CommitsNothing, AsksNumber, LeavesSchema, FindsTables, StoresSchemaNumber, IsUnderstood, runs_text, entries_text, pairs_text};
+ghost use Rattle.kt_store.specs.Common.{HasCleanDisk, IsLive, IsUnchanged, state, IsUnchangedOrRolledBack, IsDatabaseFault, Blank, Schema1, Describes, AttachSucceeds, AttachFails, IsNotBlank, WasClean, CommitsNothing, ReadsSchemaNumber, KeepsDatabase, ChecksTables, StoresSchemaNumber, IsPreparable, select_runs_sql, select_entries_sql, select_props_sql};
 
 use crate::StoreFault;
-use crate::batch::{Texts, commit};
-use crate::statements::{ask, probe, value_in};
-use crate::store_fault::StoreFailure;
+use crate::batch::{SqlTexts, commit};
+use crate::statements::{check_sql, execute_query, get_column};
+use crate::store_fault::DatabaseError;
 use sqlite::{Alter, Connection};
 
 // The statements that create the tables (docs/formats/store.md).
@@ -34,13 +34,13 @@ pub fn lives<S: Alter>(conn: &Connection<S>)
 }
 
 /// Creates the tables of schema 2 in a database without tables, in one commit.
-pub(crate) fn create<S: Alter>(conn: &mut Connection<S>) -> Result<(), StoreFault>
-    ensures taken { IsOf Blank (state S.Store conn.old)
+pub(crate) fn create_tables<S: Alter>(conn: &mut Connection<S>) -> Result<(), StoreFault>
+    ensures taken { Describes Blank (state S.Store conn.old)
         → OnOk result (AttachSucceeds Blank (state S.Store conn.old) (state S.Store conn.new)) }
-    ensures refused { IsOf Blank (state S.Store conn.old)
+    ensures refused { Describes Blank (state S.Store conn.old)
         → IfErr result (AttachFails Blank (state S.Store conn.old) (state S.Store conn.new)) }
     ensures earlier { WasClean S.Store conn.old conn.new }
-    ensures failed { IfErr result IsStoreFault }
+    ensures failed { IfErr result IsDatabaseFault }
 {
     let makes = [
         CREATE_META,
@@ -49,7 +49,7 @@ pub(crate) fn create<S: Alter>(conn: &mut Connection<S>) -> Result<(), StoreFaul
         CREATE_PROPS,
         "INSERT INTO meta (name, value) VALUES ('schema', 2)",
     ];
-    Ok(commit(conn, &Texts { texts: &makes })?)
+    Ok(commit(conn, &SqlTexts { texts: &makes })?)
 }
 
 /// Returns `true` if the database has no table.
@@ -62,51 +62,54 @@ pub(crate) fn is_blank<S: Alter>(conn: &Connection<S>) -> bool
 
 /// Reads the schema number from the table `meta`. Fails with `UnknownSchema` if the table has no
 /// schema number.
-pub(crate) fn schema_number<S: Alter>(conn: &mut Connection<S>) -> Result<i64, StoreFault>
-    ensures asks { AsksNumber S.Store conn.old conn.new }
-    ensures same { OnOk result (LeavesSchema S.Store conn.old conn.new) }
+pub(crate) fn read_schema_number<S: Alter>(conn: &mut Connection<S>) -> Result<i64, StoreFault>
+    ensures asks { ReadsSchemaNumber S.Store conn.old conn.new }
+    ensures same { OnOk result (KeepsDatabase S.Store conn.old conn.new) }
     ensures number { (n : ℤ) → StoresSchemaNumber n (state S.Store conn.old)
         → HasCleanDisk (state S.Store conn.new) → IfOk result (λ number. number ≡ n) }
     ensures taken { (n : ℤ) → StoresSchemaNumber n (state S.Store conn.old)
-        → HasCleanDisk (state S.Store conn.new) → IfErr result IsStoreFault }
-    ensures due { IfErr result (λ e. IsStoreFault e ⊎ (e ≡ StoreFault.UnknownSchema)) }
+        → HasCleanDisk (state S.Store conn.new) → IfErr result IsDatabaseFault }
+    ensures due { IfErr result (λ e. IsDatabaseFault e ⊎ (e ≡ StoreFault.UnknownSchema)) }
 {
-    let rows = ask(conn, "SELECT value FROM meta WHERE name = 'schema'", &[])?;
+    let rows = execute_query(conn, "SELECT value FROM meta WHERE name = 'schema'", &[])?;
     let Some(row) = rows.first() else {
         return Err(StoreFault::UnknownSchema);
     };
     if row.column_count() == 0 {
         return Err(StoreFault::UnknownSchema);
     }
-    let number = value_in::<i64>(row, 0)?;
+    let number = get_column::<i64>(row, 0)?;
     Ok(number)
 }
 
-/// Checks that SQLite can prepare the queries of a store: for runs, for entries and, if `old` is
-/// `false`, for properties. Schema 1 has no table of properties.
-pub(crate) fn find_tables<S: Alter>(conn: &mut Connection<S>, old: bool) -> Result<(), StoreFailure>
+/// Checks that SQLite can prepare the queries for runs, for entries and for properties. The last
+/// query is skipped if `old` is `true`: the tables have schema 1, which has no table of properties.
+pub(crate) fn check_tables<S: Alter>(
+    conn: &mut Connection<S>,
+    old: bool,
+) -> Result<(), DatabaseError>
     ensures same { HasCleanDisk (state S.Store conn.new)
         → OnOk result (IsUnchanged (state S.Store conn.old) (state S.Store conn.new)) }
     ensures rests { HasCleanDisk (state S.Store conn.new)
         → OnErr result (IsUnchangedOrRolledBack (state S.Store conn.old) (state S.Store conn.new)) }
     ensures understood { HasCleanDisk (state S.Store conn.new)
-        → OnOk result (IsUnderstood (state S.Store conn.old) runs_text
-        × IsUnderstood (state S.Store conn.old) entries_text
-        × (old ≡ false → IsUnderstood (state S.Store conn.old) pairs_text)) }
+        → OnOk result (IsPreparable (state S.Store conn.old) select_runs_sql
+        × IsPreparable (state S.Store conn.old) select_entries_sql
+        × (old ≡ false → IsPreparable (state S.Store conn.old) select_props_sql)) }
     ensures survives { CommitsNothing S.Store conn.old conn.new }
 {
-    probe(
+    check_sql(
         conn,
         "SELECT id, started, total, finished FROM runs ORDER BY id",
     )?;
-    probe(
+    check_sql(
         conn,
         "SELECT position, program, case_name, kind, reason, started, millis, body_out, body_err, clean_out, clean_err FROM entries WHERE run = ?1 ORDER BY position",
     )?;
     if old {
         return Ok(());
     }
-    probe(
+    check_sql(
         conn,
         "SELECT name, value FROM props WHERE run = ?1 AND position = ?2 ORDER BY place",
     )?;
@@ -116,55 +119,58 @@ pub(crate) fn find_tables<S: Alter>(conn: &mut Connection<S>, old: bool) -> Resu
 /// Returns `true` if the tables have schema 1, and `false` if they have schema 2. Fails with
 /// `UnknownSchema` if the schema number is missing or neither 1 nor 2. Also fails if the tables
 /// can't be queried.
-pub(crate) fn is_old<S: Alter>(conn: &mut Connection<S>) -> Result<bool, StoreFault>
-    ensures asks { AsksNumber S.Store conn.old conn.new }
-    ensures same { OnOk result (LeavesSchema S.Store conn.old conn.new) }
+pub(crate) fn has_schema_1<S: Alter>(conn: &mut Connection<S>) -> Result<bool, StoreFault>
+    ensures asks { ReadsSchemaNumber S.Store conn.old conn.new }
+    ensures same { OnOk result (KeepsDatabase S.Store conn.old conn.new) }
     ensures number { (n : ℤ) → StoresSchemaNumber n (state S.Store conn.old)
         → HasCleanDisk (state S.Store conn.new)
         → IfOk result (λ old. (old ≡ true → n ≡ pos 1) × (old ≡ false → n ≡ pos 2)) }
-    ensures tables { OnOk result (FindsTables S.Store conn.old conn.new) }
-    ensures taken { (n : ℤ) → StoresSchemaNumber n (state S.Store conn.old) → (n ≡ pos 1) ⊎ (n ≡ pos 2)
-        → HasCleanDisk (state S.Store conn.new) → IfErr result IsStoreFault }
-    ensures due { IfErr result (λ e. IsStoreFault e ⊎ (e ≡ StoreFault.UnknownSchema)) }
+    ensures tables { OnOk result (ChecksTables S.Store conn.old conn.new) }
+    ensures taken { (n : ℤ) → StoresSchemaNumber n (state S.Store conn.old)
+        → (n ≡ pos 1) ⊎ (n ≡ pos 2)
+        → HasCleanDisk (state S.Store conn.new) → IfErr result IsDatabaseFault }
+    ensures due { IfErr result (λ e. IsDatabaseFault e ⊎ (e ≡ StoreFault.UnknownSchema)) }
 {
-    let number = schema_number(conn)?;
+    let number = read_schema_number(conn)?;
     if number != 1 && number != 2 {
         return Err(StoreFault::UnknownSchema);
     }
     let old = number == 1;
-    find_tables(conn, old)?;
+    check_tables(conn, old)?;
     Ok(old)
 }
 
 /// Migrates a database of schema 1 to schema 2, in one commit.
 pub(crate) fn migrate<S: Alter>(conn: &mut Connection<S>) -> Result<(), StoreFault>
-    ensures taken { (runs : _) → IsOf (Older runs) (state S.Store conn.old)
-        → OnOk result (AttachSucceeds (Older runs) (state S.Store conn.old) (state S.Store conn.new)) }
-    ensures refused { (runs : _) → IsOf (Older runs) (state S.Store conn.old)
-        → IfErr result (AttachFails (Older runs) (state S.Store conn.old) (state S.Store conn.new)) }
+    ensures taken { (runs : _) → Describes (Schema1 runs) (state S.Store conn.old)
+        → OnOk result (AttachSucceeds (Schema1 runs) (state S.Store conn.old) (state S.Store
+        conn.new)) }
+    ensures refused { (runs : _) → Describes (Schema1 runs) (state S.Store conn.old)
+        → IfErr result (AttachFails (Schema1 runs) (state S.Store conn.old) (state S.Store
+        conn.new)) }
     ensures earlier { WasClean S.Store conn.old conn.new }
-    ensures failed { IfErr result IsStoreFault }
+    ensures failed { IfErr result IsDatabaseFault }
 {
     lives(conn);
     let raises = [
         CREATE_PROPS,
         "UPDATE meta SET value = 2 WHERE name = 'schema'",
     ];
-    Ok(commit(conn, &Texts { texts: &raises })?)
+    Ok(commit(conn, &SqlTexts { texts: &raises })?)
 }
 
 /// Checks the tables of a database of schema 1 or 2, and migrates schema 1 to schema 2. Fails with
 /// `UnknownSchema` if the schema number is missing or neither 1 nor 2.
 pub(crate) fn take<S: Alter>(conn: &mut Connection<S>) -> Result<(), StoreFault>
-    ensures taken { (was : _) → HasNumber was → IsOf was (state S.Store conn.old)
+    ensures taken { (was : _) → IsNotBlank was → Describes was (state S.Store conn.old)
         → OnOk result (AttachSucceeds was (state S.Store conn.old) (state S.Store conn.new)) }
-    ensures refused { (was : _) → HasNumber was → IsOf was (state S.Store conn.old)
+    ensures refused { (was : _) → IsNotBlank was → Describes was (state S.Store conn.old)
         → IfErr result (AttachFails was (state S.Store conn.old) (state S.Store conn.new)) }
     ensures earlier { WasClean S.Store conn.old conn.new }
-    ensures due { IfErr result (λ e. IsStoreFault e ⊎ (e ≡ StoreFault.UnknownSchema)) }
+    ensures due { IfErr result (λ e. IsDatabaseFault e ⊎ (e ≡ StoreFault.UnknownSchema)) }
 {
     lives(conn);
-    if is_old(conn)? {
+    if has_schema_1(conn)? {
         migrate(conn)?;
     }
     Ok(())
@@ -173,16 +179,16 @@ pub(crate) fn take<S: Alter>(conn: &mut Connection<S>) -> Result<(), StoreFault>
 /// Creates the tables of schema 2 in a database without tables. If the database has tables, checks
 /// them and migrates schema 1 to schema 2.
 pub(crate) fn create_or_adopt_tables<S: Alter>(conn: &mut Connection<S>) -> Result<(), StoreFault>
-    ensures taken { (was : _) → IsOf was (state S.Store conn.old)
+    ensures taken { (was : _) → Describes was (state S.Store conn.old)
         → OnOk result (AttachSucceeds was (state S.Store conn.old) (state S.Store conn.new)) }
-    ensures refused { (was : _) → IsOf was (state S.Store conn.old)
+    ensures refused { (was : _) → Describes was (state S.Store conn.old)
         → IfErr result (AttachFails was (state S.Store conn.old) (state S.Store conn.new)) }
-    ensures due { IfErr result (λ e. IsStoreFault e ⊎ (e ≡ StoreFault.UnknownSchema)) }
+    ensures due { IfErr result (λ e. IsDatabaseFault e ⊎ (e ≡ StoreFault.UnknownSchema)) }
 {
     lives(conn);
-    probe(conn, "SELECT 1")?;
+    check_sql(conn, "SELECT 1")?;
     if is_blank(conn) {
-        return create(conn);
+        return create_tables(conn);
     }
     take(conn)
 }

@@ -2,7 +2,7 @@ ghost use Rattle.std.specs.Prelude.{OnOk, OnErr};
 ghost use Rattle.kt_store.specs.Common.{Commits, HasCleanDisk, MayCommit, Survives, RollsBack, state};
 
 use crate::statements::step;
-use crate::store_fault::{OTHER_FAILURE, StoreFailure};
+use crate::store_fault::{DATABASE_FAILURE, DatabaseError};
 use sqlite::{Alter, Connection, Transaction};
 
 /// An interface to statements that are executed in order and committed together.
@@ -13,12 +13,13 @@ pub(crate) trait Batch {
     /// The statements with their parameters.
     ghost statements: { Self → List Statement };
 
-    /// The condition for a call of `fill`: the statements are those of the store, and the fields of
-    /// the batch agree and are in range.
+    /// The condition for a call of `fill`. Each statement creates a table of the store or can be
+    /// prepared over these tables. The fields of the batch are consistent and in range.
     ghost is_ready: { Self → Type 0 };
 
-    /// Executes the statements in order inside a transaction, without committing.
-    fn fill<S: Alter>(&self, tx: &mut Transaction<'_, S>) -> Result<(), StoreFailure>
+    /// Executes the statements in order inside a transaction, without committing. Fails with the
+    /// error of the first statement that fails.
+    fn fill<S: Alter>(&self, tx: &mut Transaction<'_, S>) -> Result<(), DatabaseError>
         requires { is_ready self.now }
         ensures same_reference { tx.new.conn.ghost_name ≡ tx.old.conn.ghost_name }
         ensures runs { OnOk result (ExecutesAll S.Store (statements self.now)
@@ -28,12 +29,12 @@ pub(crate) trait Batch {
 
 /// A batch of SQL texts without parameters.
 #[derive(Clone, Copy)]
-pub(crate) struct Texts<'a> {
+pub(crate) struct SqlTexts<'a> {
     /// The SQL texts, in the order of their execution.
     pub(crate) texts: &'a [&'a str],
 }
 
-impl Batch for Texts<'_> {
+impl Batch for SqlTexts<'_> {
     ghost use Rattle.std.specs.Prelude.{map};
     ghost use Rattle.kt_store.specs.Common.{AllByRecursion, IsOurs, plain_statements};
 
@@ -41,7 +42,7 @@ impl Batch for Texts<'_> {
 
     ghost is_ready = { λ t. AllByRecursion IsOurs (map (λ sql. sql.now) t.texts.now) };
 
-    fn fill<S: Alter>(&self, tx: &mut Transaction<'_, S>) -> Result<(), StoreFailure> {
+    fn fill<S: Alter>(&self, tx: &mut Transaction<'_, S>) -> Result<(), DatabaseError> {
         for text in self.texts {
             step(tx, text, &[])?;
         }
@@ -54,7 +55,7 @@ impl Batch for Texts<'_> {
 pub(crate) fn commit<S: Alter, B: Batch>(
     conn: &mut Connection<S>,
     batch: &B,
-) -> Result<(), StoreFailure>
+) -> Result<(), DatabaseError>
     requires { B.is_ready batch.now }
     ensures done { HasCleanDisk (state S.Store conn.new)
         → OnOk result (Commits S.Store (B.statements batch.now) conn.old conn.new) }
@@ -64,7 +65,7 @@ pub(crate) fn commit<S: Alter, B: Batch>(
         (MayCommit S.Store (B.statements batch.now) conn.old) }
 {
     if !conn.is_autocommit() {
-        return Err(OTHER_FAILURE);
+        return Err(DATABASE_FAILURE);
     }
     let mut tx = conn.transaction();
     batch.fill(&mut tx)?;

@@ -1,17 +1,17 @@
 ghost use Rattle.std.specs.Prelude.{List, [], ◌∷◌};
-ghost use Rattle.kt_store.specs.Common.{Run, Held, state, Survives, Keeps, IsSchema2OfOne, Leaves};
+ghost use Rattle.kt_store.specs.Common.{Run, Held, state, Survives, IsSchema2Of, IsSchema2OfOne, Leaves};
 
 use sqlite::Alter;
 
-/// Theorem: the runs that a crash may leave can be listed call by call. After a committed call, the
-/// list has only that call's runs. A later call that writes adds its runs to the list. A query adds
-/// nothing.
+/// Theorem: the lists of runs that a crash may leave follow from the calls. After a committed call,
+/// a crash leaves only the runs after this call. A later call that writes adds the runs after it to
+/// the possible outcomes. A query adds nothing.
 pub fn theorem_of_crashes<S: Alter>()
-    ensures done { (s : Held S) (runs : List Run) → Leaves (state S.Store s) (Keeps runs)
+    ensures done { (s : Held S) (runs : List Run) → Leaves (state S.Store s) (IsSchema2Of runs)
         → Leaves (state S.Store s) (IsSchema2OfOne (runs ∷ [])) }
     ensures written { (old new : Held S) (before : List (List Run)) (after : List Run)
         → Leaves (state S.Store old) (IsSchema2OfOne before)
-        → Survives (state S.Store old) (state S.Store new) (Keeps after)
+        → Survives (state S.Store old) (state S.Store new) (IsSchema2Of after)
         → Leaves (state S.Store new) (IsSchema2OfOne (after ∷ before)) }
     ensures read { (old new : Held S) (before : List (List Run))
         → Leaves (state S.Store old) (IsSchema2OfOne before)

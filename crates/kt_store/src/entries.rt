@@ -1,27 +1,29 @@
 ghost use Rattle.std.specs.Prelude.{◌≡◌, ◌⊎◌, ◌<◌, ◌≤◌, ◌^◌, length, map, Some, None, IfOk, IfErr, OnOk};
-ghost use Rattle.kt_store.specs.Common.{HoldsForRuns, AreWide, AreRuns, Entry as Stored, IsEntry, IsStoreFault, OnlyReadsRuns, entries_of, entry_at, pair_columns, pairs_of, run_at, whole_columns};
+ghost use Rattle.kt_store.specs.Common.{HoldsForRuns, AreWide, AreValidRuns, Entry as Stored, IsValidEntry, IsDatabaseFault, OnlyReadsRuns, entries_of, entry_at, pair_columns, pairs_of, run_at, whole_columns};
 
 use crate::StoreFault;
 use crate::heads::add;
-use crate::lookup::{key, look};
-use crate::outlines::{entry_in, pairs_in};
-use crate::statements::{query, value_in};
-use crate::store_fault::StoreFailure;
+use crate::lookup::{key, look_up_run};
+use crate::outlines::{entry_from_row, pairs_from_rows};
+use crate::statements::{get_column, query};
+use crate::store_fault::DatabaseError;
 use crate::value::int;
 use kt_base::Entry;
 use sqlite::{Alter, Connection, Row};
 use std::alloc::Global;
 
-/// Reads the rows of a run's entries, ordered by position. Returns no rows if there is no such run.
+/// Reads the rows of the entries of run `run`, ordered by position. Returns no rows if there is no
+/// such run.
 pub(crate) fn entry_rows<S: Alter>(
     conn: &mut Connection<S>,
     run: u32,
-) -> Result<Vec<Row>, StoreFailure>
+) -> Result<Vec<Row>, DatabaseError>
     ensures all { HoldsForRuns S.Store conn.old conn.new (λ runs.
         IfOk result (λ rows. rows.items
         ≡ map whole_columns (entries_of (run_at runs run)))) }
     ensures wide { IfOk result (λ rows. AreWide 11 rows.items) }
-    ensures valid { HoldsForRuns S.Store conn.old conn.new (λ runs. OnOk result (AreRuns runs)) }
+    ensures valid { HoldsForRuns S.Store conn.old conn.new (λ runs. OnOk result (AreValidRuns
+        runs)) }
     ensures looked { OnlyReadsRuns S.Store conn.old conn.new }
 {
     query(
@@ -32,12 +34,13 @@ pub(crate) fn entry_rows<S: Alter>(
     )
 }
 
-/// Reads the rows of the properties of the entry at `position`, in their recorded order.
+/// Reads the rows of the properties of the entry at `position` of run `run`, in their recorded
+/// order. Returns no rows if there is no such entry.
 fn pair_rows<S: Alter>(
     conn: &mut Connection<S>,
     run: u32,
     position: u32,
-) -> Result<Vec<Row>, StoreFailure>
+) -> Result<Vec<Row>, DatabaseError>
     ensures all { HoldsForRuns S.Store conn.old conn.new (λ runs.
         IfOk result (λ rows. rows.items
         ≡ map pair_columns (pairs_of (entry_at (run_at runs run) position)))) }
@@ -52,49 +55,50 @@ fn pair_rows<S: Alter>(
     )
 }
 
-/// Reads an entry from its row, and its properties from the table `props`.
-fn entry_of<S: Alter>(
+/// Reads an entry of run `run` from its row `row`, and its properties from the table `props`.
+fn read_entry<S: Alter>(
     conn: &mut Connection<S>,
     alloc: Global,
     run: u32,
     row: &Row,
-) -> Result<Entry, StoreFailure>
+) -> Result<Entry, DatabaseError>
     requires wide { 11 ≤ length row.now }
-    ensures entry { HoldsForRuns S.Store conn.old conn.new (λ runs. (e : Stored) → IsEntry e
+    ensures entry { HoldsForRuns S.Store conn.old conn.new (λ runs. (e : Stored) → IsValidEntry e
         → entry_at (run_at runs run) e.position ≡ Some e → row.now ≡ whole_columns e
         → IfOk result (λ x. x ≡ e)) }
     ensures looked { OnlyReadsRuns S.Store conn.old conn.new }
 {
-    let position = value_in::<u32>(row, 0)?;
+    let position = get_column::<u32>(row, 0)?;
     let pairs = pair_rows(conn, run, position)?;
-    let meta = pairs_in(alloc, &pairs)?;
-    entry_in(alloc, row, meta)
+    let meta = pairs_from_rows(alloc, &pairs)?;
+    entry_from_row(alloc, row, meta)
 }
 
-/// Reads entries from their rows, and their properties from the table `props`.
-fn entries_in<S: Alter>(
+/// Reads the entries of run `run` from their rows `rows`, and their properties from the table
+/// `props`.
+fn read_entries<S: Alter>(
     conn: &mut Connection<S>,
     alloc: Global,
     run: u32,
     rows: &[Row],
-) -> Result<Vec<Entry>, StoreFailure>
+) -> Result<Vec<Entry>, DatabaseError>
     requires wide { AreWide 11 rows.now }
-    ensures entries { HoldsForRuns S.Store conn.old conn.new (λ runs. AreRuns runs
+    ensures entries { HoldsForRuns S.Store conn.old conn.new (λ runs. AreValidRuns runs
         → rows.now ≡ map whole_columns (entries_of (run_at runs run))
         → IfOk result (λ found. found.items ≡ entries_of (run_at runs run))) }
     ensures looked { OnlyReadsRuns S.Store conn.old conn.new }
 {
     let mut entries = Vec::new(alloc);
     for row in rows {
-        let entry = entry_of(conn, alloc, run, row)?;
+        let entry = read_entry(conn, alloc, run, row)?;
         add(&mut entries, entry)?;
     }
     Ok(entries)
 }
 
-/// Reads the entries of a run with their properties and outputs, ordered by position. Fails with
-/// `NoRun` if no run has the number.
-pub(crate) fn all_entries<S: Alter>(
+/// Reads the entries of run `run` with their properties and outputs, ordered by position. Fails
+/// with `NoRun` if no run has this number.
+pub(crate) fn read_all_entries<S: Alter>(
     conn: &mut Connection<S>,
     alloc: Global,
     run: u64,
@@ -102,11 +106,12 @@ pub(crate) fn all_entries<S: Alter>(
     ensures entries { HoldsForRuns S.Store conn.old conn.new (λ runs.
         IfOk result (λ found. (r : _) × (run_at runs run ≡ Some r) × (found.items ≡ r.entries))) }
     ensures refused { HoldsForRuns S.Store conn.old conn.new (λ runs.
-        IfErr result (λ e. IsStoreFault e ⊎ ((e ≡ StoreFault.NoRun) × (run_at runs run ≡ None)))) }
+        IfErr result (λ e. IsDatabaseFault e ⊎ ((e ≡ StoreFault.NoRun)
+        × (run_at runs run ≡ None)))) }
     ensures looked { OnlyReadsRuns S.Store conn.old conn.new }
 {
-    look(conn, run)?;
+    look_up_run(conn, run)?;
     let number = key(run);
     let rows = entry_rows(conn, number)?;
-    Ok(entries_in(conn, alloc, number, &rows)?)
+    Ok(read_entries(conn, alloc, number, &rows)?)
 }

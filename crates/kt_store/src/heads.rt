@@ -1,12 +1,12 @@
 ghost use Rattle.std.specs.Prelude.{◌≡◌, ◌≤◌, ◌==◌, length, map, List, IfOk, IfSome, ◌++◌, [], ◌∷◌, OnOk, unwrap_or};
-ghost use Rattle.kt_store.specs.Common.{CountFrom, IsNumbered, HoldsForRuns, AreWide, OnlyReadsRuns, find, head_columns, head_of};
+ghost use Rattle.kt_store.specs.Common.{AreNumberedFrom, IsNumbered, HoldsForRuns, AreWide, OnlyReadsRuns, find, head_columns, head_of};
 ghost use Rattle.std.specs.Option.{option_copied};
 ghost use Rattle.kt_base.specs.declared.entry.Run.{Run as Stored};
 ghost use Rattle.kt_store.specs.declared.result_store.RunHead.{RunHead as Head};
 
 use crate::RunHead;
-use crate::statements::{query, value_in};
-use crate::store_fault::{StoreFailure, sure};
+use crate::statements::{get_column, query};
+use crate::store_fault::{DatabaseError, ensure_sound};
 use kt_base::NoMemory;
 use sqlite::{Alter, Connection, Row};
 use std::alloc::Global;
@@ -29,14 +29,14 @@ pub fn add<T: Drop>(items: &mut Vec<T>, item: T) -> Result<(), NoMemory>
 ///
 /// - `NoMemory`: an allocation failed.
 /// - `Failed`: a column isn't a number in range.
-pub fn head_in(row: &Row) -> Result<RunHead, StoreFailure>
+pub fn head_from_row(row: &Row) -> Result<RunHead, DatabaseError>
     requires { 4 ≤ length row.now }
     ensures head { (r : Stored) → row.now ≡ head_columns r → IfOk result (λ h. h ≡ head_of r) }
 {
-    let number = value_in::<u64>(row, 0)?;
-    let started = value_in::<u64>(row, 1)?;
-    let total = value_in::<u32>(row, 2)?;
-    let finished = value_in::<u64>(row, 3)?;
+    let number = get_column::<u64>(row, 0)?;
+    let started = get_column::<u64>(row, 1)?;
+    let total = get_column::<u32>(row, 2)?;
+    let finished = get_column::<u64>(row, 3)?;
     Ok(RunHead {
         number,
         started,
@@ -51,29 +51,29 @@ pub fn head_in(row: &Row) -> Result<RunHead, StoreFailure>
 ///
 /// - `NoMemory`: an allocation failed.
 /// - `Failed`: a column isn't a number in range, or the runs are not numbered from 1.
-pub fn heads_in(alloc: Global, rows: &[Row]) -> Result<Vec<RunHead>, StoreFailure>
+pub fn heads_from_rows(alloc: Global, rows: &[Row]) -> Result<Vec<RunHead>, DatabaseError>
     requires { AreWide 4 rows.now }
     ensures heads { (runs : List Stored) → rows.now ≡ map head_columns runs
         → IfOk result (λ heads. heads.items ≡ map head_of runs) }
-    ensures numbered { IfOk result (λ heads. CountFrom 1 heads.items) }
+    ensures numbered { IfOk result (λ heads. AreNumberedFrom 1 heads.items) }
 {
     let mut heads = Vec::new(alloc);
     for row in rows {
-        let head = head_in(row)?;
-        sure(head.number == heads.len() as u64 + 1)?;
+        let head = head_from_row(row)?;
+        ensure_sound(head.number == heads.len() as u64 + 1)?;
         add(&mut heads, head)?;
     }
     Ok(heads)
 }
 
 /// Reads the heads of all runs, ordered by number.
-pub(crate) fn all_heads<S: Alter>(
+pub(crate) fn read_heads<S: Alter>(
     conn: &mut Connection<S>,
     alloc: Global,
-) -> Result<Vec<RunHead>, StoreFailure>
+) -> Result<Vec<RunHead>, DatabaseError>
     ensures all { HoldsForRuns S.Store conn.old conn.new (λ runs.
         IfOk result (λ heads. heads.items ≡ map head_of runs)) }
-    ensures numbered { IfOk result (λ heads. CountFrom 1 heads.items) }
+    ensures numbered { IfOk result (λ heads. AreNumberedFrom 1 heads.items) }
     ensures looked { OnlyReadsRuns S.Store conn.old conn.new }
 {
     let rows = query(
@@ -82,11 +82,11 @@ pub(crate) fn all_heads<S: Alter>(
         4,
         &[],
     )?;
-    heads_in(alloc, &rows)
+    heads_from_rows(alloc, &rows)
 }
 
-/// Returns the first head with `number`, or `None` if there is no such head.
-fn head_numbered(heads: &[RunHead], number: u64) -> Option<&RunHead>
+/// Returns the first of `heads` with the run number `number`, or `None` if there is no such head.
+fn find_head(heads: &[RunHead], number: u64) -> Option<&RunHead>
     ensures found { option_copied result ≡ find (λ (head : Head). head.number == number)
         heads.now }
     ensures numbered { IfSome (option_copied result) (λ head. head.number ≡ number) }
@@ -94,12 +94,12 @@ fn head_numbered(heads: &[RunHead], number: u64) -> Option<&RunHead>
     heads.iter().find(|head| head.number == number)
 }
 
-/// Returns the first head with `number`, or the head of the last run if `number` is `None`. The
-/// number of the last run is the number of heads. Returns `None` if there is no such head.
-pub(crate) fn head_among(heads: &[RunHead], number: Option<u64>) -> Option<RunHead>
+/// Returns the head of run `number`, or of the last run if `number` is `None`. `heads` are the
+/// heads of all runs, ordered by number. Returns `None` if there is no such run.
+pub(crate) fn select_head(heads: &[RunHead], number: Option<u64>) -> Option<RunHead>
     ensures found { result ≡ find (λ (head : Head). head.number == unwrap_or number
         (length heads.now)) heads.now }
     ensures numbered { IfSome result (IsNumbered number) }
 {
-    head_numbered(heads, number.unwrap_or(heads.len() as u64)).copied()
+    find_head(heads, number.unwrap_or(heads.len() as u64)).copied()
 }

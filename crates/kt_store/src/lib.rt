@@ -22,4 +22,4 @@ pub use crashes::theorem_of_crashes;
 pub use outlines::no_output;
 pub use result_store::{CaseOutputs, ResultStore, RunHead, StoreSpec};
 pub use results::Results;
-pub use store_fault::{AllocationFailure, FailedStatement, StoreFault};
+pub use store_fault::{AllocationFailure, DatabaseFailure, StoreFault};

@@ -1,23 +1,24 @@
 ghost use Rattle.std.specs.Prelude.{◌≡◌, ◌⊎◌, ◌<◌, ◌≤◌, ◌^◌, IfOk, IfErr, OnOk, Some, None, option_map, unsigned_abs};
-ghost use Rattle.kt_store.specs.Common.{HoldsForRuns, last_run, IsStoreFault, OnlyReadsRuns, entries_of, run_at, flag, AreRuns, has_position};
+ghost use Rattle.kt_store.specs.Common.{HoldsForRuns, greatest_run_number, IsDatabaseFault, OnlyReadsRuns, entries_of, run_at, flag, AreValidRuns, has_position};
 
 use crate::StoreFault;
-use crate::statements::{has_rows, query, value_in};
-use crate::store_fault::StoreFailure;
+use crate::statements::{get_column, has_rows, query};
+use crate::store_fault::DatabaseError;
 use crate::value::int;
 use sqlite::{Alter, Connection};
 
 /// The maximum number of runs in a store (this profile).
-pub const MOST_RUNS: u32 = 1_000_000;
+pub const MAX_RUNS: u32 = 1_000_000;
 
-/// Reads the total and the finished flag of a run, or returns `None` if there is no such run. The
-/// flag is 1 for a finished run, else 0.
+/// Reads the number of selected cases and the finished flag of run `run`. The flag is 1 for a
+/// finished run, else 0. Returns `None` if there is no such run.
 pub(crate) fn find<S: Alter>(
     conn: &mut Connection<S>,
     run: u32,
-) -> Result<Option<(u64, u64)>, StoreFailure>
+) -> Result<Option<(u64, u64)>, DatabaseError>
     ensures looked { OnlyReadsRuns S.Store conn.old conn.new }
-    ensures valid { HoldsForRuns S.Store conn.old conn.new (λ runs. OnOk result (AreRuns runs)) }
+    ensures valid { HoldsForRuns S.Store conn.old conn.new (λ runs. OnOk result (AreValidRuns
+        runs)) }
     ensures found { HoldsForRuns S.Store conn.old conn.new (λ runs.
         IfOk result (λ o. o ≡ option_map (λ r. (r.total, unsigned_abs (flag r.finished))) (run_at
         runs run))) }
@@ -31,35 +32,39 @@ pub(crate) fn find<S: Alter>(
     let Some(row) = rows.first() else {
         return Ok(None);
     };
-    let total = value_in::<u64>(row, 0)?;
-    let finished = value_in::<u64>(row, 1)?;
+    let total = get_column::<u64>(row, 0)?;
+    let finished = get_column::<u64>(row, 1)?;
     Ok(Some((total, finished)))
 }
 
 /// Returns the key of the run with number `run` in the tables. The key is the number, or 0 for a
 /// number above 1,000,000. No run has the key 0.
 pub fn key(run: u64) -> u32
-    ensures low { result ≤ last_run }
-    ensures same { run ≤ last_run → result ≡ run }
-    ensures none { last_run < run → result ≡ 0 }
+    ensures low { result ≤ greatest_run_number }
+    ensures same { run ≤ greatest_run_number → result ≡ run }
+    ensures none { greatest_run_number < run → result ≡ 0 }
 {
-    if run <= u64::from(MOST_RUNS) {
+    if run <= u64::from(MAX_RUNS) {
         run as u32
     } else {
         0
     }
 }
 
-/// Returns the total of a run, and `true` if the run is finished. Fails with `NoRun` if no run has
-/// the number.
-pub(crate) fn look<S: Alter>(conn: &mut Connection<S>, run: u64) -> Result<(u64, bool), StoreFault>
-    ensures small { OnOk result (run ≤ last_run) }
+/// Returns the number of selected cases of run `run`, and whether the run is finished. Fails with
+/// `NoRun` if no run has this number.
+pub(crate) fn look_up_run<S: Alter>(
+    conn: &mut Connection<S>,
+    run: u64,
+) -> Result<(u64, bool), StoreFault>
+    ensures small { OnOk result (run ≤ greatest_run_number) }
     ensures looked { OnlyReadsRuns S.Store conn.old conn.new }
     ensures found { HoldsForRuns S.Store conn.old conn.new (λ runs.
         IfOk result (λ p. (r : _) × (run_at runs run ≡ Some r) × (p.0 ≡ r.total)
-        × (p.1 ≡ r.finished) × AreRuns runs)) }
+        × (p.1 ≡ r.finished) × AreValidRuns runs)) }
     ensures refused { HoldsForRuns S.Store conn.old conn.new (λ runs.
-        IfErr result (λ e. IsStoreFault e ⊎ ((e ≡ StoreFault.NoRun) × (run_at runs run ≡ None)))) }
+        IfErr result (λ e. IsDatabaseFault e ⊎ ((e ≡ StoreFault.NoRun)
+        × (run_at runs run ≡ None)))) }
 {
     let number = key(run);
     let Some((total, finished)) = find(conn, number)? else {
@@ -71,12 +76,12 @@ pub(crate) fn look<S: Alter>(conn: &mut Connection<S>, run: u64) -> Result<(u64,
     Ok((total, finished > 0))
 }
 
-/// Returns `true` if the run has an entry at `position`.
+/// Returns `true` if run `run` has an entry at `position`.
 pub(crate) fn there<S: Alter>(
     conn: &mut Connection<S>,
     run: u32,
     position: u32,
-) -> Result<bool, StoreFailure>
+) -> Result<bool, DatabaseError>
     ensures looked { OnlyReadsRuns S.Store conn.old conn.new }
     ensures found { HoldsForRuns S.Store conn.old conn.new (λ runs.
         IfOk result (λ b. b ≡ has_position position (entries_of (run_at runs run)))) }

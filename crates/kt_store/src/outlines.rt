@@ -1,5 +1,5 @@
 ghost use Rattle.std.specs.Prelude.{◌≡◌, ◌<◌, ◌≤◌, ℕ, length, map, List, ◌++◌, IfOk};
-ghost use Rattle.kt_store.specs.Common.{utf8, AllByRecursion, AreWide, Blob, column, no_output, IsEntry, IsPair, IsText, entry_columns, outlined, pair_columns, whole_columns};
+ghost use Rattle.kt_store.specs.Common.{utf8, AllByRecursion, AreWide, Blob, column, no_output, IsValidEntry, IsEncodableProperty, IsEncodable, entry_columns, outline_entry, pair_columns, whole_columns};
 ghost use Rattle.kt_base.specs.declared.entry.Entry.{Entry as Stored};
 ghost use Rattle.sqlite_value.specs.declared.value.Value.TheVariants.{Text as Words};
 ghost use Rattle.kt_base.specs.declared.entry.Output.{Output as Pair};
@@ -7,30 +7,31 @@ ghost use Rattle.kt_base.specs.declared.variable.Variable.{Variable as StoredPai
 ghost use Rattle.sqlite.specs.Order.{Row as Values};
 
 use crate::heads::add;
-use crate::statements::value_in;
-use crate::store_fault::{StoreFailure, present};
-use crate::value::kind_of;
+use crate::statements::get_column;
+use crate::store_fault::{DatabaseError, present};
+use crate::value::kind_from_code;
 use kt_base::{Bytes, Entry, Output, Text, Variable, Variables, Verdict};
 use sqlite::Row;
 use std::alloc::Global;
 
 /// Reads a text from column `at` of a row.
-fn text_in(row: &Row, at: usize) -> Result<Text, StoreFailure>
+fn get_text(row: &Row, at: usize) -> Result<Text, DatabaseError>
     requires { at < length row.now }
-    ensures text { (t : List ℕ) → IsText t → column row.now at ≡ Words (utf8 t)
+    ensures text { (t : List ℕ) → IsEncodable t → column row.now at ≡ Words (utf8 t)
         → IfOk result (λ x. x ≡ t) }
 {
-    let string = value_in::<String>(row, at)?;
+    let string = get_column::<String>(row, at)?;
     Ok(Text::from_string(string))
 }
 
 /// Reads a property from its row: the name, then the value.
-fn property_from_row(row: &Row) -> Result<Variable, StoreFailure>
+fn property_from_row(row: &Row) -> Result<Variable, DatabaseError>
     requires { 2 ≤ length row.now }
-    ensures { (v : StoredPair) → IsPair v → row.now ≡ pair_columns v → IfOk result (λ x. x ≡ v) }
+    ensures { (v : StoredPair) → IsEncodableProperty v → row.now ≡ pair_columns v
+        → IfOk result (λ x. x ≡ v) }
 {
-    let name = text_in(row, 0)?;
-    let value = text_in(row, 1)?;
+    let name = get_text(row, 0)?;
+    let value = get_text(row, 1)?;
     Ok(Variable { name, value })
 }
 
@@ -40,9 +41,10 @@ fn property_from_row(row: &Row) -> Result<Variable, StoreFailure>
 ///
 /// - `NoMemory`: an allocation failed.
 /// - `Failed`: a column isn't a text.
-pub fn pairs_in(alloc: Global, rows: &[Row]) -> Result<Variables, StoreFailure>
+pub fn pairs_from_rows(alloc: Global, rows: &[Row]) -> Result<Variables, DatabaseError>
     requires { AreWide 2 rows.now }
-    ensures { (vs : List StoredPair) → AllByRecursion IsPair vs → rows.now ≡ map pair_columns vs
+    ensures { (vs : List StoredPair) → AllByRecursion IsEncodableProperty vs
+        → rows.now ≡ map pair_columns vs
         → IfOk result (λ x. x ≡ vs) }
 {
     let mut pairs = Variables::new(alloc);
@@ -62,41 +64,41 @@ pub fn no_output(alloc: Global) -> Output
     }
 }
 
-/// Reads bytes from column `at` of a row.
-fn bytes_in(row: &Row, at: usize) -> Result<Bytes, StoreFailure>
+/// Reads the bytes of the blob in column `at` of a row.
+fn get_bytes(row: &Row, at: usize) -> Result<Bytes, DatabaseError>
     requires { at < length row.now }
     ensures bytes { IfOk result (λ b. column row.now at ≡ Blob b) }
 {
-    let items = value_in::<Vec<u8>>(row, at)?;
+    let items = get_column::<Vec<u8>>(row, at)?;
     Ok(Bytes::from_vec(items))
 }
 
 /// Reads an output from a row. `out` and `err` are the columns of standard output and standard
 /// error.
-fn output_in(row: &Row, out: usize, err: usize) -> Result<Output, StoreFailure>
+fn get_output(row: &Row, out: usize, err: usize) -> Result<Output, DatabaseError>
     requires { (out < length row.now) × (err < length row.now) }
     ensures output { (o : Pair) → column row.now out ≡ Blob o.out → column row.now err ≡ Blob o.err
         → IfOk result (λ x. x ≡ o) }
 {
-    let out = bytes_in(row, out)?;
-    let err = bytes_in(row, err)?;
+    let out = get_bytes(row, out)?;
+    let err = get_bytes(row, err)?;
     Ok(Output { out, err })
 }
 
-/// Reads an entry without its properties and outputs from its row.
-fn outline_from_row(alloc: Global, row: &Row) -> Result<Entry, StoreFailure>
+/// Reads an entry from its row, without its properties and outputs.
+fn entry_outline_from_row(alloc: Global, row: &Row) -> Result<Entry, DatabaseError>
     requires { 7 ≤ length row.now }
-    ensures { (e : Stored) (more : Values) → IsEntry e → row.now ≡ entry_columns e ++ more
-        → IfOk result (λ x. x ≡ outlined e) }
+    ensures { (e : Stored) (more : Values) → IsValidEntry e → row.now ≡ entry_columns e ++ more
+        → IfOk result (λ x. x ≡ outline_entry e) }
 {
-    let position = value_in::<u32>(row, 0)?;
-    let code = value_in::<u64>(row, 3)?;
-    let kind = present(kind_of(code))?;
-    let started = value_in::<u64>(row, 5)?;
-    let millis = value_in::<u64>(row, 6)?;
-    let program = text_in(row, 1)?;
-    let case_name = text_in(row, 2)?;
-    let reason = text_in(row, 4)?;
+    let position = get_column::<u32>(row, 0)?;
+    let code = get_column::<u64>(row, 3)?;
+    let kind = present(kind_from_code(code))?;
+    let started = get_column::<u64>(row, 5)?;
+    let millis = get_column::<u64>(row, 6)?;
+    let program = get_text(row, 1)?;
+    let case_name = get_text(row, 2)?;
+    let reason = get_text(row, 4)?;
     Ok(Entry {
         position,
         program,
@@ -110,34 +112,38 @@ fn outline_from_row(alloc: Global, row: &Row) -> Result<Entry, StoreFailure>
     })
 }
 
-/// Reads entries without their properties and outputs from their rows, in the same order.
+/// Reads entries from their rows, without their properties and outputs, in the same order.
 ///
 /// # Errors
 ///
 /// - `NoMemory`: an allocation failed.
 /// - `Failed`: a column has a wrong type or range, or the kind isn't 0 to 4.
-pub fn outline_in(alloc: Global, rows: &[Row]) -> Result<Vec<Entry>, StoreFailure>
+pub fn outline_from_rows(alloc: Global, rows: &[Row]) -> Result<Vec<Entry>, DatabaseError>
     requires { AreWide 7 rows.now }
-    ensures { (es : List Stored) → AllByRecursion IsEntry es → rows.now ≡ map entry_columns es
-        → IfOk result (λ found. found.items ≡ map outlined es) }
+    ensures { (es : List Stored) → AllByRecursion IsValidEntry es → rows.now ≡ map entry_columns es
+        → IfOk result (λ found. found.items ≡ map outline_entry es) }
 {
     let mut entries = Vec::new(alloc);
     for row in rows {
-        let entry = outline_from_row(alloc, row)?;
+        let entry = entry_outline_from_row(alloc, row)?;
         add(&mut entries, entry)?;
     }
     Ok(entries)
 }
 
 /// Reads an entry with its outputs from its row, and sets its properties to `meta`.
-pub(crate) fn entry_in(alloc: Global, row: &Row, meta: Variables) -> Result<Entry, StoreFailure>
+pub(crate) fn entry_from_row(
+    alloc: Global,
+    row: &Row,
+    meta: Variables,
+) -> Result<Entry, DatabaseError>
     requires { 11 ≤ length row.now }
-    ensures { (e : Stored) → IsEntry e → row.now ≡ whole_columns e → meta ≡ e.meta
+    ensures { (e : Stored) → IsValidEntry e → row.now ≡ whole_columns e → meta ≡ e.meta
         → IfOk result (λ x. x ≡ e) }
 {
-    let mut entry = outline_from_row(alloc, row)?;
-    entry.body = output_in(row, 7, 8)?;
-    entry.cleanup = output_in(row, 9, 10)?;
+    let mut entry = entry_outline_from_row(alloc, row)?;
+    entry.body = get_output(row, 7, 8)?;
+    entry.cleanup = get_output(row, 9, 10)?;
     entry.meta = meta;
     Ok(entry)
 }

@@ -1,11 +1,11 @@
 ghost use Rattle.std.specs.Prelude.{◌≡◌, ◌⊎◌, Some, None, IfOk, ◌<◌, ◌≤◌, ◌^◌, OnOk, OnErr, IfErr};
-ghost use Rattle.kt_store.specs.Common.{HoldsForRuns, last_run, IsStorable, IsStoreFault, KeepsRuns, OnlyReadsRuns, Changes, MayChange, CommitsNothingYet, ExecutesAll, ExecutesOne, CanAdd, HasNoReasonIfPassed, with_entry, put_refusal, entry_statements, pair_statement, pair_statements};
+ghost use Rattle.kt_store.specs.Common.{HoldsForRuns, greatest_run_number, IsStorable, IsDatabaseFault, KeepsRuns, OnlyReadsRuns, Changes, MayChange, CommitsNothingYet, ExecutesAll, ExecutesOne, CanAdd, HasNoReasonIfPassed, with_entry, put_refusal, entry_statements, pair_statement, pair_statements};
 
 use crate::StoreFault;
 use crate::batch::{Batch, commit};
-use crate::lookup::{key, look, there};
+use crate::lookup::{key, look_up_run, there};
 use crate::statements::step;
-use crate::store_fault::StoreFailure;
+use crate::store_fault::DatabaseError;
 use crate::value::{blob, code, int, text};
 use kt_base::{Entry, NoMemory, Text, Variable};
 use sqlite::{Alter, Connection, Transaction};
@@ -25,15 +25,15 @@ pub fn reason_of(alloc: Global, entry: &Entry) -> Result<Text, NoMemory>
     Ok(reason)
 }
 
-/// Inserts one property of an entry into the table `props`, inside a transaction. `place` is the
-/// index of the property among those of the entry.
-fn add_pair<S: Alter>(
+/// Inserts the property `pair` into the table `props`, inside a transaction. `place` is its index
+/// among the properties of the entry at `position` of run `run`.
+fn insert_property<S: Alter>(
     tx: &mut Transaction<'_, S>,
     run: u32,
     position: u32,
     place: u64,
     pair: &Variable,
-) -> Result<(), StoreFailure>
+) -> Result<(), DatabaseError>
     requires { place < 2 ^ 63 }
     ensures same_reference { tx.new.conn.ghost_name ≡ tx.old.conn.ghost_name }
     ensures runs { OnOk result (ExecutesOne S.Store (pair_statement run position place pair.now)
@@ -53,13 +53,14 @@ fn add_pair<S: Alter>(
     )
 }
 
-/// Inserts the properties of an entry into the table `props`, inside a transaction.
-fn add_pairs<S: Alter>(
+/// Inserts `pairs`, the properties of the entry at `position` of run `run`, into the table `props`,
+/// inside a transaction.
+fn insert_properties<S: Alter>(
     tx: &mut Transaction<'_, S>,
     run: u32,
     position: u32,
     pairs: &[Variable],
-) -> Result<(), StoreFailure>
+) -> Result<(), DatabaseError>
     ensures same_reference { tx.new.conn.ghost_name ≡ tx.old.conn.ghost_name }
     ensures runs { OnOk result (ExecutesAll S.Store (pair_statements run position 0 pairs.now)
         tx.old.conn.now tx.new.conn.now) }
@@ -67,7 +68,7 @@ fn add_pairs<S: Alter>(
 {
     let mut place = 0;
     for pair in pairs {
-        add_pair(tx, run, position, place, pair)?;
+        insert_property(tx, run, position, place, pair)?;
         place += 1;
     }
     Ok(())
@@ -80,7 +81,7 @@ pub(crate) fn fill<S: Alter>(
     run: u32,
     entry: &Entry,
     reason: &Text,
-) -> Result<(), StoreFailure>
+) -> Result<(), DatabaseError>
     requires reason { reason.now ≡ entry.now.verdict.reason }
     requires moments { IsStorable entry.now }
     ensures same_reference { tx.new.conn.ghost_name ≡ tx.old.conn.ghost_name }
@@ -106,18 +107,21 @@ pub(crate) fn fill<S: Alter>(
             blob(&entry.cleanup.err),
         ],
     )?;
-    add_pairs(tx, run, entry.position, entry.meta.as_slice())
+    insert_properties(tx, run, entry.position, entry.meta.as_slice())
 }
 
 /// A batch that inserts an entry and its properties into a run.
 #[derive(Clone, Copy)]
-pub(crate) struct NewEntry<'a> {
+pub(crate) struct EntryInsert<'a> {
+    /// The key of the run in the tables.
     run: u32,
+    /// The entry that is inserted.
     entry: &'a Entry,
+    /// The text of the reason of the entry's verdict.
     reason: &'a Text,
 }
 
-impl Batch for NewEntry<'_> {
+impl Batch for EntryInsert<'_> {
     ghost use Rattle.std.specs.Prelude.{◌≡◌, ◌<◌, ◌^◌};
     ghost use Rattle.kt_store.specs.Common.{IsStorable, entry_statements};
 
@@ -125,19 +129,19 @@ impl Batch for NewEntry<'_> {
 
     ghost is_ready = { λ n. (n.reason.now ≡ n.entry.now.verdict.reason) × IsStorable n.entry.now };
 
-    fn fill<S: Alter>(&self, tx: &mut Transaction<'_, S>) -> Result<(), StoreFailure> {
+    fn fill<S: Alter>(&self, tx: &mut Transaction<'_, S>) -> Result<(), DatabaseError> {
         fill(tx, self.run, self.entry, self.reason)
     }
 }
 
-/// Inserts an entry and its properties into a run, in one commit. The caller has checked that the
-/// run accepts the entry.
+/// Inserts an entry and its properties into a run, in one commit. `reason` is the text of the
+/// verdict's reason. The caller has checked that the run accepts the entry.
 pub(crate) fn add_entry<S: Alter>(
     conn: &mut Connection<S>,
     run: u32,
     entry: &Entry,
     reason: &Text,
-) -> Result<(), StoreFailure>
+) -> Result<(), DatabaseError>
     requires reason { reason.now ≡ entry.now.verdict.reason }
     requires moments { IsStorable entry.now }
     ensures added { OnOk result (Changes S.Store conn.old conn.new
@@ -146,7 +150,7 @@ pub(crate) fn add_entry<S: Alter>(
     ensures crash { MayChange S.Store conn.old conn.new
         (CanAdd run entry.now) (with_entry run entry.now) }
 {
-    commit(conn, &NewEntry { run, entry, reason })
+    commit(conn, &EntryInsert { run, entry, reason })
 }
 
 /// Checks that a run accepts an entry. Fails with the first of `NoRun`, `RunClosed`, `BadPosition`
@@ -156,15 +160,15 @@ pub(crate) fn check<S: Alter>(
     run: u64,
     entry: &Entry,
 ) -> Result<(), StoreFault>
-    ensures small { OnOk result (run ≤ last_run) }
+    ensures small { OnOk result (run ≤ greatest_run_number) }
     ensures looked { OnlyReadsRuns S.Store conn.old conn.new }
     ensures refused { HoldsForRuns S.Store conn.old conn.new (λ runs.
-        IfErr result (λ e. IsStoreFault e ⊎ (put_refusal runs run entry.now ≡ Some e))) }
+        IfErr result (λ e. IsDatabaseFault e ⊎ (put_refusal runs run entry.now ≡ Some e))) }
     ensures taken { HoldsForRuns S.Store conn.old conn.new (λ runs.
         OnOk result (HasNoReasonIfPassed entry.now → (put_refusal runs run entry.now ≡ None)
         × CanAdd run entry.now runs)) }
 {
-    let (total, finished) = look(conn, run)?;
+    let (total, finished) = look_up_run(conn, run)?;
     if finished {
         return Err(StoreFault::RunClosed);
     }

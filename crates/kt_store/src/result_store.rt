@@ -58,7 +58,7 @@ pub trait StoreSpec {
 /// exactly the data that was written.
 pub trait ResultStore: StoreSpec {
     ghost use Rattle.std.specs.Prelude.{IfErr, IfOk, IfSome};
-    ghost use Rattle.kt_store.specs.Common.{IsMoment, IsNumbered, IsStorable, IsStoreFault, Serves, Began, Put, Finished, Head, Outline, Pairs, Outputs, seen_as};
+    ghost use Rattle.kt_store.specs.Common.{IsMoment, IsNumbered, IsStorable, IsDatabaseFault, Serves, Began, Put, Finished, Head, Outline, Pairs, Outputs, map_success};
 
     /// Adds an unfinished run of `total` cases, and returns its number. `moment` is its start, in
     /// milliseconds since 1970-01-01 UTC.
@@ -72,9 +72,9 @@ pub trait ResultStore: StoreSpec {
         requires { IsMoment moment }
         ensures { Serves Self.StoreSpec (Began total moment result) self.old self.new };
 
-    /// Adds an entry and its properties to a run. The entry's start is in milliseconds since
-    /// 1970-01-01 UTC, up to the end of the year 9999. Its duration is in milliseconds, with the
-    /// same maximum.
+    /// Adds an entry and its properties to the run with the number `run`. The entry's start is in
+    /// milliseconds since 1970-01-01 UTC, up to the end of the year 9999. Its duration is in
+    /// milliseconds, with the same maximum.
     ///
     /// # Errors
     ///
@@ -90,7 +90,7 @@ pub trait ResultStore: StoreSpec {
         requires { IsStorable entry.now }
         ensures { Serves Self.StoreSpec (Put run entry.now result) self.old self.new };
 
-    /// Marks a run as finished. Entries can't be added to a finished run.
+    /// Marks the run with the number `run` as finished. Entries can't be added to a finished run.
     ///
     /// # Errors
     ///
@@ -115,9 +115,10 @@ pub trait ResultStore: StoreSpec {
         ensures served { Serves Self.StoreSpec (Head number result) self.old self.new }
         // Holds even if the store returns wrong data: the returned head has the requested number.
         ensures numbered { IfOk result (λ found. IfSome found (IsNumbered number)) }
-        ensures failed { IfErr result IsStoreFault };
+        ensures failed { IfErr result IsDatabaseFault };
 
-    /// Returns the entries of a run without their properties and outputs, ordered by position.
+    /// Returns the entries of the run with the number `run`, ordered by position, without their
+    /// properties and outputs.
     ///
     /// # Errors
     ///
@@ -125,11 +126,11 @@ pub trait ResultStore: StoreSpec {
     /// - `NoMemory`: memory ran out.
     /// - `Store`: the database failed.
     fn outline(&mut self, run: u64) -> Result<Vec<Entry>, StoreFault>
-        ensures { Serves Self.StoreSpec (Outline run (seen_as (λ found. found.items) result))
+        ensures { Serves Self.StoreSpec (Outline run (map_success (λ found. found.items) result))
             self.old self.new };
 
-    /// Returns the properties of the entry at `position` of a run, in their recorded order. Returns
-    /// no properties if there is no such run or entry.
+    /// Returns the properties of the entry at `position` of run `run`, in their recorded order.
+    /// Returns no properties if there is no such run or entry.
     ///
     /// # Errors
     ///
@@ -138,11 +139,11 @@ pub trait ResultStore: StoreSpec {
     fn pairs(&mut self, run: u64, position: u32) -> Result<Variables, StoreFault>
         ensures { Serves Self.StoreSpec (Pairs run position result) self.old self.new };
 
-    /// Returns the outputs of the entry at `position` of a run.
+    /// Returns the outputs of the body and the cleanup of the entry at `position` of run `run`.
     ///
     /// # Errors
     ///
-    /// - `NoRun`: no run has the number, or the run has no entry at the position.
+    /// - `NoRun`: no run has the number `run`, or the run has no entry at `position`.
     /// - `NoMemory`: memory ran out.
     /// - `Store`: the database failed.
     fn outputs(&mut self, run: u64, position: u32) -> Result<CaseOutputs, StoreFault>

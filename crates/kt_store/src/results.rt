@@ -1,9 +1,9 @@
 use crate::attach::create_or_adopt_tables;
-use crate::entries::all_entries;
-use crate::heads::{all_heads, head_among};
+use crate::entries::read_all_entries;
+use crate::heads::{read_heads, select_head};
 use crate::lookup::key;
 use crate::put::{add_entry, check, reason_of};
-use crate::run_rows::{self, add_run, is_full, mark};
+use crate::run_rows::{self, add_run, is_full, mark_finished};
 use crate::{RunHead, StoreFault};
 use kt_base::Entry;
 use sqlite::{Alter, Connection};
@@ -18,7 +18,9 @@ use std::marker::Model;
 /// was written, no other process writes the database, and the connection is open.
 #[derive(Drop)]
 pub struct Results<S: Alter> {
+    /// The connection to the database.
     conn: Connection<S>,
+    /// The allocator of the entries and heads that are read.
     alloc: Global,
 }
 
@@ -34,7 +36,7 @@ impl<S: Alter> Model for Results<S> {
 
 impl<S: Alter> Results<S> {
     ghost use Rattle.std.specs.Prelude.{◌≡◌, ◌⊎◌, Some, None, IfOk, IfErr, IfSome, map};
-    ghost use Rattle.kt_store.specs.Common.{HoldsForRuns, state, CountFrom, IsMoment, IsNumbered, IsStorable, IsStoreFault, IsOf, AttachSucceeds, AttachFails, Reads, Serves, Began, Put, Finished, Head, head_of, results, run_at};
+    ghost use Rattle.kt_store.specs.Common.{HoldsForRuns, state, AreNumberedFrom, IsMoment, IsNumbered, IsStorable, IsDatabaseFault, Describes, AttachSucceeds, AttachFails, Reads, Serves, Began, Put, Finished, Head, head_of, results, run_at};
 
     /// Creates the tables of schema 2 in a database without tables, or migrates schema 1 to schema
     /// 2, in one commit. A database of schema 2 is only checked.
@@ -52,12 +54,13 @@ impl<S: Alter> Results<S> {
         alloc: Global,
         connection: Connection<S>,
     ) -> Result<Results<S>, (StoreFault, Connection<S>)>
-        ensures taken { (was : _) → IsOf was (state S.Store connection)
+        ensures taken { (was : _) → Describes was (state S.Store connection)
             → IfOk result (λ r. AttachSucceeds was (state S.Store connection) (state S.Store r)) }
-        ensures refused { (was : _) → IsOf was (state S.Store connection)
-            → IfErr result (λ e. AttachFails was (state S.Store connection) (state S.Store e.1) e.0) }
+        ensures refused { (was : _) → Describes was (state S.Store connection)
+            → IfErr result (λ e. AttachFails was (state S.Store connection) (state S.Store e.1)
+            e.0) }
         // For any database, the error is `NoMemory`, `Store` or `UnknownSchema`.
-        ensures due { IfErr result (λ e. IsStoreFault e.0 ⊎ (e.0 ≡ StoreFault.UnknownSchema)) }
+        ensures due { IfErr result (λ e. IsDatabaseFault e.0 ⊎ (e.0 ≡ StoreFault.UnknownSchema)) }
     {
         let mut conn = connection;
         match create_or_adopt_tables(&mut conn) {
@@ -100,7 +103,7 @@ impl<S: Alter> Results<S> {
         Ok(add_run(&mut self.conn, total, moment)?)
     }
 
-    /// Adds an entry and its properties to a run.
+    /// Adds an entry and its properties to the run with the number `run`.
     ///
     /// # Errors
     ///
@@ -114,7 +117,7 @@ impl<S: Alter> Results<S> {
         Ok(add_entry(&mut self.conn, key(run), entry, &reason)?)
     }
 
-    /// Marks a run as finished. Entries can't be added to a finished run.
+    /// Marks the run with the number `run` as finished. Entries can't be added to a finished run.
     ///
     /// # Errors
     ///
@@ -123,7 +126,7 @@ impl<S: Alter> Results<S> {
         ensures { Serves (results S.Store) (Finished run result) self.old self.new }
     {
         run_rows::check(&mut self.conn, run)?;
-        Ok(mark(&mut self.conn, key(run))?)
+        Ok(mark_finished(&mut self.conn, key(run))?)
     }
 
     /// Returns the heads of all runs, ordered by number. A head is a run without its entries.
@@ -136,9 +139,9 @@ impl<S: Alter> Results<S> {
         ensures reads { Reads (results S.Store) self.old self.new }
         ensures heads { HoldsForRuns S.Store self.old self.new (λ runs.
             IfOk result (λ heads. heads.items ≡ map head_of runs)) }
-        ensures failed { IfErr result IsStoreFault }
+        ensures failed { IfErr result IsDatabaseFault }
     {
-        Ok(all_heads(&mut self.conn, self.alloc)?)
+        Ok(read_heads(&mut self.conn, self.alloc)?)
     }
 
     /// Returns the head of run `number`, or of the last run if `number` is `None`. A head is a run
@@ -151,17 +154,18 @@ impl<S: Alter> Results<S> {
         ensures served { Serves (results S.Store) (Head number result) self.old self.new }
         // Holds for any tables: the returned head has the requested number.
         ensures numbered { IfOk result (λ found. IfSome found (IsNumbered number)) }
-        ensures failed { IfErr result IsStoreFault }
+        ensures failed { IfErr result IsDatabaseFault }
     {
         let heads = self.runs()?;
-        Ok(head_among(&heads, number))
+        Ok(select_head(&heads, number))
     }
 
-    /// Returns the entries of a run with their properties and outputs, ordered by position.
+    /// Returns the entries of the run with the number `run`, ordered by position, with their
+    /// properties and outputs.
     ///
     /// # Errors
     ///
-    /// - `NoRun`: no run has the number.
+    /// - `NoRun`: no run has the number `run`.
     /// - `Store`: a statement failed, or a row has a wrong value.
     /// - `NoMemory`: memory ran out.
     pub fn entries(&mut self, run: u64) -> Result<Vec<Entry>, StoreFault>
@@ -170,9 +174,9 @@ impl<S: Alter> Results<S> {
             IfOk result (λ found. (r : _) × (run_at runs run ≡ Some r)
             × (found.items ≡ r.entries))) }
         ensures refused { HoldsForRuns S.Store self.old self.new (λ runs.
-            IfErr result (λ e. IsStoreFault e ⊎ ((e ≡ StoreFault.NoRun)
+            IfErr result (λ e. IsDatabaseFault e ⊎ ((e ≡ StoreFault.NoRun)
             × (run_at runs run ≡ None)))) }
     {
-        all_entries(&mut self.conn, self.alloc, run)
+        read_all_entries(&mut self.conn, self.alloc, run)
     }
 }

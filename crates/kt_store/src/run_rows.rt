@@ -1,40 +1,43 @@
 ghost use Rattle.std.specs.Prelude.{◌≡◌, ◌<◌, ◌≤◌, ◌++◌, suc, [], ◌∷◌, length, true, false, IfOk, OnOk, OnErr, IfErr, ◌⊎◌, ◌^◌, Some, None};
-ghost use Rattle.kt_store.specs.Common.{HoldsForRuns, last_run, IsMoment, HasCleanDisk, state, IsStoreFault, KeepsRuns, OnlyReadsRuns, Changes, MayChange, new_run, StandsFor, IsComplete, finish, finish_refusal};
+ghost use Rattle.kt_store.specs.Common.{HoldsForRuns, greatest_run_number, IsMoment, HasCleanDisk, state, IsDatabaseFault, KeepsRuns, OnlyReadsRuns, Changes, MayChange, new_run, StandsFor, IsComplete, finish, finish_refusal};
 
 use crate::StoreFault;
 use crate::entries::entry_rows;
-use crate::lookup::{MOST_RUNS, find, key, look};
+use crate::lookup::{MAX_RUNS, find, key, look_up_run};
 use crate::statements::execute;
-use crate::store_fault::StoreFailure;
+use crate::store_fault::DatabaseError;
 use crate::value::int;
 use sqlite::{Alter, Connection};
 
-/// Returns `true` if there are 1,000,000 runs.
-pub(crate) fn is_full<S: Alter>(conn: &mut Connection<S>) -> Result<bool, StoreFailure>
+/// Returns `true` if the store has 1,000,000 runs, the maximum.
+pub(crate) fn is_full<S: Alter>(conn: &mut Connection<S>) -> Result<bool, DatabaseError>
     ensures full { HoldsForRuns S.Store conn.old conn.new (λ runs.
-        IfOk result (λ full. (full ≡ true → last_run ≤ length runs) × (full ≡ false
-        → length runs < last_run))) }
+        IfOk result (λ full. (full ≡ true → greatest_run_number ≤ length runs) × (full ≡ false
+        → length runs < greatest_run_number))) }
     ensures looked { OnlyReadsRuns S.Store conn.old conn.new }
 {
-    Ok(find(conn, MOST_RUNS)?.is_some())
+    Ok(find(conn, MAX_RUNS)?.is_some())
 }
 
-/// Inserts an unfinished run with the next number, and returns this number. The caller has checked
+/// Inserts an unfinished run of `total` cases with the next number, and returns this number.
+/// `moment` is the start of the run, in milliseconds since 1970-01-01 UTC. The caller has checked
 /// that there are fewer than 1,000,000 runs.
 pub(crate) fn add_run<S: Alter>(
     conn: &mut Connection<S>,
     total: u32,
     moment: u64,
-) -> Result<u64, StoreFailure>
+) -> Result<u64, DatabaseError>
     requires { IsMoment moment }
     ensures number { (runs : _) → StandsFor (state S.Store conn.old) runs
-        → (HasCleanDisk (state S.Store conn.old) → length runs < last_run)
+        → (HasCleanDisk (state S.Store conn.old) → length runs < greatest_run_number)
         → HasCleanDisk (state S.Store conn.new) → IfOk result (λ n. n ≡ suc (length runs)) }
     ensures added { OnOk result (Changes S.Store conn.old conn.new
-        (λ runs. length runs < last_run) (λ runs. runs ++ new_run runs total moment ∷ [])) }
+        (λ runs. length runs < greatest_run_number) (λ runs. runs ++ new_run runs total moment ∷
+        [])) }
     ensures kept { OnErr result (KeepsRuns S.Store conn.old conn.new) }
     ensures crash { MayChange S.Store conn.old conn.new
-        (λ runs. length runs < last_run) (λ runs. runs ++ new_run runs total moment ∷ []) }
+        (λ runs. length runs < greatest_run_number) (λ runs. runs ++ new_run runs total moment ∷
+        []) }
 {
     execute(
         conn,
@@ -47,14 +50,14 @@ pub(crate) fn add_run<S: Alter>(
 /// Checks that a run can be finished. Fails with the first of `NoRun`, `RunClosed` and `Incomplete`
 /// that applies.
 pub(crate) fn check<S: Alter>(conn: &mut Connection<S>, run: u64) -> Result<(), StoreFault>
-    ensures small { OnOk result (run ≤ last_run) }
+    ensures small { OnOk result (run ≤ greatest_run_number) }
     ensures looked { OnlyReadsRuns S.Store conn.old conn.new }
     ensures refused { HoldsForRuns S.Store conn.old conn.new (λ runs.
-        IfErr result (λ e. IsStoreFault e ⊎ (finish_refusal runs run ≡ Some e))) }
+        IfErr result (λ e. IsDatabaseFault e ⊎ (finish_refusal runs run ≡ Some e))) }
     ensures taken { HoldsForRuns S.Store conn.old conn.new (λ runs.
         OnOk result ((finish_refusal runs run ≡ None) × IsComplete run runs)) }
 {
-    let (total, finished) = look(conn, run)?;
+    let (total, finished) = look_up_run(conn, run)?;
     if finished {
         return Err(StoreFault::RunClosed);
     }
@@ -67,7 +70,10 @@ pub(crate) fn check<S: Alter>(conn: &mut Connection<S>, run: u64) -> Result<(), 
 }
 
 /// Marks a run as finished, in one commit. The caller has checked that the run has all its entries.
-pub(crate) fn mark<S: Alter>(conn: &mut Connection<S>, run: u32) -> Result<(), StoreFailure>
+pub(crate) fn mark_finished<S: Alter>(
+    conn: &mut Connection<S>,
+    run: u32,
+) -> Result<(), DatabaseError>
     ensures marked { OnOk result (Changes S.Store conn.old conn.new (IsComplete run) (finish run)) }
     ensures kept { OnErr result (KeepsRuns S.Store conn.old conn.new) }
     ensures crash { MayChange S.Store conn.old conn.new (IsComplete run) (finish run) }

@@ -1,14 +1,14 @@
 ghost use Rattle.std.specs.Prelude.{◌≡◌, ◌<◌, IfOk, OnOk, OnErr, nat_lt, length, []};
-ghost use Rattle.kt_store.specs.Common.{HoldsForRuns, bound, IsPlain, understood, HasCleanDisk, Survives, IsUnchanged, state, column, CommitsNothing, OnlyReadsRuns, Asked, AreWide, HasColumns, MayShow, MayExecute, QueriesRuns, Executed, CommitsNothingYet, IsOurs, ExecutesOne, IsUnchangedOrRolledBack, IsUnderstood, schema_2};
+ghost use Rattle.kt_store.specs.Common.{HoldsForRuns, bound, IsPlain, understood, HasCleanDisk, Survives, IsUnchanged, state, column, CommitsNothing, OnlyReadsRuns, RunsQuery, AreWide, HasColumns, QueryMayCommit, StatementMayCommit, QueriesRuns, RunsStatement, CommitsNothingYet, IsOurs, ExecutesOne, IsUnchangedOrRolledBack, IsPreparable, schema_2};
 
-use crate::store_fault::StoreFailure;
+use crate::store_fault::DatabaseError;
 use sqlite::types::FromSql;
 use sqlite::{Alter, Connection, Row, Transaction};
 use sqlite_value::value::ValueRef;
 
 /// Reads a value of type `T` from column `at` of a row. Fails if the value has another type or is
 /// out of range.
-pub(crate) fn value_in<T: FromSql>(row: &Row, at: usize) -> Result<T, StoreFailure>
+pub(crate) fn get_column<T: FromSql>(row: &Row, at: usize) -> Result<T, DatabaseError>
     requires { at < length row.now }
     ensures value { IfOk result (T.FromSql.reads_as (column row.now at)) }
 {
@@ -16,36 +16,37 @@ pub(crate) fn value_in<T: FromSql>(row: &Row, at: usize) -> Result<T, StoreFailu
     Ok(value)
 }
 
-/// Checks that the connection is open and that SQLite can prepare `sql` over its tables.
-pub(crate) fn probe<S: Alter>(conn: &mut Connection<S>, sql: &str) -> Result<(), StoreFailure>
+/// Checks that the connection is open and that SQLite can prepare `sql` over the tables of its
+/// database.
+pub(crate) fn check_sql<S: Alter>(conn: &mut Connection<S>, sql: &str) -> Result<(), DatabaseError>
     requires { IsPlain (understood schema_2 sql.now) }
     ensures same { HasCleanDisk (state S.Store conn.new)
         → OnOk result (IsUnchanged (state S.Store conn.old) (state S.Store conn.new)) }
     ensures rests { HasCleanDisk (state S.Store conn.new)
         → OnErr result (IsUnchangedOrRolledBack (state S.Store conn.old) (state S.Store conn.new)) }
     ensures understood { HasCleanDisk (state S.Store conn.new)
-        → OnOk result (IsUnderstood (state S.Store conn.old) sql.now) }
+        → OnOk result (IsPreparable (state S.Store conn.old) sql.now) }
     ensures survives { CommitsNothing S.Store conn.old conn.new }
 {
     conn.prepare(sql)?;
     Ok(())
 }
 
-/// Executes a query and returns its rows. Fails without running the query if SQLite can't prepare
-/// it, as on a closed connection.
-pub(crate) fn ask<S: Alter>(
+/// Executes the query `sql` and returns its rows. `params` are the values of its parameters. Fails
+/// without running the query if SQLite can't prepare it, as on a closed connection.
+pub(crate) fn execute_query<S: Alter>(
     conn: &mut Connection<S>,
     sql: &str,
     params: &[ValueRef<'_>],
-) -> Result<Vec<Row>, StoreFailure>
+) -> Result<Vec<Row>, DatabaseError>
     requires { IsPlain (understood schema_2 sql.now) }
     ensures rows { HasCleanDisk (state S.Store conn.new)
-        → IfOk result (λ rows. Asked S.Store sql.now
+        → IfOk result (λ rows. RunsQuery S.Store sql.now
         (bound params.now) conn.old conn.new rows.items) }
     ensures rests { HasCleanDisk (state S.Store conn.new)
         → OnErr result (IsUnchangedOrRolledBack (state S.Store conn.old) (state S.Store conn.new)) }
     ensures survives { Survives (state S.Store conn.old) (state S.Store conn.new)
-        (MayShow S.Store sql.now (bound params.now) conn.old) }
+        (QueryMayCommit S.Store sql.now (bound params.now) conn.old) }
 {
     let statement = conn.prepare(sql)?;
     let rows = statement.query_all(conn, params)?;
@@ -53,7 +54,7 @@ pub(crate) fn ask<S: Alter>(
 }
 
 /// Checks that each row has at least `width` columns.
-fn have_columns(rows: &[Row], width: usize) -> Result<(), StoreFailure>
+fn check_columns(rows: &[Row], width: usize) -> Result<(), DatabaseError>
     requires { 0 < width }
     ensures wide { OnOk result (AreWide width rows.now) }
 {
@@ -65,51 +66,53 @@ fn have_columns(rows: &[Row], width: usize) -> Result<(), StoreFailure>
     Ok(())
 }
 
-/// Executes a query over the tables of a store and returns its rows. Fails if a row has fewer than
-/// `width` columns.
+/// Executes the query `sql` over the tables of a store and returns its rows. `params` are the
+/// values of its parameters. Fails if a row has fewer than `width` columns.
 pub(crate) fn query<S: Alter>(
     conn: &mut Connection<S>,
     sql: &str,
     width: usize,
     params: &[ValueRef<'_>],
-) -> Result<Vec<Row>, StoreFailure>
+) -> Result<Vec<Row>, DatabaseError>
     requires plain { IsPlain (understood schema_2 sql.now) }
     requires width { HasColumns width (understood schema_2 sql.now) }
     ensures shown { HoldsForRuns S.Store conn.old conn.new (λ runs.
-        IfOk result (λ rows. QueriesRuns S.Store runs sql.now (bound params.now) conn.new rows.items)) }
+        IfOk result (λ rows. QueriesRuns S.Store runs sql.now (bound params.now) conn.new
+        rows.items)) }
     ensures wide { IfOk result (λ rows. AreWide width rows.items) }
     ensures looked { OnlyReadsRuns S.Store conn.old conn.new }
 {
-    let rows = ask(conn, sql, params)?;
-    have_columns(&rows, width)?;
+    let rows = execute_query(conn, sql, params)?;
+    check_columns(&rows, width)?;
     Ok(rows)
 }
 
-/// Executes a statement other than a query.
+/// Executes the statement `sql`, which returns no rows. `params` are the values of its parameters.
 pub(crate) fn execute<S: Alter>(
     conn: &mut Connection<S>,
     sql: &str,
     params: &[ValueRef<'_>],
-) -> Result<(), StoreFailure>
+) -> Result<(), DatabaseError>
     requires { IsPlain (understood schema_2 sql.now) }
     ensures executed { HasCleanDisk (state S.Store conn.new)
-        → OnOk result (Executed S.Store sql.now (bound params.now) conn.old conn.new) }
+        → OnOk result (RunsStatement S.Store sql.now (bound params.now) conn.old conn.new) }
     ensures rests { HasCleanDisk (state S.Store conn.new)
         → OnErr result (IsUnchangedOrRolledBack (state S.Store conn.old) (state S.Store conn.new)) }
     ensures survives { Survives (state S.Store conn.old) (state S.Store conn.new)
-        (MayExecute S.Store sql.now (bound params.now) conn.old) }
+        (StatementMayCommit S.Store sql.now (bound params.now) conn.old) }
 {
     let statement = conn.prepare(sql)?;
     statement.execute(conn, params)?;
     Ok(())
 }
 
-/// Executes a statement inside a transaction, without committing.
+/// Executes the statement `sql` inside a transaction, without committing. `params` are the values
+/// of its parameters.
 pub(crate) fn step<S: Alter>(
     tx: &mut Transaction<'_, S>,
     sql: &str,
     params: &[ValueRef<'_>],
-) -> Result<(), StoreFailure>
+) -> Result<(), DatabaseError>
     requires { IsOurs sql.now }
     ensures same_reference { tx.new.conn.ghost_name ≡ tx.old.conn.ghost_name }
     ensures runs { OnOk result (ExecutesOne S.Store (sql.now, bound params.now, [])

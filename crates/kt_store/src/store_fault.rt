@@ -1,7 +1,7 @@
 //! Errors of the results store.
 
 ghost use Rattle.std.specs.Prelude.{◌≡◌, true, false, Some, None, IfOk, OnOk, OnErr};
-ghost use Rattle.kt_store.specs.Common.{IsNoMemory, IsOfError, IsOfRecoverError, IsOfTreeError, IsOfWriteError, IsOutOfMemory, IsShort, IsStoreFault};
+ghost use Rattle.kt_store.specs.Common.{IsNoMemory, MatchesSqlError, MatchesRecoverError, MatchesTreeError, MatchesWriteError, IsOutOfMemory, IsAllocationFailure, IsDatabaseFault};
 
 use kt_base::{NoMemory, OUT_OF_MEMORY};
 use sqlite::{Error as SqlError, ErrorCode};
@@ -11,15 +11,15 @@ use sqlite_trees::error::StoreError;
 use std::io::ErrorKind;
 use thiserror::Error;
 
-/// Errors returned by a results store. `Display` prints the text of [`StoreFault::words`].
+/// Errors returned by a results store. `Display` prints the message of [`StoreFault::message`].
 #[derive(Clone, Copy, Debug, Error)]
-#[error("{}", self.words())]
+#[error("{}", self.message())]
 pub enum StoreFault {
     /// An allocation failed.
     NoMemory(AllocationFailure),
     /// The database failed.
-    Store(FailedStatement),
-    /// No run has the requested number.
+    Store(DatabaseFailure),
+    /// No run has the requested number, or the run has no entry at the requested position.
     NoRun,
     /// The run is finished, so it can't be changed.
     RunClosed,
@@ -37,11 +37,11 @@ pub enum StoreFault {
 
 impl StoreFault {
     ghost use Rattle.std.specs.Prelude.{◌≡◌};
-    ghost use Rattle.kt_store.specs.Ask.{fault_words};
+    ghost use Rattle.kt_store.specs.Ask.{fault_message};
 
     /// Returns the message that a command prints for the fault (this profile). Allocates nothing.
-    pub fn words(&self) -> &'static str
-        ensures { result.now ≡ fault_words self.now }
+    pub fn message(&self) -> &'static str
+        ensures { result.now ≡ fault_message self.now }
     {
         match self {
             StoreFault::NoMemory(_) => OUT_OF_MEMORY,
@@ -57,133 +57,136 @@ impl StoreFault {
 
 /// Errors returned by a database operation of the store: memory ran out, or the database failed.
 #[derive(Clone, Copy)]
-pub enum StoreFailure {
+pub enum DatabaseError {
     /// An allocation failed.
     NoMemory(AllocationFailure),
     /// The database failed.
-    Failed(FailedStatement),
+    Failed(DatabaseFailure),
 }
 
-impl From<StoreFailure> for StoreFault {
-    ghost use Rattle.kt_store.specs.Ask.{IsStoreFault};
+impl From<DatabaseError> for StoreFault {
+    ghost use Rattle.kt_store.specs.Ask.{IsDatabaseFault};
 
-    ghost from_gives = { λ _ fault. IsStoreFault fault };
+    ghost from_gives = { λ _ fault. IsDatabaseFault fault };
 
-    fn from(trouble: StoreFailure) -> StoreFault {
+    fn from(trouble: DatabaseError) -> StoreFault {
         match trouble {
-            StoreFailure::NoMemory(shortage) => StoreFault::NoMemory(shortage),
-            StoreFailure::Failed(failed) => StoreFault::Store(failed),
+            DatabaseError::NoMemory(shortage) => StoreFault::NoMemory(shortage),
+            DatabaseError::Failed(failed) => StoreFault::Store(failed),
         }
     }
 }
 
-/// A token of a failed allocation, in the allocator or in SQLite. Only this module creates this
-/// value.
+/// A witness that an allocation failed, in the allocator or in SQLite. Only this module creates
+/// witnesses.
 #[derive(Clone, Copy, Debug)]
-pub struct AllocationFailure(SqliteRefusal);
+pub struct AllocationFailure(AllocationSeal);
 
-/// A token of a failure of the database. A statement, an open or a close failed, a transaction is
+/// A witness that the database failed. A statement, an open or a close failed, a transaction is
 /// already open, a B-tree is damaged, or a row doesn't obey the schema. Only this module creates
-/// this value. Other modules can only copy the value of [`OTHER_FAILURE`].
+/// witnesses. Other modules can copy the one in [`DATABASE_FAILURE`].
 #[derive(Clone, Copy, Debug)]
-pub struct FailedStatement {
+pub struct DatabaseFailure {
     /// `true` if the file can't be opened because another process uses it.
     is_in_use: bool,
 }
 
-/// A failure of the database for any reason except that another process uses the file.
-pub const OTHER_FAILURE: StoreFailure = StoreFailure::Failed(FailedStatement { is_in_use: false });
+/// The error of a database that failed for any reason except that another process uses the file.
+pub const DATABASE_FAILURE: DatabaseError = DatabaseError::Failed(DatabaseFailure {
+    is_in_use: false,
+});
 
-/// A private type, so that no other module can create an `AllocationFailure`.
+/// The field of an `AllocationFailure`. The type is private, so that no other module can create an
+/// `AllocationFailure`.
 #[derive(Clone, Copy, Debug)]
-struct SqliteRefusal;
+struct AllocationSeal;
 
 impl From<NoMemory> for StoreFault {
     ghost from_gives = { λ _ fault. IsNoMemory fault };
 
     fn from(_refusal: NoMemory) -> StoreFault {
-        StoreFault::NoMemory(AllocationFailure(SqliteRefusal))
+        StoreFault::NoMemory(AllocationFailure(AllocationSeal))
     }
 }
 
-impl From<NoMemory> for StoreFailure {
-    ghost from_gives = { λ _ trouble. IsShort trouble };
+impl From<NoMemory> for DatabaseError {
+    ghost from_gives = { λ _ trouble. IsAllocationFailure trouble };
 
-    fn from(_refusal: NoMemory) -> StoreFailure {
-        StoreFailure::NoMemory(AllocationFailure(SqliteRefusal))
+    fn from(_refusal: NoMemory) -> DatabaseError {
+        DatabaseError::NoMemory(AllocationFailure(AllocationSeal))
     }
 }
 
-impl From<SqlError> for StoreFailure {
-    ghost from_gives = { IsOfError };
+impl From<SqlError> for DatabaseError {
+    ghost from_gives = { MatchesSqlError };
 
-    fn from(error: SqlError) -> StoreFailure {
+    fn from(error: SqlError) -> DatabaseError {
         match error {
-            SqlError::SqliteFailure(ErrorCode::OutOfMemory) => StoreFailure::NoMemory(
-                AllocationFailure(SqliteRefusal),
+            SqlError::SqliteFailure(ErrorCode::OutOfMemory) => DatabaseError::NoMemory(
+                AllocationFailure(AllocationSeal),
             ),
-            _ => OTHER_FAILURE,
+            _ => DATABASE_FAILURE,
         }
     }
 }
 
-impl From<StoreError> for StoreFailure {
-    ghost from_gives = { IsOfTreeError };
+impl From<StoreError> for DatabaseError {
+    ghost from_gives = { MatchesTreeError };
 
-    fn from(error: StoreError) -> StoreFailure {
+    fn from(error: StoreError) -> DatabaseError {
         match error {
-            StoreError::OutOfMemory => StoreFailure::NoMemory(AllocationFailure(SqliteRefusal)),
-            _ => OTHER_FAILURE,
+            StoreError::OutOfMemory => DatabaseError::NoMemory(AllocationFailure(AllocationSeal)),
+            _ => DATABASE_FAILURE,
         }
     }
 }
 
-impl From<sqlite_store::OpenError> for StoreFailure {
-    ghost from_gives = { IsOfRecoverError };
+impl From<sqlite_store::OpenError> for DatabaseError {
+    ghost from_gives = { MatchesRecoverError };
 
-    fn from(error: sqlite_store::OpenError) -> StoreFailure {
+    fn from(error: sqlite_store::OpenError) -> DatabaseError {
         match error {
-            sqlite_store::OpenError::OutOfMemory => StoreFailure::NoMemory(AllocationFailure(
-                SqliteRefusal,
+            sqlite_store::OpenError::OutOfMemory => DatabaseError::NoMemory(AllocationFailure(
+                AllocationSeal,
             )),
-            _ => OTHER_FAILURE,
+            _ => DATABASE_FAILURE,
         }
     }
 }
 
 impl From<StoreError> for StoreFault {
-    ghost from_gives = { λ _ fault. IsStoreFault fault };
+    ghost from_gives = { λ _ fault. IsDatabaseFault fault };
 
     fn from(error: StoreError) -> StoreFault {
-        StoreFault::from(StoreFailure::from(error))
+        StoreFault::from(DatabaseError::from(error))
     }
 }
 
-impl From<WriteError> for StoreFailure {
-    ghost from_gives = { IsOfWriteError };
+impl From<WriteError> for DatabaseError {
+    ghost from_gives = { MatchesWriteError };
 
-    fn from(error: WriteError) -> StoreFailure {
+    fn from(error: WriteError) -> DatabaseError {
         match error {
-            WriteError::Failed(error) => StoreFailure::from(error),
-            WriteError::Refused(_) => OTHER_FAILURE,
+            WriteError::Failed(error) => DatabaseError::from(error),
+            WriteError::Refused(_) => DATABASE_FAILURE,
         }
     }
 }
 
-/// Converts the error of a failed open of the results file and its log to a `StoreFailure`.
-pub fn unopened(error: &OpenError) -> StoreFailure
-    ensures short { IsShort result → IsOutOfMemory error.now }
+/// Converts the error of opening the results file and its log to a `DatabaseError`.
+pub fn unopened(error: &OpenError) -> DatabaseError
+    ensures short { IsAllocationFailure result → IsOutOfMemory error.now }
 {
     let is_short = match error {
         OpenError::OutOfMemory => true,
         OpenError::Io(error) => error.kind() == ErrorKind::OutOfMemory,
-        OpenError::Busy => return StoreFailure::Failed(FailedStatement { is_in_use: true }),
+        OpenError::Busy => return DatabaseError::Failed(DatabaseFailure { is_in_use: true }),
         OpenError::HotJournal => false,
     };
     if is_short {
-        StoreFailure::NoMemory(AllocationFailure(SqliteRefusal))
+        DatabaseError::NoMemory(AllocationFailure(AllocationSeal))
     } else {
-        OTHER_FAILURE
+        DATABASE_FAILURE
     }
 }
 
@@ -192,11 +195,15 @@ pub fn unopened(error: &OpenError) -> StoreFailure
 /// # Errors
 ///
 /// - `Failed`: `is_sound` is `false`, so the data is damaged.
-pub fn sure(is_sound: bool) -> Result<(), StoreFailure>
+pub fn ensure_sound(is_sound: bool) -> Result<(), DatabaseError>
     ensures sound { OnOk result (is_sound ≡ true) }
     ensures damaged { OnErr result (is_sound ≡ false) }
 {
-    if is_sound { Ok(()) } else { Err(OTHER_FAILURE) }
+    if is_sound {
+        Ok(())
+    } else {
+        Err(DATABASE_FAILURE)
+    }
 }
 
 /// Returns the value of `found`, which must be present in sound data.
@@ -204,12 +211,12 @@ pub fn sure(is_sound: bool) -> Result<(), StoreFailure>
 /// # Errors
 ///
 /// - `Failed`: the value is missing, so the data is damaged.
-pub fn present<T>(found: Option<T>) -> Result<T, StoreFailure>
+pub fn present<T>(found: Option<T>) -> Result<T, DatabaseError>
     ensures there { IfOk result (λ it. found ≡ Some it) }
     ensures damaged { OnErr result (found ≡ None) }
 {
     match found {
         Some(it) => Ok(it),
-        None => Err(OTHER_FAILURE),
+        None => Err(DATABASE_FAILURE),
     }
 }

@@ -1,6 +1,6 @@
 ghost use Rattle.std.specs.Prelude.{◌≡◌, ◌<◌, ◌^◌, Some, pos};
 ghost use Rattle.kt_base.specs.declared.verdict.Kind.{Kind as Sort};
-ghost use Rattle.kt_store.specs.Common.{utf8, owned, Int, Blob, IsText, kind_code};
+ghost use Rattle.kt_store.specs.Common.{utf8, owned, Int, Blob, IsEncodable, kind_code};
 ghost use Rattle.sqlite_value.specs.declared.value.Value.TheVariants.{Text as Words};
 
 use kt_base::{Bytes, Kind, Text};
@@ -17,7 +17,7 @@ pub fn int<'a>(n: u64) -> ValueRef<'a>
 /// Converts a text to an SQL text in UTF-8. Allocates nothing.
 pub fn text(text: &Text) -> ValueRef<'_>
     ensures value { owned result ≡ Words (utf8 text.entry.now) }
-    ensures spelled { IsText text.entry.now }
+    ensures spelled { IsEncodable text.entry.now }
 {
     ValueRef::Text(text.as_str().as_bytes())
 }
@@ -29,7 +29,7 @@ pub fn blob(bytes: &Bytes) -> ValueRef<'_>
     ValueRef::Blob(bytes.as_slice())
 }
 
-/// Returns the number that represents a kind in the tables (docs/formats/store.md).
+/// Returns the number that represents a verdict's kind in the tables (docs/formats/store.md).
 pub fn code(kind: Kind) -> u64
     ensures value { result ≡ kind_code kind }
     ensures low { result < 5 }
@@ -43,8 +43,9 @@ pub fn code(kind: Kind) -> u64
     }
 }
 
-/// Returns the kind that a number in the tables represents, or `None` if the number is above 4.
-pub(crate) fn kind_of(code: u64) -> Option<Kind>
+/// Returns the kind of verdict that a number in the tables represents, or `None` if the number is
+/// above 4.
+pub(crate) fn kind_from_code(code: u64) -> Option<Kind>
     ensures { (k : Sort) → code ≡ kind_code k → result ≡ Some k }
 {
     match code {

@@ -1,4 +1,5 @@
--- The rows that cursors over the trees of a store return.
+-- The rows that cursors over the trees of a store return. A view is the state of a store as
+-- contracts see it. A store or its transaction is broken after a failed call, until a rollback.
 use Rattle.std.specs.Prelude.{◌≡◌, ◌==◌, ◌-◌, ◌&&◌, nat_lt, if◌then◌else◌, pos, ℕ, ℤ, false, true, Bool, List, [], ◌∷◌, ◌++◌, Option, Some, None, map, drop, take, filter, length, slice_get, IsTrue, OnOk, Result}
 use Rattle.std.specs.Option.{option_map}
 use Rattle.std.specs.Ordering.{is_eq, is_lt}
@@ -9,62 +10,63 @@ use Rattle.kt_store.specs.Types.{AllByRecursion, Ghosts, Int, IsClean, IsIndex, 
 use Rattle.kt_store.specs.declared.result_store.RunHead.{RunHead}
 
 -- `ends_with last end`: `true` if `end` can be the last key of the index of entries when `last` is
--- the head of the last run. A finished run with cases ends at its last position. Otherwise, any key
--- before the position of the run's total is possible.
+-- the head of the last run. If this run is finished and has cases, `end` must be the key of its
+-- last position. Otherwise, `end` can be any key below that of the first position that the run
+-- doesn't have.
 abbrev pub ends_with : RunHead → Row → Bool
 ends_with last end =
     if last.finished && nat_lt 0 last.total then is_eq (prefix_cmp plain end (Int (pos last.number) ∷ Int (pos (last.total - 1)) ∷ []))
     else is_lt (prefix_cmp plain end (Int (pos last.number) ∷ Int (pos last.total) ∷ []))
 
--- `key_before run position`: the index key of the entry before `position` of run `run`. For
--- position 0, it is the key of the run before.
+-- `key_before run position`: the index key of the position before `position` in run `run`. For
+-- position 0, it is the key of the previous run.
 abbrev pub key_before : ℕ → ℕ → Row
 key_before run' position = if position == 0 then Int (pos (run' - 1)) ∷ [] else Int (pos run') ∷ Int (pos (position - 1)) ∷ []
 
--- `begins key e`: `true` if the index entry `e` begins with the values of `key`.
-abbrev pub begins : Row → Row → Bool
-begins key e = is_eq (prefix_cmp plain e key)
+-- `has_prefix key e`: `true` if the index entry `e` begins with the values of `key`.
+abbrev pub has_prefix : Row → Row → Bool
+has_prefix key e = is_eq (prefix_cmp plain e key)
 
--- `IsAt table row`: `row` is the only row of `table` with its rowid.
-abbrev pub IsAt : List Row → Row → Type 0
-IsAt table row = (id : ℤ) × (rowid row ≡ Int id) × (filter (has_rowid id) table ≡ row ∷ [])
+-- `IsUniqueRow table row`: `row` is the only row of `table` with its rowid.
+abbrev pub IsUniqueRow : List Row → Row → Type 0
+IsUniqueRow table row = (id : ℤ) × (rowid row ≡ Int id) × (filter (has_rowid id) table ≡ row ∷ [])
 
--- `Places columns key mine table index`: `mine` are, without their rowids and in the order of
--- `index`, the rows of `table` whose entries in `index` begin with `key`. From `key` on, `index`
--- has these entries first, and no later entry begins with `key`. An entry has the values of its row
--- in the key columns `columns`, and the rowid.
-pub record Places (columns : List ℕ) (key : Row) (mine table index : List Row) : Type 0 where
+-- `IndexesRows columns key mine table index`: from `key` on, `index` first has the entries that
+-- begin with `key`, and each of them is that of one row of `table`. `mine` are these rows, in the
+-- order of `index` and without their rowids. No later entry begins with `key`. An entry has the
+-- values of its row in the key columns `columns`, and the rowid.
+pub record IndexesRows (columns : List ℕ) (key : Row) (mine table index : List Row) : Type 0 where
   pub rows : List Row
   pub are : map (drop 1) rows ≡ mine
-  pub each : AllByRecursion (IsAt table) rows
+  pub each : AllByRecursion (IsUniqueRow table) rows
   pub rest : List Row
   pub found : from_key plain key index ≡ map (entry_of columns) rows ++ rest
-  pub hits : AllByRecursion (λ e. begins key e ≡ true) (map (entry_of columns) rows)
-  pub past : AllByRecursion (λ e. begins key e ≡ false) rest
+  pub hits : AllByRecursion (λ e. has_prefix key e ≡ true) (map (entry_of columns) rows)
+  pub past : AllByRecursion (λ e. has_prefix key e ≡ false) rest
 
--- `in_columns columns row`: the values of `row` in the columns with the indexes `columns`.
-abbrev pub in_columns : List ℕ → Row → Row
-in_columns columns row = map (column row) columns
+-- `selected_columns columns row`: the values of `row` in the columns with the indexes `columns`.
+abbrev pub selected_columns : List ℕ → Row → Row
+selected_columns columns row = map (column row) columns
 
--- `SelectsColumns columns mine shown`: `shown` has, in order, the values in `columns` of rows that
--- are `mine` without their rowids.
+-- `SelectsColumns columns mine shown`: `mine` are some rows without their rowids. `shown` has the
+-- values in `columns` of these rows, in the same order.
 abbrev pub SelectsColumns : List ℕ → List Row → List Row → Type 0
-SelectsColumns columns mine shown = (rows : List Row) × (map (drop 1) rows ≡ mine) × (shown ≡ map (in_columns columns) rows)
+SelectsColumns columns mine shown = (rows : List Row) × (map (drop 1) rows ≡ mine) × (shown ≡ map (selected_columns columns) rows)
 
 -- `SelectsUnderKey table index key columns trees shown`: `shown` has the values in `columns` of the
 -- rows whose index entries begin with `key`, in the order of the index. `table` and `index` are the
--- numbers of a table's tree and of its index's tree in `trees`. Nothing is stated unless `Places`
+-- numbers of a table's tree and of its index's tree in `trees`. Nothing is stated unless `IndexesRows`
 -- holds for these trees.
 abbrev pub SelectsUnderKey : ℕ → ℕ → Row → List ℕ → Trees → List Row → Type 0
 SelectsUnderKey table index key columns trees shown = (cs : List ℕ) (mine : List Row)
-    → (IsShaped Table (trees table) → IsIndex plain (trees index) → Places cs key mine (trees table) (trees index)) → SelectsColumns columns mine shown
+    → (IsShaped Table (trees table) → IsIndex plain (trees index) → IndexesRows cs key mine (trees table) (trees index)) → SelectsColumns columns mine shown
 
 -- `FindsFirstUnderKey table index key trees found`: `found` is the first row whose index entry
 -- begins with `key`, or `None` if there is none. `table` and `index` are the numbers of a table's
--- tree and of its index's tree in `trees`. Nothing is stated unless `Places` holds for these trees.
+-- tree and of its index's tree in `trees`. Nothing is stated unless `IndexesRows` holds for these trees.
 abbrev pub FindsFirstUnderKey : ℕ → ℕ → Row → Trees → Option Row → Type 0
 FindsFirstUnderKey table index key trees found = (cs : List ℕ) (mine : List Row)
-    → (IsShaped Table (trees table) → IsIndex plain (trees index) → Places cs key mine (trees table) (trees index)) → option_map (drop 1) found ≡ slice_get mine 0
+    → (IsShaped Table (trees table) → IsIndex plain (trees index) → IndexesRows cs key mine (trees table) (trees index)) → option_map (drop 1) found ≡ slice_get mine 0
 
 -- `CursorReturns key table old place row new found`: a cursor with the index entries `old` left
 -- moved to its next entry. If `found` is `true`, this entry is `place`, which begins with `key`,
@@ -72,15 +74,15 @@ FindsFirstUnderKey table index key trees found = (cs : List ℕ) (mine : List Ro
 -- If `found` is `false`, no entry was left, or the next one doesn't begin with `key`.
 abbrev pub CursorReturns : Row → List Row → List Row → Row → Row → List Row → Bool → Type 0
 CursorReturns key table old place row new true =
-    (old ≡ place ∷ new) × (begins key place ≡ true) × ((front : Row) (id : ℤ) → place ≡ front ++ Int id ∷ [] → filter (has_rowid id) table ≡ row ∷ [])
-CursorReturns key table old place row new false = AllByRecursion (λ e. begins key e ≡ false) (take 1 old)
+    (old ≡ place ∷ new) × (has_prefix key place ≡ true) × ((front : Row) (id : ℤ) → place ≡ front ++ Int id ∷ [] → filter (has_rowid id) table ≡ row ∷ [])
+CursorReturns key table old place row new false = AllByRecursion (λ e. has_prefix key e ≡ false) (take 1 old)
 
 -- `CountsUnderKey table index key trees n`: there are `n` rows whose index entries begin with
 -- `key`. `table` and `index` are the numbers of a table's tree and of its index's tree in `trees`.
--- Nothing is stated unless `Places` holds for these trees.
+-- Nothing is stated unless `IndexesRows` holds for these trees.
 abbrev pub CountsUnderKey : ℕ → ℕ → Row → Trees → ℕ → Type 0
 CountsUnderKey table index key trees n = (cs : List ℕ) (mine : List Row)
-    → (IsShaped Table (trees table) → IsIndex plain (trees index) → Places cs key mine (trees table) (trees index)) → n ≡ length mine
+    → (IsShaped Table (trees table) → IsIndex plain (trees index) → IndexesRows cs key mine (trees table) (trees index)) → n ≡ length mine
 
 -- `IsLast rows found`: `found` is the last of `rows`, or `None` if there are no rows.
 abbrev pub IsLast : List Row → Option Row → Type 0
@@ -92,17 +94,17 @@ IsLast rows (Some row) = (front : List Row) × (rows ≡ front ++ row ∷ [])
 abbrev pub OnlyMovesCursors : View → View → Type 0
 OnlyMovesCursors old new = (old.is_broken ≡ false) × (new ≡ record old { cursors = new.cursors })
 
--- `Through g old new result`: if a call from the store `old` to `new` returned a success as its
+-- `MovesCursorsIfOk g old new result`: if a call from the store `old` to `new` returned a success as its
 -- `result`, `OnlyMovesCursors` holds for their views. Nothing is stated if the disk has returned
 -- wrong data. `g` is the specification of the store.
-abbrev pub Through : {S T E : Type 0} → Ghosts S → S → S → Result T E → Type 0
-Through g old new result = IsClean (g.view new) → OnOk result (OnlyMovesCursors (g.view old) (g.view new))
+abbrev pub MovesCursorsIfOk : {S T E : Type 0} → Ghosts S → S → S → Result T E → Type 0
+MovesCursorsIfOk g old new result = IsClean (g.view new) → OnOk result (OnlyMovesCursors (g.view old) (g.view new))
 
--- `HoldsCommit old new`: `old` and `new` are the views of a store before and after a call. If `new`
+-- `KeepsLastCommit old new`: `old` and `new` are the views of a store before and after a call. If `new`
 -- is open, so is `old`, and both have the same last commit. The trees are then numbered in both or
 -- in neither.
-abbrev pub HoldsCommit : View → View → Type 0
-HoldsCommit old new = IsTrue new.is_open → IsTrue old.is_open × (new.committed ≡ old.committed) × (new.is_numbered ≡ old.is_numbered)
+abbrev pub KeepsLastCommit : View → View → Type 0
+KeepsLastCommit old new = IsTrue new.is_open → IsTrue old.is_open × (new.committed ≡ old.committed) × (new.is_numbered ≡ old.is_numbered)
 
 -- `OnlyReadsStore g old new`: a call from the store `old` to `new` only read it. Unless `new` is
 -- broken, it shows the trees of `old`. A crash of `new` leaves only trees that a crash of `old` may
@@ -111,5 +113,5 @@ pub record OnlyReadsStore {S : Type 0} (g : Ghosts S) (old new : S) : Type 0 whe
   pub clean : IsClean (g.view new) → IsClean (g.view old)
   pub schema : KeepsSchema (g.view old) (g.view new)
   pub same : IsClean (g.view new) → (g.view new).is_broken ≡ false → g.view new ≡ record (g.view old) { cursors = (g.view new).cursors }
-  pub held : IsClean (g.view new) → HoldsCommit (g.view old) (g.view new)
+  pub held : IsClean (g.view new) → KeepsLastCommit (g.view old) (g.view new)
   pub outcomes : (db : Trees) → g.recovers new db → g.recovers old db

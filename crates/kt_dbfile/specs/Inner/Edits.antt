@@ -8,11 +8,11 @@ use Rattle.sqlite_rules.specs.Action.{Writes}
 use Rattle.sqlite_rules.specs.Edit.{edit_of}
 use Rattle.sqlite_rules.specs.declared.error.Rowids.{Rowids}
 use Rattle.sqlite_rules.specs.declared.error.Rowids.TheVariants.{Chosen}
-use Rattle.kt_store.specs.Ask.{IsStoreFault}
+use Rattle.kt_store.specs.Ask.{IsDatabaseFault}
 use Rattle.kt_store.specs.Files.{StaysNumbered}
-use Rattle.kt_dbfile.specs.Inner.Cursors.{HoldsCommit}
-use Rattle.kt_store.specs.Inner.Runs.{HasTexts}
-use Rattle.kt_store.specs.Runs.{Keeps, entry_row, pair_rows}
+use Rattle.kt_dbfile.specs.Inner.Cursors.{KeepsLastCommit}
+use Rattle.kt_store.specs.Inner.Runs.{HasEncodableTexts}
+use Rattle.kt_store.specs.Runs.{IsSchema2Of, entry_row, pair_rows}
 use Rattle.kt_dbfile.specs.Inner.Known.{HasRuns}
 use Rattle.kt_store.specs.Serving.{Agrees, runs_after}
 use Rattle.kt_store.specs.StoreCalls.{StoreCall}
@@ -40,9 +40,9 @@ module _ (schema : Schema) where
   PutsRows place gone rowids from sources old new =
       (table : Table) → slice_get schema.tables place ≡ Some table → Writes schema Enforced old (edit_of old table gone rowids from sources) (Ok new)
 
--- `unnumbered row`: the values `row` after a NULL, which a rowid replaces when the row is written.
-abbrev pub unnumbered : Row → Row
-unnumbered row = Null ∷ row
+-- `row_without_rowid row`: the values `row` after a NULL, which a rowid replaces when the row is written.
+abbrev pub row_without_rowid : Row → Row
+row_without_rowid row = Null ∷ row
 
 -- `new_run_row total started`: the row of a new run without a rowid. The run selected `total`
 -- cases, and began at the timestamp `started`.
@@ -50,25 +50,25 @@ abbrev pub new_run_row : ℕ → ℕ → Row
 new_run_row total started = Null ∷ Null ∷ Int (pos started) ∷ Int (pos total) ∷ Int (pos 0) ∷ []
 
 -- `WritesEntryRows schema run e old new`: `old` and `new` are the trees before and after the entry
--- `e` of run `run` is written. Its row is added to the table of entries of `schema`, and then the
--- rows of its pairs to theirs.
+-- `e` of run `run` is written. The row of the entry is added to the table `entries` of `schema`,
+-- and then the rows of the entry's properties to the table `props`.
 abbrev pub WritesEntryRows : Schema → ℕ → Entry → Trees → Trees → Type 0
 WritesEntryRows schema run' e old new =
-    HasTexts e × ((mid : Trees) × PutsRows schema 2 [] Chosen 0 (unnumbered (entry_row run' e) ∷ []) old mid
-    × PutsRows schema 3 [] Chosen 0 (map unnumbered (pair_rows run' e)) mid new)
+    HasEncodableTexts e × ((mid : Trees) × PutsRows schema 2 [] Chosen 0 (row_without_rowid (entry_row run' e) ∷ []) old mid
+    × PutsRows schema 3 [] Chosen 0 (map row_without_rowid (pair_rows run' e)) mid new)
 
 module _ {S : Type 0} (g : Ghosts S) (schema : Schema) where
-  -- `WritesRows g schema call old new result`: the call `call result` of the store `old`, which
-  -- left the store `new`, wrote its rows or failed, and committed nothing. On success, the trees
-  -- obey `schema` and show the changed runs. The last commit is unchanged, and a crash leaves only
-  -- what it might leave before. `g` is the specification of the store.
+  -- `WritesRows g schema call old new result`: `call result` is a call of the store `old`, which
+  -- left the store `new`. The call wrote its rows or failed, and committed nothing. On success, the
+  -- trees obey `schema` and show the changed runs. The last commit is unchanged, and a crash leaves
+  -- only what it might leave before. `g` is the specification of the store.
   pub record WritesRows {T : Type 0} (call : Result T StoreFault → StoreCall) (old new : S) (result : Result T StoreFault) : Type 0 where
     pub clean : IsClean (g.view new) → IsClean (g.view old)
-    pub held : IsClean (g.view new) → HoldsCommit (g.view old) (g.view new)
+    pub held : IsClean (g.view new) → KeepsLastCommit (g.view old) (g.view new)
     pub outcomes : (db : Trees) → g.recovers new db → g.recovers old db
     pub obeys : IsClean (g.view new) → OnOk result (ObeysSchema (g.view new) schema)
     pub agrees : (runs : List Run) → HasRuns (g.view old) runs → IsClean (g.view new) → Agrees runs (call result)
-    pub rows : (runs : List Run) → HasRuns (g.view old) runs → IsClean (g.view new) → OnOk result (Keeps (runs_after (call result) runs) (g.view new).trees)
+    pub rows : (runs : List Run) → HasRuns (g.view old) runs → IsClean (g.view new) → OnOk result (IsSchema2Of (runs_after (call result) runs) (g.view new).trees)
 
 module _ {S : Type 0} (g : Ghosts S) where
   -- `EndsTransaction g old new written result`: a call ended the transaction of the store `old`,
@@ -78,9 +78,9 @@ module _ {S : Type 0} (g : Ghosts S) where
   pub record EndsTransaction {T : Type 0} (old new : S) (written result : Result T StoreFault) : Type 0 where
     pub numbered : StaysNumbered (g.view old) (g.view new)
     pub value : IfOk result (λ value. written ≡ Ok value)
-    pub fault : IfErr result (λ e. (written ≡ Err e) ⊎ IsStoreFault e)
+    pub fault : IfErr result (λ e. (written ≡ Err e) ⊎ IsDatabaseFault e)
     pub clean : IsClean (g.view new) → IsClean (g.view old)
     pub settled : IsClean (g.view new) → (g.view new).is_broken ≡ false → (g.view new).trees ≡ (g.view new).committed
     pub done : IsClean (g.view new) → OnOk result (((g.view new).is_broken ≡ false) × ((g.view new).committed ≡ (g.view old).trees))
-    pub kept : IsClean (g.view new) → OnErr result (HoldsCommit (g.view old) (g.view new))
+    pub kept : IsClean (g.view new) → OnErr result (KeepsLastCommit (g.view old) (g.view new))
     pub crash : (db : Trees) → g.recovers new db → ((is_err written ≡ false) × (db ≡ (g.view old).trees)) ⊎ g.recovers old db

@@ -1,7 +1,7 @@
 -- The runs that the trees of a store represent, and the columns of their tables.
 use Rattle.std.specs.Prelude.{◌≡◌, false, List, ℕ, suc, [], ◌∷◌, ⊤, Some}
 use Rattle.kt_store.specs.Files.{StaysNumbered}
-use Rattle.kt_store.specs.Runs.{AreNumbered, AreOrdered, Keeps, IsSchema2OfOne}
+use Rattle.kt_store.specs.Runs.{AreNumbered, AreOrdered, IsSchema2Of, IsSchema2OfOne}
 use Rattle.kt_store.specs.Seeks.{HasCommitted}
 use Rattle.kt_store.specs.declared.result_store.StoreSpec as store
 use Rattle.sqlite_schema.specs.Names.{column_named}
@@ -11,7 +11,7 @@ use Rattle.kt_store.specs.Types.{Ghosts, IsClean, Run, Trees, View}
 -- `HasRuns v runs`: a store with the view `v` shows the trees of a database with `runs`. Nothing is
 -- stated if the store is broken, or if the disk has returned wrong data.
 abbrev pub HasRuns : View → List Run → Type 0
-HasRuns v runs = IsClean v → v.is_broken ≡ false → Keeps runs v.trees
+HasRuns v runs = IsClean v → v.is_broken ≡ false → IsSchema2Of runs v.trees
 
 -- `HoldsForTrees g old new P`: `P` holds for the runs that the trees of the store `old` represent.
 -- `new` is the store after a call. Nothing is stated if the disk has returned wrong data by then.
@@ -20,10 +20,10 @@ abbrev pub HoldsForTrees : {S : Type 0} → Ghosts S → S → S → (List Run �
 HoldsForTrees g old new P = (runs : List Run) → HasRuns (g.view old) runs → IsClean (g.view new) → P runs
 
 module _ {S : Type 0} (g : Ghosts S) where
-  -- `by_trees g Has`: the specification of a store that represents runs if `Has` holds for its view
+  -- `spec_over_trees g Has`: the specification of a store that represents runs if `Has` holds for its view
   -- and the runs. `g` is the specification of its trees.
-  abbrev pub by_trees : (View → List Run → Type 0) → store.Ghosts S
-  by_trees Has = record {
+  abbrev pub spec_over_trees : (View → List Run → Type 0) → store.Ghosts S
+  spec_over_trees Has = record {
     answers = λ old _ new. StaysNumbered (g.view old) (g.view new);
     stands = λ s runs. Has (g.view s) runs × AreNumbered 1 runs × (IsClean (g.view s) → AreOrdered runs);
     sound = λ s. IsClean (g.view s);
@@ -32,15 +32,15 @@ module _ {S : Type 0} (g : Ghosts S) where
     ordered = λ s runs h sound. h.2 sound;
   }
 
-  -- `readings g`: the specification of a store that is only read. It represents the runs that its
+  -- `read_only_spec g`: the specification of a store that is only read. It represents the runs that its
   -- trees show. `g` is the specification of its trees.
-  abbrev pub readings : store.Ghosts S
-  readings = by_trees HasRuns
+  abbrev pub read_only_spec : store.Ghosts S
+  read_only_spec = spec_over_trees HasRuns
 
   -- `runs_file g`: the specification of a store that is read and written. It represents the runs of
   -- its last commit. `g` is the specification of its trees.
   abbrev pub runs_file : store.Ghosts S
-  runs_file = by_trees HasCommitted
+  runs_file = spec_over_trees HasCommitted
 
 -- `AreNamed table at names`: from the index `at` on, the columns of `table` have the names `names`,
 -- in order.

@@ -1,38 +1,48 @@
 -- The steps from two files to a store that has the runs of the files.
-use Rattle.std.specs.Prelude.{◌≡◌, ◌≢◌, true, false, ℕ, ℤ, pos, List, IsTrue}
+use Rattle.std.specs.Prelude.{◌≡◌, ◌≢◌, ◌⊎◌, true, false, ℕ, ℤ, pos, List, IsTrue}
 use Rattle.sqlite_disk.specs.declared.Disk.{Ghosts}
 use Rattle.sqlite_disk.specs.declared.Files.{Files}
 use Rattle.sqlite_pager.specs.declared.pager.Options.{Options}
+use Rattle.sqlite_wal.specs.Files.{outcomes}
 use Rattle.sqlite_wal.specs.Reads.{AreClean}
-use Rattle.sqlite.specs.Files.{image_of}
+use Rattle.sqlite.specs.Files.{image_of, over_files}
+use Rattle.sqlite.specs.Held.{AreDatabases}
 use Rattle.sqlite_store.specs.declared.store.open.Unopened.{Unopened}
 use Rattle.sqlite_store.specs.Listing.{file_trees, IsOurs}
 use Rattle.sqlite_store.specs.Unopened.{state_of, wanted_by, image}
 use Rattle.sqlite.specs.Opening.{HoldsAt}
-use Rattle.kt_store.specs.Runs.{Keeps, HasSchemaNumber}
-use Rattle.kt_store.specs.Attaching.{DatabaseBefore, IsOf, AttachSucceeds}
+use Rattle.kt_store.specs.Runs.{IsSchema2Of, HasSchemaNumber}
+use Rattle.kt_dbfile.specs.FailedOpen.{HoldsAsBefore}
+use Rattle.kt_store.specs.Ask.{IsDatabaseFault}
+use Rattle.kt_store.specs.Attaching.{InitialDatabase, Describes, AttachFails, AttachSucceeds}
 use Rattle.kt_store.specs.Files.{Follows, IsReadAs}
 use Rattle.kt_store.specs.Seeks.{HasCommitted, HoldsRuns}
 use Rattle.kt_store.specs.Stands.{StandsFor}
 use Rattle.kt_store.specs.TrustedContents.{ListsObjects}
 use Rattle.kt_store.specs.Types.{FileStore, Ghosts as StoreGhosts, HasCleanDisk, Held, Image, IsClean, PageMap, Recovers, Run, Trees, file_state, recovers, state, view}
+use Rattle.kt_store.specs.declared.store_fault.StoreFault.{StoreFault}
 
 module _ {D : Type 0} {g : Ghosts D} (image : Image) (store : FileStore D g) where
   -- `OpensOver image store`: `store` shows the runs of the files `image`, unless it is broken, and
   -- a crash leaves them
   pub record OpensOver : Type 0 where
-    pub holds : (runs : List Run) → HoldsRuns image runs → (view store).is_broken ≡ false → Keeps runs (view store).trees
-    pub leaves : (runs : List Run) → HoldsRuns image runs → (trees : Trees) → recovers store trees → Keeps runs trees
+    pub holds : (runs : List Run) → HoldsRuns image runs → (view store).is_broken ≡ false → IsSchema2Of runs (view store).trees
+    pub leaves : (runs : List Run) → HoldsRuns image runs → (trees : Trees) → recovers store trees → IsSchema2Of runs trees
 
 -- `HasOtherSchema trees`: the schema number in `trees` isn't 2
 abbrev pub HasOtherSchema : Trees → Type 0
 HasOtherSchema trees = (n : ℤ) × (n ≢ pos 2) × HasSchemaNumber n trees
 
--- `IsOfOptions pages options`: a store with `options` caches `pages` read pages and 2,000 written
+-- `CachesPages pages options`: a store with `options` caches `pages` read pages and 2,000 written
 -- pages
-pub record IsOfOptions (pages : ℕ) (options : Options) : Type 0 where
+pub record CachesPages (pages : ℕ) (options : Options) : Type 0 where
   pub read : options.cache_pages ≡ pages
   pub written : options.spill_pages ≡ 2000
+
+-- `LeavesAsBefore g old left`: `left` are the log and the database file after a read of `old`. A
+-- crash then leaves what it left before, or files with the same databases.
+abbrev pub LeavesAsBefore : {D : Type 0} → Ghosts D → Files D → D × D → Type 0
+LeavesAsBefore g old left = AreClean g left.0 left.1 → (after : Image) → outcomes g left.0 left.1 after → outcomes g old.log old.db after ⊎ HoldsAsBefore (image_of g old) after
 
 module _ {D : Type 0} (g : Ghosts D) (old left : Files D) where
   -- `IsOnlyRead g old left`: the files were only read
@@ -40,6 +50,7 @@ module _ {D : Type 0} (g : Ghosts D) (old left : Files D) where
     pub log : IsTrue (g.is_usable left.log)
     pub db : IsTrue (g.is_usable left.db)
     pub read : AreClean g left.log left.db → AreClean g old.log old.db × IsReadAs (image_of g old) (image_of g left)
+    pub crash : LeavesAsBefore g old (left.log, left.db)
 
 module _ {D : Type 0} {g : Ghosts D} (old new : Unopened D g) where
   -- `RecoversAsBefore old new`: the files recover as before
@@ -58,17 +69,36 @@ module _ {D : Type 0} {g : Ghosts D} (old new : Unopened D g) where
     pub found : Recovers (state_of old).page_size (image old) pages
     pub lists : ListsObjects (state_of old).page_size pages
     pub again : Recovers (state_of old).page_size (image new) pages
-    pub fits : (runs : List Run) (db : Trees) → HoldsAt (state_of old).page_size (image old) db → Keeps runs db
+    pub fits : (runs : List Run) (db : Trees) → HoldsAt (state_of old).page_size (image old) db → IsSchema2Of runs db
         → IsOurs (state_of old).page_size true (wanted_by new) pages × (db ≡ file_trees (state_of old).page_size (wanted_by new) pages)
 
 -- `IsAttached g conn it`: the tables of `conn` were attached, and the store `it` has the last commit
 -- of the results; a crash leaves what it left of the results
 abbrev pub IsAttached : {S : Type 0} → StoreGhosts S → Held S → S → Type 0
-IsAttached g conn it = (results : Held _) × ((was : DatabaseBefore) → IsOf was (state g conn) → AttachSucceeds was (state g conn) (state g results))
+IsAttached g conn it = (results : Held _) × ((was : InitialDatabase) → Describes was (state g conn) → AttachSucceeds was (state g conn) (state g results))
     × ((runs : List Run) → StandsFor (state g results) runs → HasCommitted (g.view it) runs)
     × (IsClean (g.view it) → HasCleanDisk (state g results)) × ((trees : Trees) → g.recovers it trees → (state g results).may_leave trees)
     × (IsClean (g.view it) → IsTrue (g.view it).is_numbered)
 
 -- `IsAttachedFiles conn it`: `IsAttached` for a store over files
 abbrev pub IsAttachedFiles : {D : Type 0} {g : Ghosts D} → Held (FileStore D g) → FileStore D g → Type 0
-IsAttachedFiles conn it = (results : Held _) × ((was : DatabaseBefore) → IsOf was (file_state conn) → AttachSucceeds was (file_state conn) (file_state results)) × Follows results it
+IsAttachedFiles conn it = (results : Held _) × ((was : InitialDatabase) → Describes was (file_state conn) → AttachSucceeds was (file_state conn) (file_state results)) × Follows results it
+
+-- `IsConvertedFrom g held it`: `it` is the store of the connection `held`, without uncommitted
+-- changes
+pub record IsConvertedFrom {S : Type 0} (g : StoreGhosts S) (held : Held S) (it : S) : Type 0 where
+  pub earlier : IsClean (g.view it) → HasCleanDisk (state g held)
+  pub crash : (trees : Trees) → g.recovers it trees → (state g held).may_leave trees
+  pub numbered : IsClean (g.view it) → IsTrue (g.view it).is_numbered
+  pub sound : IsClean (g.view it) → AreDatabases (g.recovers it)
+
+-- `FailsToAttach g conn fault it`: the tables of `conn` were not attached, or their results were
+-- not converted, which failed with `fault`. `it` is the store that is left.
+abbrev pub FailsToAttach : {S : Type 0} → StoreGhosts S → Held S → StoreFault → S → Type 0
+FailsToAttach g conn fault it = (held : Held _) × IsConvertedFrom g held it
+    × (((was : InitialDatabase) → Describes was (state g conn) → AttachFails was (state g conn) (state g held) fault)
+    ⊎ (((was : InitialDatabase) → Describes was (state g conn) → AttachSucceeds was (state g conn) (state g held)) × IsDatabaseFault fault))
+
+-- `FailsToAttachFiles conn fault it`: `FailsToAttach` for a store over files
+abbrev pub FailsToAttachFiles : {D : Type 0} {g : Ghosts D} → Held (FileStore D g) → StoreFault → FileStore D g → Type 0
+FailsToAttachFiles conn fault it = FailsToAttach over_files conn fault it

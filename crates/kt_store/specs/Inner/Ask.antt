@@ -4,7 +4,7 @@ use Rattle.sqlite_resolve.specs.declared.compiled.Compiled.{Compiled}
 use Rattle.sqlite_resolve.specs.declared.error.CompileError.{CompileError}
 use Rattle.sqlite.specs.Command.{Command}
 use Rattle.sqlite.specs.Command.TheVariants.{Select}
-use Rattle.kt_store.specs.Stands.{IsStore}
+use Rattle.kt_store.specs.Stands.{IsSettledWithRuns}
 use Rattle.kt_store.specs.Types.{AllByRecursion, CommitsBy, CommitsShowing, Executes, Ghosts, Held, IsUnchanged, Row, Run, Shown, Trees, state}
 
 -- `width_of command`: the number of columns that `command` returns if it is a query, else 0
@@ -12,8 +12,8 @@ abbrev pub width_of : Command → ℕ
 width_of (Select query names) = length names
 width_of _ = 0
 
--- `HasColumns width compiled`: `compiled` is a query that returns `width` columns, at least one; a
--- failed compilation never meets this
+-- `HasColumns width compiled`: `compiled` is a query that returns `width` columns, and `width` is
+-- at least 1. A failed compilation never meets `HasColumns`.
 abbrev pub HasColumns : ℕ → Result Compiled CompileError → Type 0
 HasColumns width (Ok c) = (0 < width) × (width_of c.command ≡ width)
 HasColumns width (Err e) = ⊥
@@ -27,33 +27,33 @@ AreWide width rows = AllByRecursion (λ (row : Row). width ≤ length row) rows
 -- specification of connections.
 pub record QueriesRuns {S : Type 0} (g : Ghosts S) (runs : List Run) (sql : List ℕ) (params : Row) (new : Held S) (rows : List Row) : Type 0 where
   pub mid : Held S
-  pub stored : IsStore (state g mid) runs
+  pub stored : IsSettledWithRuns (state g mid) runs
   pub shown : Shown sql params (state g mid) (state g new) rows
 
 module _ {S : Type 0} (g : Ghosts S) (sql : List ℕ) (params : Row) (old : Held S) where
-  -- `Asked g sql params old new rows`: `sql` was prepared on connection `old`, executed with the
+  -- `RunsQuery g sql params old new rows`: `sql` was prepared on connection `old`, executed with the
   -- values `params`, and returned `rows`; the connection is then `new`. `g` is the specification of
   -- connections.
-  pub record Asked (new : Held S) (rows : List Row) : Type 0 where
+  pub record RunsQuery (new : Held S) (rows : List Row) : Type 0 where
     pub mid : Held S
     pub same : IsUnchanged (state g old) (state g mid)
     pub shown : Shown sql params (state g mid) (state g new) rows
 
-  -- `Executed g sql params old new`: `sql` was prepared on connection `old` and executed with the
+  -- `RunsStatement g sql params old new`: `sql` was prepared on connection `old` and executed with the
   -- values `params`; the connection is then `new`. `g` is the specification of connections.
-  pub record Executed (new : Held S) : Type 0 where
+  pub record RunsStatement (new : Held S) : Type 0 where
     pub mid : Held S
     pub same : IsUnchanged (state g old) (state g mid)
     pub count : ℕ
     pub ran : Executes sql params (state g mid) (state g new) (Ok count)
 
-  -- `MayShow g sql params old db`: `sql` is prepared on connection `old`, and its execution as a
+  -- `QueryMayCommit g sql params old db`: `sql` is prepared on connection `old`, and its execution as a
   -- query with the values `params` may commit the B-trees `db`. Only a write with RETURNING
   -- commits. `g` is the specification of connections.
-  abbrev pub MayShow : Trees → Type 0
-  MayShow db = (mid : Held S) × IsUnchanged (state g old) (state g mid) × CommitsShowing sql params (state g mid) db
+  abbrev pub QueryMayCommit : Trees → Type 0
+  QueryMayCommit db = (mid : Held S) × IsUnchanged (state g old) (state g mid) × CommitsShowing sql params (state g mid) db
 
-  -- `MayExecute g sql params old db`: `sql` is prepared on connection `old`, and its execution with
+  -- `StatementMayCommit g sql params old db`: `sql` is prepared on connection `old`, and its execution with
   -- the values `params` may commit the B-trees `db`. `g` is the specification of connections.
-  abbrev pub MayExecute : Trees → Type 0
-  MayExecute db = (mid : Held S) × IsUnchanged (state g old) (state g mid) × CommitsBy sql params (state g mid) db
+  abbrev pub StatementMayCommit : Trees → Type 0
+  StatementMayCommit db = (mid : Held S) × IsUnchanged (state g old) (state g mid) × CommitsBy sql params (state g mid) db

@@ -13,28 +13,28 @@ use Rattle.sqlite_rules.specs.declared.error.WriteError.{WriteError}
 use Rattle.sqlite_rules.specs.declared.error.WriteError.TheVariants as write
 use Rattle.sqlite_trees.specs.declared.error.StoreError.{StoreError}
 use Rattle.sqlite_trees.specs.declared.error.StoreError.TheVariants.{OutOfMemory}
-use Rattle.kt_store.specs.declared.store_fault.StoreFailure.{StoreFailure}
-use Rattle.kt_store.specs.declared.store_fault.StoreFailure.TheVariants.{NoMemory, Failed}
+use Rattle.kt_store.specs.declared.store_fault.DatabaseError.{DatabaseError}
+use Rattle.kt_store.specs.declared.store_fault.DatabaseError.TheVariants.{NoMemory, Failed}
 
--- `IsShort failure`: `failure` reports that memory ran out
-abbrev pub IsShort : StoreFailure → Type 0
-IsShort (NoMemory shortage) = ⊤
-IsShort (Failed statement) = ⊥
+-- `IsAllocationFailure failure`: `failure` reports that memory ran out
+abbrev pub IsAllocationFailure : DatabaseError → Type 0
+IsAllocationFailure (NoMemory shortage) = ⊤
+IsAllocationFailure (Failed statement) = ⊥
 
--- `IsFailure failure`: `failure` reports that the database failed
-abbrev pub IsFailure : StoreFailure → Type 0
-IsFailure (NoMemory shortage) = ⊥
-IsFailure (Failed statement) = ⊤
+-- `IsDatabaseFailure failure`: `failure` reports that the database failed
+abbrev pub IsDatabaseFailure : DatabaseError → Type 0
+IsDatabaseFailure (NoMemory shortage) = ⊥
+IsDatabaseFailure (Failed statement) = ⊤
 
--- `IsOfError error trouble`: `trouble` reports that memory ran out if and only if the SQLite error
+-- `MatchesSqlError error trouble`: `trouble` reports that memory ran out if and only if the SQLite error
 -- `error` does
-abbrev pub IsOfError : Error → StoreFailure → Type 0
-IsOfError error trouble = (IsShort trouble × (error ≡ SqliteFailure code.OutOfMemory)) ⊎ (IsFailure trouble × (error ≢ SqliteFailure code.OutOfMemory))
+abbrev pub MatchesSqlError : Error → DatabaseError → Type 0
+MatchesSqlError error trouble = (IsAllocationFailure trouble × (error ≡ SqliteFailure code.OutOfMemory)) ⊎ (IsDatabaseFailure trouble × (error ≢ SqliteFailure code.OutOfMemory))
 
--- `IsOfTreeError error trouble`: `trouble` reports that memory ran out if and only if the B-tree
+-- `MatchesTreeError error trouble`: `trouble` reports that memory ran out if and only if the B-tree
 -- error `error` does
-abbrev pub IsOfTreeError : StoreError → StoreFailure → Type 0
-IsOfTreeError error trouble = (IsShort trouble × (error ≡ OutOfMemory)) ⊎ (IsFailure trouble × (error ≢ OutOfMemory))
+abbrev pub MatchesTreeError : StoreError → DatabaseError → Type 0
+MatchesTreeError error trouble = (IsAllocationFailure trouble × (error ≡ OutOfMemory)) ⊎ (IsDatabaseFailure trouble × (error ≢ OutOfMemory))
 
 -- `IsOutOfMemory error`: the error `error` of an open reports that memory ran out
 abbrev pub IsOutOfMemory : OpenError → Type 0
@@ -43,12 +43,12 @@ IsOutOfMemory (opening.Io error) = error_kind error ≡ kind.OutOfMemory
 IsOutOfMemory opening.Busy = ⊥
 IsOutOfMemory opening.HotJournal = ⊥
 
--- `IsOfRecoverError error trouble`: `trouble` reports that memory ran out if and only if the
+-- `MatchesRecoverError error trouble`: `trouble` reports that memory ran out if and only if the
 -- recovery error `error` does
-abbrev pub IsOfRecoverError : RecoverError → StoreFailure → Type 0
-IsOfRecoverError error trouble = (IsShort trouble × (error ≡ recovery.OutOfMemory)) ⊎ (IsFailure trouble × (error ≢ recovery.OutOfMemory))
+abbrev pub MatchesRecoverError : RecoverError → DatabaseError → Type 0
+MatchesRecoverError error trouble = (IsAllocationFailure trouble × (error ≡ recovery.OutOfMemory)) ⊎ (IsDatabaseFailure trouble × (error ≢ recovery.OutOfMemory))
 
--- `IsOfWriteError error trouble`: `trouble` reports that memory ran out only if the write error
+-- `MatchesWriteError error trouble`: `trouble` reports that memory ran out only if the write error
 -- `error` comes from a B-tree that reports the same
-abbrev pub IsOfWriteError : WriteError → StoreFailure → Type 0
-IsOfWriteError error trouble = IsShort trouble → error ≡ write.Failed OutOfMemory
+abbrev pub MatchesWriteError : WriteError → DatabaseError → Type 0
+MatchesWriteError error trouble = IsAllocationFailure trouble → error ≡ write.Failed OutOfMemory

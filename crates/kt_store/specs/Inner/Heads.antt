@@ -3,10 +3,10 @@ use Rattle.std.specs.Prelude.{◌≡◌, ⊤, ℕ, suc, pos, List, [], ◌∷◌
 use Rattle.kt_store.specs.Runs.{flag, kind_code}
 use Rattle.kt_store.specs.Types.{Blob, Entry, Int, Row, Run, RunHead, Text, Variable, utf8}
 
--- `CountFrom n heads`: the run numbers of `heads` are `n`, `n` + 1, and so on
-abbrev pub CountFrom : ℕ → List RunHead → Type 0
-CountFrom n [] = ⊤
-CountFrom n (head ∷ heads) = (head.number ≡ n) × CountFrom (suc n) heads
+-- `AreNumberedFrom n heads`: the run numbers of `heads` are `n`, `n` + 1, and so on
+abbrev pub AreNumberedFrom : ℕ → List RunHead → Type 0
+AreNumberedFrom n [] = ⊤
+AreNumberedFrom n (head ∷ heads) = (head.number ≡ n) × AreNumberedFrom (suc n) heads
 
 -- `head_columns r`: the row of run `r` in the result of the query for all runs
 abbrev pub head_columns : Run → Row

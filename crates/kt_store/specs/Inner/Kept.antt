@@ -1,20 +1,20 @@
 -- The parts of a state that a call keeps or changes, and the databases with a schema number.
 use Rattle.std.specs.Prelude.{ℤ, List, ⊤}
 use Rattle.kt_store.specs.Ask.{IsUnchangedOrRolledBack}
-use Rattle.kt_store.specs.Attaching.{DatabaseBefore, Blank}
-use Rattle.kt_store.specs.Runs.{Keeps}
+use Rattle.kt_store.specs.Attaching.{InitialDatabase, Blank}
+use Rattle.kt_store.specs.Runs.{IsSchema2Of}
 use Rattle.kt_store.specs.Stands.{StandsFor, StoresSchemaNumber, HasTables, Leaves}
 use Rattle.kt_store.specs.Types.{Ghosts, HasCleanDisk, Held, IsUnchanged, Run, Survives, state}
 
--- `HasNumber was`: a database in the state `was` has tables with a schema number
-abbrev pub HasNumber : DatabaseBefore → Type 0
-HasNumber Blank = ⊥
-HasNumber _ = ⊤
+-- `IsNotBlank was`: `was` isn't `Blank`, so the database that it describes has a schema number
+abbrev pub IsNotBlank : InitialDatabase → Type 0
+IsNotBlank Blank = ⊥
+IsNotBlank _ = ⊤
 
 module _ {S : Type 0} (g : Ghosts S) (old new : Held S) where
-  -- `WasClean g old new`: if the disk has returned no wrong data up to connection `new`, after a
-  -- call, it had returned none up to `old`, before the call. `g` is the specification of
-  -- connections.
+  -- `WasClean g old new`: `old` and `new` are a connection before and after a call. If the disk has
+  -- returned no wrong data up to `new`, it had returned none up to `old`. `g` is the specification
+  -- of connections.
   abbrev pub WasClean : Type 0
   WasClean = HasCleanDisk (state g new) → HasCleanDisk (state g old)
 
@@ -41,25 +41,25 @@ module _ {S : Type 0} (g : Ghosts S) (old new : Held S) where
     pub stands : KeepsRuns
     pub crash : OnlyReads
 
-  -- `AsksNumber g old new`: a call from connection `old` to `new` reads the schema number. If there
-  -- is a number, the call commits nothing and leaves the database unchanged or rolled back. `g` is
-  -- the specification of connections.
-  pub record AsksNumber : Type 0 where
+  -- `ReadsSchemaNumber g old new`: a call from connection `old` to `new` reads the schema number.
+  -- If there is a number, the call commits nothing, and changes nothing or rolls the open
+  -- transaction back. `g` is the specification of connections.
+  pub record ReadsSchemaNumber : Type 0 where
     pub earlier : WasClean
     pub rests : (n : ℤ) → StoresSchemaNumber n (state g old) → HasCleanDisk (state g new) → IsUnchangedOrRolledBack (state g old) (state g new)
     pub crash : (n : ℤ) → StoresSchemaNumber n (state g old) → CommitsNothing
 
-  -- `LeavesSchema g old new`: if connection `old` has a schema number, a call to `new` leaves its
-  -- database unchanged, unless the disk has returned wrong data. `g` is the specification of
-  -- connections.
-  abbrev pub LeavesSchema : Type 0
-  LeavesSchema = (n : ℤ) → StoresSchemaNumber n (state g old) → HasCleanDisk (state g new) → IsUnchanged (state g old) (state g new)
+  -- `KeepsDatabase g old new`: if connection `old` has a schema number, the call that led to `new`
+  -- left the database unchanged, unless the disk has returned wrong data. `g` is the specification
+  -- of connections.
+  abbrev pub KeepsDatabase : Type 0
+  KeepsDatabase = (n : ℤ) → StoresSchemaNumber n (state g old) → HasCleanDisk (state g new) → IsUnchanged (state g old) (state g new)
 
-  -- `FindsTables g old new`: if connection `old` has a schema number, SQLite can prepare the
+  -- `ChecksTables g old new`: if connection `old` has a schema number, SQLite can prepare the
   -- queries of this schema, unless the disk has returned wrong data up to `new`. `g` is the
   -- specification of connections.
-  abbrev pub FindsTables : Type 0
-  FindsTables = (n : ℤ) → StoresSchemaNumber n (state g old) → HasCleanDisk (state g new) → HasTables n (state g old)
+  abbrev pub ChecksTables : Type 0
+  ChecksTables = (n : ℤ) → StoresSchemaNumber n (state g old) → HasCleanDisk (state g new) → HasTables n (state g old)
 
   module _ (Allowed : List Run → Type 0) (change : List Run → List Run) where
     -- `Changes g old new Allowed change`: if the tables of connection `old` represent `runs` with
@@ -67,10 +67,10 @@ module _ {S : Type 0} (g : Ghosts S) (old new : Held S) where
     -- only these. `g` is the specification of connections.
     pub record Changes : Type 0 where
       pub stands : (runs : List Run) → StandsFor (state g old) runs → (HasCleanDisk (state g old) → Allowed runs) → StandsFor (state g new) (change runs)
-      pub lasts : (runs : List Run) → StandsFor (state g old) runs → (HasCleanDisk (state g old) → Allowed runs) → Leaves (state g new) (Keeps (change runs))
+      pub lasts : (runs : List Run) → StandsFor (state g old) runs → (HasCleanDisk (state g old) → Allowed runs) → Leaves (state g new) (IsSchema2Of (change runs))
 
     -- `MayChange g old new Allowed change`: if the tables of connection `old` represent `runs` with
-    -- `Allowed runs`, a crash after the call to `new` leaves what it left before, or `change runs`.
-    -- `g` is the specification of connections.
+    -- `Allowed runs`, a crash after the call that led to `new` leaves what it left before, or
+    -- `change runs`. `g` is the specification of connections.
     abbrev pub MayChange : Type 0
-    MayChange = (runs : List Run) → StandsFor (state g old) runs → (HasCleanDisk (state g old) → Allowed runs) → Survives (state g old) (state g new) (Keeps (change runs))
+    MayChange = (runs : List Run) → StandsFor (state g old) runs → (HasCleanDisk (state g old) → Allowed runs) → Survives (state g old) (state g new) (IsSchema2Of (change runs))

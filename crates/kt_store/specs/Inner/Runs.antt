@@ -1,21 +1,21 @@
 -- Conditions on runs and entries, and their rows.
 use Rattle.std.specs.Prelude.{◌≡◌, ℕ, pos, suc, Option, None, ◌<◌, List, [], ◌∷◌, length, Some}
-use Rattle.kt_store.specs.Runs.{IsPair, IsRun, IsText, run_at, with_entry}
+use Rattle.kt_store.specs.Runs.{IsEncodableProperty, IsValidRun, IsEncodable, run_at, with_entry}
 use Rattle.kt_store.specs.Types.{AllByRecursion, Entry, Int, Null, Passed, Row, Run}
 
 -- `HasNoReasonIfPassed e`: if `e` passed, its reason is empty
 abbrev pub HasNoReasonIfPassed : Entry → Type 0
 HasNoReasonIfPassed e = e.verdict.kind ≡ Passed → e.verdict.reason ≡ []
 
--- `HasTexts e`: all texts of entry `e`, those of its properties included, are representable in
+-- `HasEncodableTexts e`: all texts of entry `e`, those of its properties included, are representable in
 -- UTF-8
-abbrev pub HasTexts : Entry → Type 0
-HasTexts e = IsText e.program × IsText e.case_name × IsText e.verdict.reason × AllByRecursion IsPair e.meta
+abbrev pub HasEncodableTexts : Entry → Type 0
+HasEncodableTexts e = IsEncodable e.program × IsEncodable e.case_name × IsEncodable e.verdict.reason × AllByRecursion IsEncodableProperty e.meta
 
--- `CanAdd run e runs`: `runs` have a run `run`, and with entry `e` added to it each run meets
--- `IsRun`, if the texts of `e` are representable in UTF-8
+-- `CanAdd run e runs`: `runs` have a run `run`. If the texts of entry `e` are representable in
+-- UTF-8, each run meets `IsValidRun` once `e` is added to run `run`.
 abbrev pub CanAdd : ℕ → Entry → List Run → Type 0
-CanAdd run e runs = (k : ℕ) × (run ≡ suc k) × (k < length runs) × (HasTexts e → AllByRecursion IsRun (with_entry run e runs))
+CanAdd run e runs = (k : ℕ) × (run ≡ suc k) × (k < length runs) × (HasEncodableTexts e → AllByRecursion IsValidRun (with_entry run e runs))
 
 -- `IsComplete run runs`: `runs` have a run `run`, which has as many entries as its total
 abbrev pub IsComplete : ℕ → List Run → Type 0

@@ -1,5 +1,5 @@
 use Rattle.kt_dbfile.proofs.Common.{AreClean, HasTrees, Image, IsClean, IsTrue, View, [], ap, arith, clean_is, may_leave_is, open_from, outcomes, subst, sym, ◌∙◌, ◌≡◌, ∥∥₁_map}
-use Rattle.sqlite_trees.proofs.Doubt.{clean_of as sure, no_doubt}
+use Rattle.sqlite_trees.proofs.Doubt.{clean_of as ensure_sound, no_doubt}
 use Rattle.sqlite_store.specs.FileStore.{state, view}
 use Rattle.sqlite_store.proofs.StepLemmas.{quiet_then}
 use Rattle.kt_dbfile.proofs.ReopenLemmas.{left_of, without_log_of}
@@ -20,12 +20,12 @@ returns-in-Ok-clause-closed g c =
       was_open = λ honest.
           let none : IsClean (view last) = no_doubt _ (clean_is last.pool ∙ subst (λ p. AreClean g.D.Disk p.0 p.1) c.close-files.ensures honest) in
           let clean : IsClean (view before) = omega (arith, q.clean) in
-          (first.kept clean).was_open (open_from (state before) c.in-Ok.ensures.ready (sure (view before).is_clean clean));
+          (first.kept clean).was_open (open_from (state before) c.in-Ok.ensures.ready (ensure_sound (view before).is_clean clean));
       left = λ honest image may.
           let sure_now = subst (λ p. AreClean g.D.Disk p.0 p.1) c.close-files.ensures honest in
           let none : IsClean (view last) = no_doubt _ (clean_is last.pool ∙ sure_now) in
           let clean : IsClean (view before) = omega (arith, q.clean) in
-          let h = open_from (state before) c.in-Ok.ensures.ready (sure (view before).is_clean clean) in
+          let h = open_from (state before) c.in-Ok.ensures.ready (ensure_sound (view before).is_clean clean) in
           let kept = first.kept clean in
           let on = c.in-Ok.ensures.open none in
           let same = c.checkpoint.ensures.same on in

@@ -25,6 +25,6 @@ returns-clause-size g c clean db held =
     let looked = same_image c.probe_page_size.ensures.log c.probe_page_size.ensures.db in
     let word = ((rw ok_head at c.probe_first_page.ensures.value) clean stored.stored page.0 (subst₂ (λ n i. raw.Recovers n i stored.stored) sized (sym looked) stored.found) page.1 (page.2 ∙ sized)).1 ∙ page.3 in
     elim (cases_eq (size % 16) 8) [
-      | inl on ↦ let eight : reserved size ≡ 8 = rw (eq-eqb _ 8 on) in absurd (omega (arith, word, eight, c.if-head-eq-WITH_SUMS.false))
+      | inl on ↦ let eight : reserved size ≡ 8 = rw (eq-eqb _ 8 on) in absurd (omega (arith, word, eight, c.if-head-eq-CHECKSUM_MARK.false))
       | inr off ↦ let none : reserved size ≡ 0 = rw (ne_eqb _ 8 off) in omega (arith, sized, none)
     ]

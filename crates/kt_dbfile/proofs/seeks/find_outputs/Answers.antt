@@ -6,21 +6,21 @@ use Rattle.kt_dbfile.proofs.seeks.find_outputs.Goals.{in_default-via-in-Some+els
 use Rattle.kt_dbfile.proofs.seeks.find_outputs.Goals as goal
 
 pub returns-in-Some-clause-served : goal.returns-in-Some-clause-served
-returns-in-Some-clause-served g c = looked_serves g.S.Store _ _ c.row_under_key.ensures.looks (Outputs c.args.run c.args.position _) (λ runs. refl) (λ runs may left. left) (λ runs has clean.
-    let first = c.row_under_key.ensures.looks.clean clean in
+returns-in-Some-clause-served g c = looked_serves g.S.Store _ _ c.find_row_by_key.ensures.looks (Outputs c.args.run c.args.position _) (λ runs. refl) (λ runs may left. left) (λ runs has clean.
+    let first = c.find_row_by_key.ensures.looks.clean clean in
     let sound = c.in_ok-row.ensures.sound clean in
     let keeps = has first sound in
     let n = c.key-number.result in
     let es = filter (is_at c.args.position) (entries_of (run_at runs n)) in
     let there = rw (c.entry_table.ensures.tree, c.entry_table.ensures.index, c.in_ok-place.ensures, c.in-Some.is) at (c.in_ok-row.ensures.found clean) cs (map (entry_row n) es) (λ shaped up. place_of_entry runs _ keeps shaped up n c.args.position) in
     let it = row_there (run_at runs n) n c.args.position (drop 1 c.in-Some.row) there in
-    outputs_agree c.stored_outputs.result runs c.args.run c.args.position
-    (IfOk-weaker c.stored_outputs.result _ _ (λ o same. (it.0, ap (λ (m : ℕ). entry_at (run_at runs m) c.args.position) (sym (sym c.from.ensures ∙ c.if-from-run.true)) ∙ it.1, same)) (c.stored_outputs.ensures.outputs n it.0 it.2))
-    (IfErr-weaker c.stored_outputs.result _ _ (λ e failed. inl failed) c.stored_outputs.ensures.failed))
+    outputs_agree c.outputs_from_row.result runs c.args.run c.args.position
+    (IfOk-weaker c.outputs_from_row.result _ _ (λ o same. (it.0, ap (λ (m : ℕ). entry_at (run_at runs m) c.args.position) (sym (sym c.from.ensures ∙ c.if-from-run.true)) ∙ it.1, same)) (c.outputs_from_row.ensures.outputs n it.0 it.2))
+    (IfErr-weaker c.outputs_from_row.result _ _ (λ e failed. inl failed) c.outputs_from_row.ensures.failed))
 
 pub returns-clause-served : goal.returns-clause-served
-returns-clause-served g c = looked_serves g.S.Store _ _ c.row_under_key.ensures.looks (Outputs c.args.run c.args.position _) (λ runs. refl) (λ runs may left. left) (λ runs has clean.
-    let first = c.row_under_key.ensures.looks.clean clean in
+returns-clause-served g c = looked_serves g.S.Store _ _ c.find_row_by_key.ensures.looks (Outputs c.args.run c.args.position _) (λ runs. refl) (λ runs may left. left) (λ runs has clean.
+    let first = c.find_row_by_key.ensures.looks.clean clean in
     let sound = c.in_ok-row.ensures.sound clean in
     let keeps = has first sound in
     let n = c.key-number.result in

@@ -4,30 +4,30 @@ use Rattle.kt_store.proofs.FaultLemmas.{if_trouble, ok_later, fault_later, ok_of
 use Rattle.kt_store.proofs.SqlFacts.{nothing_is}
 use Rattle.kt_store.proofs.attach.create_or_adopt_tables.Goals as goal
 
-pub probe-requires : goal.probe-requires
-probe-requires g c = nothing_is
+pub check_sql-requires : goal.check_sql-requires
+check_sql-requires g c = nothing_is
 
-pub returns-in_err-probe-clause-refused : goal.returns-in_err-probe-clause-refused
-returns-in_err-probe-clause-refused g c was is =
+pub returns-in_err-check_sql-clause-refused : goal.returns-in_err-check_sql-clause-refused
+returns-in_err-check_sql-clause-refused g c was is =
     if_trouble _ c.from_residual.result c.from_residual.ensures.1 (λ e failed.
-    look_refuses g.S.Store c.args.conn.now c.probe.new.conn (λ db opened may. g.met.S.Store.settled c.args.conn.now.store db opened may) c.lives.ensures c.probe.ensures.survives e (λ clean. c.in_err-probe.ensures.rests clean) was (λ clean. all_due was e failed) is)
+    look_refuses g.S.Store c.args.conn.now c.check_sql.new.conn (λ db opened may. g.met.S.Store.settled c.args.conn.now.store db opened may) c.lives.ensures c.check_sql.ensures.survives e (λ clean. c.in_err-check_sql.ensures.rests clean) was (λ clean. all_due was e failed) is)
 
 pub returns-then-is_blank-clause-refused : goal.returns-then-is_blank-clause-refused
 returns-then-is_blank-clause-refused g c was is =
-    IfErr-weaker c.create.result _ _ (λ e why. create_refuses (state g.S.Store c.args.conn.now) (state g.S.Store c.probe.new.conn) (state g.S.Store c.create.new.conn) c.probe.ensures.survives (λ clean. c.in_ok-probe.ensures.same clean) (λ clean. c.create.ensures.earlier clean)
-    (c.is_blank.ensures.blank c.if-is_blank.true) e why was is) (fault_later _ c.create.result c.create.ensures.refused)
+    IfErr-weaker c.create_tables.result _ _ (λ e why. create_refuses (state g.S.Store c.args.conn.now) (state g.S.Store c.check_sql.new.conn) (state g.S.Store c.create_tables.new.conn) c.check_sql.ensures.survives (λ clean. c.in_ok-check_sql.ensures.same clean) (λ clean. c.create_tables.ensures.earlier clean)
+    (c.is_blank.ensures.blank c.if-is_blank.true) e why was is) (fault_later _ c.create_tables.result c.create_tables.ensures.refused)
 
 pub returns-then-is_blank-clause-taken : goal.returns-then-is_blank-clause-taken
 returns-then-is_blank-clause-taken g c was is =
-    on_ok_weaker c.create.result (λ why. create_takes (state g.S.Store c.args.conn.now) (state g.S.Store c.probe.new.conn) (state g.S.Store c.create.new.conn) c.probe.ensures.survives (λ clean. c.in_ok-probe.ensures.same clean) (λ clean. c.create.ensures.earlier clean)
-    (c.is_blank.ensures.blank c.if-is_blank.true) why was is) (ok_later _ c.create.result c.create.ensures.taken)
+    on_ok_weaker c.create_tables.result (λ why. create_takes (state g.S.Store c.args.conn.now) (state g.S.Store c.check_sql.new.conn) (state g.S.Store c.create_tables.new.conn) c.check_sql.ensures.survives (λ clean. c.in_ok-check_sql.ensures.same clean) (λ clean. c.create_tables.ensures.earlier clean)
+    (c.is_blank.ensures.blank c.if-is_blank.true) why was is) (ok_later _ c.create_tables.result c.create_tables.ensures.taken)
 
 pub returns-clause-refused : goal.returns-clause-refused
 returns-clause-refused g c was is =
-    IfErr-weaker c.take.result _ _ (λ e why. take_refuses (state g.S.Store c.args.conn.now) (state g.S.Store c.probe.new.conn) (state g.S.Store c.take.new.conn) c.probe.ensures.survives (λ clean. c.in_ok-probe.ensures.same clean) (λ clean. c.take.ensures.earlier clean)
+    IfErr-weaker c.take.result _ _ (λ e why. take_refuses (state g.S.Store c.args.conn.now) (state g.S.Store c.check_sql.new.conn) (state g.S.Store c.take.new.conn) c.check_sql.ensures.survives (λ clean. c.in_ok-check_sql.ensures.same clean) (λ clean. c.take.ensures.earlier clean)
     (c.is_blank.ensures.filled c.if-is_blank.false) e why was is) (fault_of _ _ _ c.take.result c.take.ensures.refused)
 
 pub returns-clause-taken : goal.returns-clause-taken
 returns-clause-taken g c was is =
-    on_ok_weaker c.take.result (λ why. take_takes (state g.S.Store c.args.conn.now) (state g.S.Store c.probe.new.conn) (state g.S.Store c.take.new.conn) c.probe.ensures.survives (λ clean. c.in_ok-probe.ensures.same clean) (λ clean. c.take.ensures.earlier clean)
+    on_ok_weaker c.take.result (λ why. take_takes (state g.S.Store c.args.conn.now) (state g.S.Store c.check_sql.new.conn) (state g.S.Store c.take.new.conn) c.check_sql.ensures.survives (λ clean. c.in_ok-check_sql.ensures.same clean) (λ clean. c.take.ensures.earlier clean)
     (c.is_blank.ensures.filled c.if-is_blank.false) why was is) (ok_of _ _ _ c.take.result c.take.ensures.taken)

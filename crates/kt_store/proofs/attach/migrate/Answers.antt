@@ -1,4 +1,4 @@
-use Rattle.kt_store.proofs.Common.{IsSchema1Database, arith, inl, inr, raise_statements, refl, state}
+use Rattle.kt_store.proofs.Common.{IsSchema1Database, arith, inl, inr, migration_statements, refl, state}
 use Rattle.kt_store.proofs.CommitLemmas.{undone_holds, commit_crash, commit_takes}
 use Rattle.kt_store.proofs.RaiseLemmas.{raised_in}
 use Rattle.kt_store.proofs.FaultLemmas.{if_trouble}
@@ -11,7 +11,7 @@ commit-requires g c = (inr (inr (inr (inl refl))), (inr (inr (inr (inr raise_is.
 
 pub returns-in_err-commit-clause-refused : goal.returns-in_err-commit-clause-refused
 returns-in_err-commit-clause-refused g c runs has =
-    let crash = commit_crash g.S.Store raise_statements c.args.conn.now c.commit.new.conn runs c.commit.ensures.crash (λ clean left ran. raised_in g.S.Store c.args.conn.now left runs (λ opened. (has clean opened).tables) ran) in
+    let crash = commit_crash g.S.Store migration_statements c.args.conn.now c.commit.new.conn runs c.commit.ensures.crash (λ clean left ran. raised_in g.S.Store c.args.conn.now left runs (λ opened. (has clean opened).tables) ran) in
     if_trouble _ c.from_residual.result c.from_residual.ensures.1 (λ e failed. (
       undone_holds g.S.Store (λ db. IsSchema1Database db runs) c.args.conn.now c.commit.new.conn has (λ clean. omega (arith, clean, c.commit.ensures.crash.clean)) (λ clean. c.in_err-commit.ensures.undone clean),
       crash,
@@ -21,5 +21,5 @@ returns-in_err-commit-clause-refused g c runs has =
     ))
 
 pub returns-clause-taken : goal.returns-clause-taken
-returns-clause-taken g c runs has = commit_takes g.S.Store raise_statements c.args.conn.now c.commit.new.conn runs c.commit.ensures.crash (λ clean left ran. raised_in g.S.Store c.args.conn.now left runs (λ opened. (has clean opened).tables) ran)
+returns-clause-taken g c runs has = commit_takes g.S.Store migration_statements c.args.conn.now c.commit.new.conn runs c.commit.ensures.crash (λ clean left ran. raised_in g.S.Store c.args.conn.now left runs (λ opened. (has clean opened).tables) ran)
     (λ db opened may. g.met.S.Store.settled c.commit.new.conn.store db opened may) (λ clean. c.in_ok-commit.ensures.done clean)

@@ -3,11 +3,11 @@ use Rattle.kt_store.proofs.RunLemmas.{tells_run, none_there, some_there, both_re
 use Rattle.kt_store.proofs.SqlFacts.{run_is}
 use Rattle.kt_store.proofs.lookup.find.Goals as goal
 
-pub value_in-requires : goal.value_in-requires
-value_in-requires g c = omega (arith, all-slice_get (λ (l : Row). 2 ≤ length l) c.in_ok-rows.rows.items 0 c.in-Some.row.now (ap (λ l. slice_get l 0) (sym c.deref.ensures.value) ∙ sym c.first.ensures.value ∙ ap option_copied c.in-Some.is) c.in_ok-rows.ensures.wide)
+pub get_column-requires : goal.get_column-requires
+get_column-requires g c = omega (arith, all-slice_get (λ (l : Row). 2 ≤ length l) c.in_ok-rows.rows.items 0 c.in-Some.row.now (ap (λ l. slice_get l 0) (sym c.deref.ensures.value) ∙ sym c.first.ensures.value ∙ ap option_copied c.in-Some.is) c.in_ok-rows.ensures.wide)
 
-pub value_in-requires-2 : goal.value_in-requires-2
-value_in-requires-2 g c = omega (arith, all-slice_get (λ (l : Row). 2 ≤ length l) c.in_ok-rows.rows.items 0 c.in-Some.row.now (ap (λ l. slice_get l 0) (sym c.deref.ensures.value) ∙ sym c.first.ensures.value ∙ ap option_copied c.in-Some.is) c.in_ok-rows.ensures.wide)
+pub get_column-requires-2 : goal.get_column-requires-2
+get_column-requires-2 g c = omega (arith, all-slice_get (λ (l : Row). 2 ≤ length l) c.in_ok-rows.rows.items 0 c.in-Some.row.now (ap (λ l. slice_get l 0) (sym c.deref.ensures.value) ∙ sym c.first.ensures.value ∙ ap option_copied c.in-Some.is) c.in_ok-rows.ensures.wide)
 
 pub query-requires : goal.query-requires
 query-requires g c = record { plain = run_is.2; width = run_is.3 }

@@ -15,16 +15,16 @@ returns-then-from-total-clause-refused g c runs has clean =
 
 pub returns-clause-taken : goal.returns-clause-taken
 returns-clause-taken g c runs has clean passed =
-    let stands = c.look.ensures.looked.stands runs has in
+    let stands = c.look_up_run.ensures.looked.stands runs has in
     let early = was_clean c.there.ensures.looked runs stands clean in
     let it = c.in_ok-total.ensures.found runs has early in
     taken runs c.args.run c.args.entry.now it.0 it.1 (sym it.3 ∙ c.if-finished.false) (omega (arith, c.if-from-total.false, c.from.ensures, it.2)) passed it.4 (sym (rw (c.key.ensures.same c.in_ok-total.ensures.small) at (c.in_ok-there.ensures.found runs stands clean)) ∙ c.if-branch.false)
 
 pub returns-in_err-there-clause-looked : goal.returns-in_err-there-clause-looked
-returns-in_err-there-clause-looked g c = looked-then c.look.ensures.looked c.there.ensures.looked
+returns-in_err-there-clause-looked g c = looked-then c.look_up_run.ensures.looked c.there.ensures.looked
 
 pub returns-then-branch-clause-looked : goal.returns-then-branch-clause-looked
-returns-then-branch-clause-looked g c = looked-then c.look.ensures.looked c.there.ensures.looked
+returns-then-branch-clause-looked g c = looked-then c.look_up_run.ensures.looked c.there.ensures.looked
 
 pub returns-clause-looked : goal.returns-clause-looked
-returns-clause-looked g c = looked-then c.look.ensures.looked c.there.ensures.looked
+returns-clause-looked g c = looked-then c.look_up_run.ensures.looked c.there.ensures.looked

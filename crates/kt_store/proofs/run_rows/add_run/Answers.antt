@@ -1,4 +1,4 @@
-use Rattle.kt_store.proofs.Common.{HasCleanDisk, IsDatabase, IsStore, IsTrue, Keeps, List, MayChange, Run, SFits, StandsFor, [], ap, arith, last_run, length, new_run, pos, rules, state, suc, survives_weaker, to_z-of_z, unsigned_abs, w64, ◌++◌, ◌<◌, ◌∙◌, ◌∷◌, ◌≡◌}
+use Rattle.kt_store.proofs.Common.{HasCleanDisk, IsDatabase, IsSettledWithRuns, IsTrue, IsSchema2Of, List, MayChange, Run, SFits, StandsFor, [], ap, arith, greatest_run_number, length, new_run, pos, rules, state, suc, survives_weaker, to_z-of_z, unsigned_abs, w64, ◌++◌, ◌<◌, ◌∙◌, ◌∷◌, ◌≡◌}
 use Rattle.kt_store.proofs.BeginLemmas.{executed_begin, crash_begin, leaves_commit}
 use Rattle.kt_store.proofs.SqlFacts.{begin_is}
 use Rattle.kt_store.proofs.run_rows.add_run.Given.{Over}
@@ -9,16 +9,16 @@ pub execute-requires : goal.execute-requires
 execute-requires g c = begin_is.1
 
 -- a crash leaves what it left before, or the runs with the new run appended
-crash : (g : Over) (c : After-execute g) → MayChange g.S.Store c.args.conn.now c.execute.new.conn (λ runs. length runs < last_run) (λ runs. runs ++ new_run runs c.args.total c.args.moment ∷ [])
+crash : (g : Over) (c : After-execute g) → MayChange g.S.Store c.args.conn.now c.execute.new.conn (λ runs. length runs < greatest_run_number) (λ runs. runs ++ new_run runs c.args.total c.args.moment ∷ [])
 crash g c runs has room =
-    survives_weaker (state g.S.Store c.args.conn.now) (state g.S.Store c.execute.new.conn) _ (Keeps (runs ++ new_run runs c.args.total c.args.moment ∷ []))
+    survives_weaker (state g.S.Store c.args.conn.now) (state g.S.Store c.execute.new.conn) _ (IsSchema2Of (runs ++ new_run runs c.args.total c.args.moment ∷ []))
     (crash_begin g.S.Store c.args.conn.now c.execute.new.conn runs c.args.total c.args.moment has room (omega (arith, c.ranges.total.fits)) (λ k. omega (arith, k, c.execute.ensures.survives.clean)))
     (rw (c.int.ensures, c.int-2.ensures, c.from.ensures) at c.execute.ensures.survives)
 
 -- after the INSERT, the tables represent the runs with the new run appended, and the last rowid is
 -- its number
-begun : (g : Over) (c : In_ok-execute g) (runs : List Run) → StandsFor (state g.S.Store c.args.conn.now) runs → (HasCleanDisk (state g.S.Store c.args.conn.now) → length runs < last_run) → HasCleanDisk (state g.S.Store c.execute.new.conn)
-    → IsStore (state g.S.Store c.execute.new.conn) (runs ++ new_run runs c.args.total c.args.moment ∷ []) × ((state g.S.Store c.execute.new.conn).last_rowid ≡ pos (suc (length runs))) × IsTrue (state g.S.Store c.execute.new.conn).is_open × IsDatabase (state g.S.Store c.execute.new.conn).now
+begun : (g : Over) (c : In_ok-execute g) (runs : List Run) → StandsFor (state g.S.Store c.args.conn.now) runs → (HasCleanDisk (state g.S.Store c.args.conn.now) → length runs < greatest_run_number) → HasCleanDisk (state g.S.Store c.execute.new.conn)
+    → IsSettledWithRuns (state g.S.Store c.execute.new.conn) (runs ++ new_run runs c.args.total c.args.moment ∷ []) × ((state g.S.Store c.execute.new.conn).last_rowid ≡ pos (suc (length runs))) × IsTrue (state g.S.Store c.execute.new.conn).is_open × IsDatabase (state g.S.Store c.execute.new.conn).now
 begun g c runs has room clean =
     executed_begin g.S.Store c.args.conn.now c.execute.new.conn runs c.args.total c.args.moment has room (omega (arith, c.ranges.total.fits)) (λ k. omega (arith, k, c.execute.ensures.survives.clean)) clean
     (rw (c.int.ensures, c.int-2.ensures, c.from.ensures) at (c.in_ok-execute.ensures.executed clean))

@@ -10,23 +10,23 @@ returns-then-finished-clause-refused g c runs has clean =
 
 pub returns-then-count-total-clause-refused : goal.returns-then-count-total-clause-refused
 returns-then-count-total-clause-refused g c runs has clean =
-    let stands = c.look.ensures.looked.stands runs has in
+    let stands = c.look_up_run.ensures.looked.stands runs has in
     let early = was_clean c.entry_rows.ensures.looked runs stands clean in
     let it = c.in_ok-total.ensures.found runs has early in
     inr (lacks_some runs c.args.run it.0 it.1 (sym it.3 ∙ c.if-finished.false) it.4 _ (ap length (c.as_slice.ensures.value ∙ (rw (c.key.ensures.same c.in_ok-total.ensures.small) at (c.in_ok-rows.ensures.all runs stands clean))) ∙ length-map (entries_of (run_at runs c.args.run)) whole_columns) (omega (arith, c.if-count-total.true, it.2)))
 
 pub returns-clause-taken : goal.returns-clause-taken
 returns-clause-taken g c runs has clean =
-    let stands = c.look.ensures.looked.stands runs has in
+    let stands = c.look_up_run.ensures.looked.stands runs has in
     let early = was_clean c.entry_rows.ensures.looked runs stands clean in
     let it = c.in_ok-total.ensures.found runs has early in
     lacks_none runs c.args.run it.0 it.1 (sym it.3 ∙ c.if-finished.false) it.4 _ (ap length (c.as_slice.ensures.value ∙ (rw (c.key.ensures.same c.in_ok-total.ensures.small) at (c.in_ok-rows.ensures.all runs stands clean))) ∙ length-map (entries_of (run_at runs c.args.run)) whole_columns) (omega (arith, c.if-count-total.false, it.2))
 
 pub returns-in_err-rows-clause-looked : goal.returns-in_err-rows-clause-looked
-returns-in_err-rows-clause-looked g c = looked-then c.look.ensures.looked c.entry_rows.ensures.looked
+returns-in_err-rows-clause-looked g c = looked-then c.look_up_run.ensures.looked c.entry_rows.ensures.looked
 
 pub returns-then-count-total-clause-looked : goal.returns-then-count-total-clause-looked
-returns-then-count-total-clause-looked g c = looked-then c.look.ensures.looked c.entry_rows.ensures.looked
+returns-then-count-total-clause-looked g c = looked-then c.look_up_run.ensures.looked c.entry_rows.ensures.looked
 
 pub returns-clause-looked : goal.returns-clause-looked
-returns-clause-looked g c = looked-then c.look.ensures.looked c.entry_rows.ensures.looked
+returns-clause-looked g c = looked-then c.look_up_run.ensures.looked c.entry_rows.ensures.looked

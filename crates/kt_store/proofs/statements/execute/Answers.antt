@@ -1,4 +1,4 @@
-use Rattle.kt_store.proofs.Common.{CommitsBy, Executes, MayExecute, Ok, [], arith, bound, fails_whole, false, state, subst}
+use Rattle.kt_store.proofs.Common.{CommitsBy, Executes, StatementMayCommit, Ok, [], arith, bound, fails_whole, false, state, subst}
 use Rattle.kt_store.proofs.FaultLemmas.{on_err}
 use Rattle.kt_store.proofs.StepLemmas.{not_run, rests_then, prepare_then}
 use Rattle.kt_store.proofs.statements.execute.Goals as goal
@@ -18,7 +18,7 @@ returns-clause-executed g c clean =
 
 pub returns-clause-survives : goal.returns-clause-survives
 returns-clause-survives g c =
-    prepare_then (state g.S.Store c.args.conn.now) (state g.S.Store c.prepare.new.self) (state g.S.Store c.execute.new.conn) (MayExecute g.S.Store c.args.sql.now (bound c.args.params.now) c.args.conn.now) _ c.prepare.ensures.survives c.execute.ensures.survives
+    prepare_then (state g.S.Store c.args.conn.now) (state g.S.Store c.prepare.new.self) (state g.S.Store c.execute.new.conn) (StatementMayCommit g.S.Store c.args.sql.now (bound c.args.params.now) c.args.conn.now) _ c.prepare.ensures.survives c.execute.ensures.survives
     (λ clean db may. let it = c.in_ok-statement.ensures.ok clean in (c.prepare.new.self, it.1, subst (λ sql. CommitsBy sql (bound c.args.params.now) (state g.S.Store c.prepare.new.self) db) it.0 may))
 
 pub returns-in_err-execute-clause-rests : goal.returns-in_err-execute-clause-rests
@@ -28,5 +28,5 @@ returns-in_err-execute-clause-rests g c clean =
 
 pub returns-in_err-execute-clause-survives : goal.returns-in_err-execute-clause-survives
 returns-in_err-execute-clause-survives g c =
-    prepare_then (state g.S.Store c.args.conn.now) (state g.S.Store c.prepare.new.self) (state g.S.Store c.execute.new.conn) (MayExecute g.S.Store c.args.sql.now (bound c.args.params.now) c.args.conn.now) _ c.prepare.ensures.survives c.execute.ensures.survives
+    prepare_then (state g.S.Store c.args.conn.now) (state g.S.Store c.prepare.new.self) (state g.S.Store c.execute.new.conn) (StatementMayCommit g.S.Store c.args.sql.now (bound c.args.params.now) c.args.conn.now) _ c.prepare.ensures.survives c.execute.ensures.survives
     (λ clean db may. let it = c.in_ok-statement.ensures.ok clean in (c.prepare.new.self, it.1, subst (λ sql. CommitsBy sql (bound c.args.params.now) (state g.S.Store c.prepare.new.self) db) it.0 may))

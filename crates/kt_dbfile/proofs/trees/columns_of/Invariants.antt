@@ -1,5 +1,0 @@
-use Rattle.kt_dbfile.proofs.Common.{column, map, take, ◌≡◌}
-use Rattle.kt_dbfile.proofs.trees.columns_of.Given as goal
-
-abbrev pub invariant-loop-at : goal.invariant-loop-at
-invariant-loop-at l = l.values ≡ map (column l.row) (take l.at-index l.columns)
