@@ -1,12 +1,12 @@
 -- Lemmas on the number of cases at a position.
 use Rattle.std.proofs.Common.{◌≡◌, ◌≢◌, ℕ, zero, suc, ◌+◌, ◌<◌, ◌≤◌, ◌==◌, ◌&&◌, List, [], ◌∷◌, ◌++◌, slice_get, map, Bool, true, false, Option, Some, None, refl, arith, if◌then◌else◌, nat_lt, ap, remove}
-use Rattle.kt_child.proofs.Common.{nat_tests, Role, Body, Cleanup, CaseAttempt, same_role, count_at, one_if, times, is_among, pending_with, shown, shown_at, is_over}
+use Rattle.kt_child.proofs.Common.{nat_tests, Role, Body, Cleanup, CaseAttempt, is_same_role, count_at, one_if, occurrences, is_among, pending_with, launcher_child, launcher_child_at, is_last_child}
 use Rattle.kt_sched.specs.Children.{Child as Shown}
 use Rattle.kt_base.proofs.Lists.{same_number}
 use Rattle.std.proofs.lemmas.Option.{same_Some}
 
--- `same_role` of a role and itself is `true`.
-pub own_role : (r : Role) → same_role r r ≡ true
+-- `is_same_role` of a role and itself is `true`.
+pub own_role : (r : Role) → is_same_role r r ≡ true
 own_role Body = refl
 own_role Cleanup = refl
 
@@ -19,20 +19,22 @@ one_if_is false = refl
 pub apart : (i j : ℕ) → one_if (i == j) ≡ 0 → i ≢ j
 apart i j h e = let t : (i == j) ≡ true = grind (arith, nat_tests) in absurd (omega (arith, ap one_if t))
 
--- A case that is shown in neither role is not at the position.
+-- One step of `none_shown`: if the first case and the others have no child at a position in either
+-- role, the position has the count 0.
 count_step : (b : Bool) (role : Role) (s : Shown) (x y : Option Shown) (n : ℕ)
     → (x ≡ None → y ≡ None → n ≡ 0)
-    → (if b && same_role Body role then Some s else x) ≡ None
-    → (if b && same_role Cleanup role then Some s else y) ≡ None → one_if b + n ≡ 0
+    → (if b && is_same_role Body role then Some s else x) ≡ None
+    → (if b && is_same_role Cleanup role then Some s else y) ≡ None → one_if b + n ≡ 0
 count_step true Body s x y n h p q = absurd (cc (p))
 count_step true Cleanup s x y n h p q = absurd (cc (q))
 count_step false role s x y n h p q = omega (arith, h p q)
 
--- A position at which nothing is shown has no case.
-pub none_shown : (cases : List CaseAttempt) (i : ℕ) → shown_at cases i Body ≡ None → shown_at cases i Cleanup ≡ None → count_at i cases ≡ 0
+-- If no case has a child at a position in either role (`launcher_child_at`), no case has this
+-- position.
+pub none_shown : (cases : List CaseAttempt) (i : ℕ) → launcher_child_at cases i Body ≡ None → launcher_child_at cases i Cleanup ≡ None → count_at i cases ≡ 0
 none_shown [] i p q = refl
 none_shown (c ∷ cases) i p q =
-    count_step (i == c.position) c.role (shown c) (shown_at cases i Body) (shown_at cases i Cleanup) (count_at i cases) (none_shown cases i) p q
+    count_step (i == c.position) c.role (launcher_child c) (launcher_child_at cases i Body) (launcher_child_at cases i Cleanup) (count_at i cases) (none_shown cases i) p q
 
 -- A position has a case exactly if its count is above 0.
 pub among_counts : (cases : List CaseAttempt) (k : ℕ) → is_among cases k ≡ nat_lt 0 (count_at k cases)
@@ -49,21 +51,21 @@ none_among cases i p = grind (arith, nat_tests, among_counts cases i)
 -- Counts of a number `n` among the values `f x` of a list.
 module _ {X : Type 0} (f : X → ℕ) (n : ℕ) where
   -- Appending an element adds one to the count if its value is `n`.
-  pub times_more : (xs : List X) (x : X) → times n (map f (xs ++ x ∷ [])) ≡ times n (map f xs) + one_if (n == f x)
+  pub times_more : (xs : List X) (x : X) → occurrences n (map f (xs ++ x ∷ [])) ≡ occurrences n (map f xs) + one_if (n == f x)
   times_more [] x = omega arith
   times_more (y ∷ xs) x = omega (arith, times_more xs x)
 
   -- Removing an element takes one from the count if its value is `n`.
-  pub times_less : (xs : List X) (p : ℕ) (x : X) → slice_get xs p ≡ Some x → times n (map f (remove xs p)) + one_if (n == f x) ≡ times n (map f xs)
+  pub times_less : (xs : List X) (p : ℕ) (x : X) → slice_get xs p ≡ Some x → occurrences n (map f (remove xs p)) + one_if (n == f x) ≡ occurrences n (map f xs)
   times_less [] p x h = absurd (cc (h))
   times_less (y ∷ xs) zero x h = omega (arith, ap (λ t. one_if (n == f t)) (same_Some y x h))
   times_less (y ∷ xs) (suc p) x h = omega (arith, times_less xs p x h)
 
 -- The end of a child adds its case to the pending cases at most once.
-pub times_owed : (f : CaseAttempt → ℕ) (n : ℕ) (owed : List CaseAttempt) (c : CaseAttempt) → times n (map f (pending_with c owed)) ≤ times n (map f owed) + one_if (n == f c)
-times_owed f n owed c = by (is_over c)
+pub times_owed : (f : CaseAttempt → ℕ) (n : ℕ) (owed : List CaseAttempt) (c : CaseAttempt) → occurrences n (map f (pending_with c owed)) ≤ occurrences n (map f owed) + one_if (n == f c)
+times_owed f n owed c = by (is_last_child c)
   where
-    by : (t : Bool) → times n (map f (if t then owed else owed ++ c ∷ [])) ≤ times n (map f owed) + one_if (n == f c)
+    by : (t : Bool) → occurrences n (map f (if t then owed else owed ++ c ∷ [])) ≤ occurrences n (map f owed) + one_if (n == f c)
     by true = omega arith
     by false = omega (arith, times_more f n owed c)
 

@@ -1,30 +1,32 @@
 -- Lemmas on the children's cases, which no poll changes.
-use Rattle.std.proofs.Common.{◌≡◌, ℕ, zero, suc, List, [], ◌∷◌, ◌++◌, Some, map, slice_get, refl, sym, ◌∙◌, ap, remove}
-use Rattle.kt_child.proofs.Common.{Outcome, Ended, RunningChild, ChildrenState, Call, FinishesChild, cases_of, WaitedOn, advanced, advanced_below, last_turn, pending_with, whole_turn}
+use Rattle.std.proofs.Common.{◌≡◌, ℕ, zero, suc, List, [], ◌∷◌, ◌++◌, Some, map, slice_get, refl, sym, ◌∙◌, ap, drop, remove, take}
+use Rattle.kt_child.proofs.Common.{CaseAttempt, Outcome, Ended, RunningChild, ChildrenState, Call, FinishesChild, cases_of, PollsInTurns, child_after_running, children_after_running, last_turn, pending_with, whole_turn}
 use Rattle.std.specs.Option.{option_map}
+use Rattle.std.proofs.lemmas.List.{drop-map, map-append, take-map}
 use Rattle.std.proofs.lemmas.Option.{slice_get-map}
-use Rattle.indexmap.proofs.SetLemmas.{map-remove}
 
 -- The first part of a turn doesn't change the cases.
-pub cases_below : (n : ℕ) (ks : List RunningChild) → cases_of (advanced_below n ks) ≡ cases_of ks
+pub cases_below : (n : ℕ) (ks : List RunningChild) → cases_of (children_after_running n ks) ≡ cases_of ks
 cases_below zero ks = refl
 cases_below (suc n) [] = refl
 cases_below (suc n) (k ∷ ks) = ap (λ t. k.case ∷ t) (cases_below n ks)
 
 -- A turn doesn't change the cases.
-pub cases_turn : (ks : List RunningChild) → cases_of (map advanced ks) ≡ cases_of ks
+pub cases_turn : (ks : List RunningChild) → cases_of (map child_after_running ks) ≡ cases_of ks
 cases_turn [] = refl
 cases_turn (k ∷ ks) = ap (λ t. k.case ∷ t) (cases_turn ks)
 
 -- A wait doesn't change the cases of the children that it polls.
 pub cases_waited : (ks : List RunningChild) (calls : List Call) (place : ℕ) (outcome : Outcome) (after : List RunningChild)
-    → WaitedOn ks calls place outcome after → cases_of after ≡ cases_of ks
+    → PollsInTurns ks calls place outcome after → cases_of after ≡ cases_of ks
 cases_waited _ _ _ _ _ (last_turn ks calls place outcome polled) = cases_below place ks
-cases_waited _ _ _ _ _ (whole_turn ks after turn more done place outcome all waited) = cases_waited (map advanced ks) more place outcome after waited ∙ cases_turn ks
+cases_waited _ _ _ _ _ (whole_turn ks after turn more done place outcome all waited) = cases_waited (map child_after_running ks) more place outcome after waited ∙ cases_turn ks
 
 -- Removing the child at an index removes its case.
 pub cases_remove : (ks : List RunningChild) (i : ℕ) → cases_of (remove ks i) ≡ remove (cases_of ks) i
-cases_remove ks i = map-remove (λ (k : RunningChild). k.case) ks i
+cases_remove ks i =
+    let f : RunningChild → CaseAttempt = λ k. k.case in
+    map-append f (take i ks) (drop (suc i) ks) ∙ (λ j. sym (take-map f i ks) j ++ sym (drop-map f (suc i) ks) j)
 
 -- The case at an index is that of the child at that index.
 pub case_at : (ks : List RunningChild) (i : ℕ) (k : RunningChild) → slice_get ks i ≡ Some k → slice_get (cases_of ks) i ≡ Some k.case
@@ -40,7 +42,7 @@ pub record Left (old : ChildrenState) (calls : List Call) (e : Ended) (new : Chi
   pub after : List RunningChild
   pub over : RunningChild
   pub asked : calls ≡ polls ++ rest
-  pub waited : WaitedOn old.children polls place outcome after
+  pub waited : PollsInTurns old.children polls place outcome after
   pub there : slice_get after place ≡ Some over
   pub left : FinishesChild over.case rest outcome e
   pub children : new.children ≡ remove after place

@@ -3,9 +3,6 @@ pub mod CaseCounts
 pub mod CaseSteps
 pub mod Chains
 pub mod Common
-pub mod HostReads
-pub mod HostStandings
-pub mod HostSteps
 pub mod NumberSteps
 pub mod Outcomes
 pub mod OwedCases

@@ -1,6 +1,6 @@
 -- The next attempt number never decreases, and no number occurs twice in a driver state.
 use Rattle.std.proofs.Common.{◌≡◌, ℕ, ◌==◌, ◌&&◌, ◌+◌, ◌-◌, ◌^◌, ◌<◌, ◌≤◌, List, [], ◌∷◌, ◌++◌, Bool, true, false, map, refl, sym, ◌∙◌, ap, subst, arith, inl, inr}
-use Rattle.kt_child.proofs.Common.{nat_tests, PolledChild, DriverState, Body, Cleanup, Call, CaseAttempt, Chain, Driver, End, Ended, Ends, IsPolled, Job, NoEvent, Role, Runs, Start as Started, StartAnswer, Starts, Then, Trace, children_after_start, limit_of, one_if, AttemptsDiffer, IsApart, NumbersDiffer, numbers, times, Request, Wait, ListOf, Serves, ServesAll, is_attempt}
+use Rattle.kt_child.proofs.Common.{nat_tests, PolledChild, DriverState, Body, Cleanup, Call, CaseAttempt, Chain, Driver, End, Ended, Ends, AddsResponse, Job, NoEvent, Role, Runs, Start as Started, StartAnswer, Starts, Then, Trace, children_after_start, limit_of, one_if, AttemptsDiffer, HasUniqueNumbers, NumbersDiffer, numbers, occurrences, Request, Wait, ListOf, Serves, ServesAll, is_attempt}
 use Rattle.kt_child.specs.Driving.Numbers.{Start}
 use Rattle.kt_sched.specs.declared.job.StartAnswer.TheVariants.{Started as StartedAt, Refused as RefusedFor}
 use Rattle.kt_child.specs.Driving.DriverState.{killed, later, paused, polled}
@@ -29,7 +29,7 @@ attempts_differ leads attempt requests d e f is lt served all =
     omega (arith, (serves leads d e attempt served).1 is lt, all_rise leads requests e f all)
 
 -- The count of a number in two joined lists is the sum of its counts.
-times_join : (n : ℕ) (xs ys : List ℕ) → times n (xs ++ ys) ≡ times n xs + times n ys
+times_join : (n : ℕ) (xs ys : List ℕ) → occurrences n (xs ++ ys) ≡ occurrences n xs + occurrences n ys
 times_join n [] ys = omega arith
 times_join n (x ∷ xs) ys = omega (arith, times_join n xs ys)
 
@@ -42,20 +42,20 @@ abbrev owed_by : CaseAttempt → ℕ
 owed_by c = c.attempt
 
 -- No call changes the attempt numbers of the running children.
-call_kept : (old new : List PolledChild) (call : Call) → IsPolled old call new → map runs_by new ≡ map runs_by old
+call_kept : (old new : List PolledChild) (call : Call) → AddsResponse old call new → map runs_by new ≡ map runs_by old
 call_kept _ _ _ (polled a others answer) = refl
 call_kept _ _ _ (killed a others done) = refl
 call_kept _ _ _ (later a others after call h) = ap (λ t. a.case.attempt ∷ t) (call_kept others after call h)
 call_kept _ _ _ (paused alive done) = refl
 
 -- No list of calls changes the attempt numbers of the running children.
-calls_kept : (calls : List Call) (old new : List PolledChild) → Chain IsPolled old calls new → map runs_by new ≡ map runs_by old
+calls_kept : (calls : List Call) (old new : List PolledChild) → Chain AddsResponse old calls new → map runs_by new ≡ map runs_by old
 calls_kept [] old new h = ap (map runs_by) h
 calls_kept (call ∷ calls) old new (mid, first, rest) = calls_kept calls mid new rest ∙ call_kept old mid call first
 
 -- A start adds the attempt number of its case at most once.
 started_most : (n : ℕ) (alive : List PolledChild) (job : Job) (c : CaseAttempt) (answer : StartAnswer)
-    → times n (map runs_by (children_after_start alive job c answer)) ≤ times n (map runs_by alive) + one_if (n == c.attempt)
+    → occurrences n (map runs_by (children_after_start alive job c answer)) ≤ occurrences n (map runs_by alive) + one_if (n == c.attempt)
 started_most n alive job c (RefusedFor cause) = omega arith
 started_most n alive job c (StartedAt moment) =
     omega (arith, times_more runs_by n alive (record { case = c; limit = limit_of job c.role; heard = [] }))
@@ -66,40 +66,40 @@ apart_still : (t : Bool) (n x y next after : ℕ) → next + one_if t ≤ after 
 apart_still t n x y next after le h (one, none) =
     (grind (arith, nat_tests, one_if_is t, one_if_is (t && n == next)), λ below. grind (arith, nat_tests, one_if_is t, one_if_is (t && n == next)))
 
--- If no number occurs more often, except the next one if used, `IsApart` stays true.
-fewer : (t : Bool) (old new : DriverState) → IsApart old → old.next + one_if t ≤ new.next
-    → ((n : ℕ) → times n (map runs_by new.alive) + times n (map owed_by new.owed)
-    ≤ times n (map runs_by old.alive) + times n (map owed_by old.owed) + one_if (t && n == old.next)) → IsApart new
+-- If no number occurs more often, except the next one if used, `HasUniqueNumbers` stays true.
+fewer : (t : Bool) (old new : DriverState) → HasUniqueNumbers old → old.next + one_if t ≤ new.next
+    → ((n : ℕ) → occurrences n (map runs_by new.alive) + occurrences n (map owed_by new.owed)
+    ≤ occurrences n (map runs_by old.alive) + occurrences n (map owed_by old.owed) + one_if (t && n == old.next)) → HasUniqueNumbers new
 fewer t old new apart le h n =
     let x = times_join n (map runs_by old.alive) (map owed_by old.owed) in
     let y = times_join n (map runs_by new.alive) (map owed_by new.owed) in
-    apart_still t n (times n (numbers old)) (times n (numbers new)) old.next new.next le (omega (arith, h n, x, y)) (apart n)
+    apart_still t n (occurrences n (numbers old)) (occurrences n (numbers new)) old.next new.next le (omega (arith, h n, x, y)) (apart n)
 
 -- The attempt numbers in a driver state are different after an end.
-ends_apart : (old new : DriverState) (calls : List Call) (e : Ended) → Ends old calls e new → IsApart old → IsApart new
+ends_apart : (old new : DriverState) (calls : List Call) (e : Ended) → Ends old calls e new → HasUniqueNumbers old → HasUniqueNumbers new
 ends_apart old new calls e s apart =
     fewer false old new apart (omega (arith, s.next)) (λ n.
     omega (
       arith,
-      ap (times n) (calls_kept s.polls old.alive s.after s.follows.0),
+      ap (occurrences n) (calls_kept s.polls old.alive s.after s.follows.0),
       times_less runs_by n s.after s.place s.over s.follows.1,
-      ap (λ t. times n (map runs_by t)) s.alive,
+      ap (λ t. occurrences n (map runs_by t)) s.alive,
       times_owed owed_by n old.owed s.over.case,
-      ap (λ t. times n (map owed_by t)) s.owed,
+      ap (λ t. occurrences n (map owed_by t)) s.owed,
     ))
 
 -- The attempt numbers in a driver state are different after a start.
 starts_apart : (source root : List ℕ) (old new : DriverState) (job : Job) (role : Role) (calls : List Call) (answer : StartAnswer)
-    → Starts source root old job role calls answer new → IsApart old → IsApart new
-starts_apart source root old new job role calls answer (inl (r, l, refused, none, same)) apart = subst IsApart (sym same) apart
+    → Starts source root old job role calls answer new → HasUniqueNumbers old → HasUniqueNumbers new
+starts_apart source root old new job role calls answer (inl (r, l, refused, none, same)) apart = subst HasUniqueNumbers (sym same) apart
 starts_apart source root old new job Cleanup calls answer (inr (c, (place, was, at, position, next, owed, case), begun, alive)) apart =
     fewer false old new apart (omega (arith, next)) (λ n.
     omega (
       arith,
       started_most n old.alive job c answer,
-      ap (λ t. times n (map runs_by t)) alive,
+      ap (λ t. occurrences n (map runs_by t)) alive,
       times_less owed_by n old.owed place was at,
-      ap (λ t. times n (map owed_by t)) owed,
+      ap (λ t. occurrences n (map owed_by t)) owed,
       ap (λ (t : CaseAttempt). one_if (n == t.attempt)) case,
     ))
 starts_apart source root old new job Body calls answer (inr (c, ((lt, number, next), owed, case), begun, alive)) apart =
@@ -107,14 +107,14 @@ starts_apart source root old new job Body calls answer (inr (c, ((lt, number, ne
     omega (
       arith,
       started_most n old.alive job c answer,
-      ap (λ t. times n (map runs_by t)) alive,
-      ap (λ t. times n (map owed_by t)) owed,
+      ap (λ t. occurrences n (map runs_by t)) alive,
+      ap (λ t. occurrences n (map owed_by t)) owed,
       ap (λ (t : CaseAttempt). one_if (n == t.attempt)) case,
     ))
 
 -- The attempt numbers in a driver state are different after a run.
-runs_apart : (plan : List Job) (source root : List ℕ) (old : DriverState) (T : Trace) (calls : List Call) (new : DriverState) → Runs plan source root old T calls new → IsApart old → IsApart new
-runs_apart plan source root old NoEvent calls new (none, same) apart = subst IsApart (sym same) apart
+runs_apart : (plan : List Job) (source root : List ℕ) (old : DriverState) (T : Trace) (calls : List Call) (new : DriverState) → Runs plan source root old T calls new → HasUniqueNumbers old → HasUniqueNumbers new
+runs_apart plan source root old NoEvent calls new (none, same) apart = subst HasUniqueNumbers (sym same) apart
 runs_apart plan source root old (Then T (Started i role answer)) calls new (mid, before, asked, e, runs, (job, at, s)) apart =
     starts_apart source root mid new job role asked answer s (runs_apart plan source root old T before mid runs apart)
 runs_apart plan source root old (Then T (End ended)) calls new (mid, before, asked, e, runs, s) apart =

@@ -1,6 +1,6 @@
 -- Lemmas on a file that is read in parts.
 use Rattle.std.proofs.Common.{◌≡◌, ℕ, ◌+◌, List, [], ◌∷◌, ◌++◌, length, Result, Some, None, refl, sym, ◌∙◌, ap, append_assoc, length-append}
-use Rattle.kt_child.proofs.Common.{OsFault, FileRead, ReadEnd, Complete, Chain, Call, TakesBytes, IsEnd, Reads, next_part, bytes_of}
+use Rattle.kt_child.proofs.Common.{OsFault, FileRead, ReadEnd, Complete, Chain, Call, TakesBytes, IsReadEnd, Reads, next_part_call, bytes_of}
 use Rattle.kt_child.specs.Ending.Parts.{last, more}
 use Rattle.kt_child.proofs.Chains.{chain_append}
 
@@ -19,13 +19,13 @@ module _ {R O : Type 0} (has_taken : R → List ℕ → Type 0) (leads : O → C
   -- If more follows after the next part, a read of the rest still completes the read of the file.
   pub taking_more : (now new : O) (reader reader' : R) (got got' : ℕ) (answer : Result FileRead OsFault)
       → Taking has_taken leads path part limit start now reader got
-      → leads now (next_part path part limit got answer) new
-      → IsEnd limit got answer None
+      → leads now (next_part_call path part limit got answer) new
+      → IsReadEnd limit got answer None
       → TakesBytes has_taken reader reader' (bytes_of answer)
       → got' ≡ got + length (bytes_of answer)
       → Taking has_taken leads path part limit start new reader' got'
   taking_more now new reader reader' got got' answer (taken, has, e, calls, chain, on) led goes takes f =
-      let call : Call = next_part path part limit (length taken) answer in (
+      let call : Call = next_part_call path part limit (length taken) answer in (
         taken ++ bytes_of answer,
         takes taken has,
         f ∙ ap (λ m. m + length (bytes_of answer)) e ∙ sym (length-append taken (bytes_of answer)),
@@ -37,13 +37,13 @@ module _ {R O : Type 0} (has_taken : R → List ℕ → Type 0) (leads : O → C
   -- The last part completes the read.
   pub taking_over : (now new : O) (reader reader' : R) (got : ℕ) (answer : Result FileRead OsFault) (end : ReadEnd)
       → Taking has_taken leads path part limit start now reader got
-      → leads now (next_part path part limit got answer) new
-      → IsEnd limit got answer (Some end)
+      → leads now (next_part_call path part limit got answer) new
+      → IsReadEnd limit got answer (Some end)
       → (end ≡ Complete → TakesBytes has_taken reader reader' (bytes_of answer))
       → (calls : List Call) × (bytes : List ℕ) × Chain leads start calls new × Reads path part limit [] calls end bytes
       × (end ≡ Complete → has_taken reader' bytes)
   taking_over now new reader reader' got answer end (taken, has, e, calls, chain, on) led ends takes =
-      let call : Call = next_part path part limit (length taken) answer in (
+      let call : Call = next_part_call path part limit (length taken) answer in (
         calls ++ call ∷ [],
         taken ++ bytes_of answer,
         chain_append leads start now new calls (call ∷ []) chain (new, rw e at led, refl),

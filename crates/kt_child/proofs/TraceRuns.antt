@@ -22,6 +22,6 @@ module _ {D O : Type 0} (leads : O → Call → O → Type 0) (driver : D → Dr
       let chain = chain_append leads (driver d).os (driver mid).os (driver e).os l.0.0 w.0.0 l.0.1 w.0.1 in
       ((l.0.0 ++ w.0.0, chain, (driver_state (driver mid), l.0.0, w.0.0, refl, l.0.2, w.0.2.0)), w.1 ∙ l.1, w.2 ∙ l.2)
 
-  -- Each trace of starts and waits has the calls of its events (`EndsFollow`).
+  -- Each trace of starts and waits has the calls of its events (`CallsMatchTraces`).
   pub ends_follow : (plan : List Job) (T : Trace) (d e : D) → Leads starts waits plan T d e → RunsFrom leads plan T (driver_state (driver d)) (driver d) (driver e)
   ends_follow plan T d e led = (runs plan T d e led).0

@@ -1,6 +1,6 @@
 -- Lemmas on a sequence of whole turns.
 use Rattle.std.proofs.Common.{◌≡◌, ℕ, ◌+◌, ◌*◌, ◌-◌, List, [], ◌∷◌, ◌++◌, length, map, Bool, refl, ap, append_assoc}
-use Rattle.kt_child.proofs.Common.{Outcome, RunningChild, Chain, Call, Pause, PolledAll, PolledUntil, WaitedOn, advanced, advanced_below, last_turn, whole_turn}
+use Rattle.kt_child.proofs.Common.{Outcome, RunningChild, Chain, Call, Pause, PollsAll, PollsUntil, PollsInTurns, child_after_running, children_after_running, last_turn, whole_turn}
 use Rattle.kt_child.proofs.Chains.{chain_append}
 
 -- `polls_left k`: the number of polls until the child `k` has finished at the latest.
@@ -14,9 +14,9 @@ first_left [] = 0
 first_left (k ∷ s) = polls_left k
 
 -- Advancing all children one by one is a whole turn.
-pub all_advanced : (s : List RunningChild) → advanced_below (length s) s ≡ map advanced s
+pub all_advanced : (s : List RunningChild) → children_after_running (length s) s ≡ map child_after_running s
 all_advanced [] = refl
-all_advanced (k ∷ s) = ap (λ t. advanced k ∷ t) (all_advanced s)
+all_advanced (k ∷ s) = ap (λ t. child_after_running k ∷ t) (all_advanced s)
 
 -- `Waiting leads start init now children`: some calls take the system from `start` to `now`. A wait
 -- of `children` after these calls is, together with them, a wait of `init`. `leads` is the relation
@@ -24,14 +24,14 @@ all_advanced (k ∷ s) = ap (λ t. advanced k ∷ t) (all_advanced s)
 abbrev pub Waiting : {O : Type 0} → (O → Call → O → Type 0) → O → List RunningChild → O → List RunningChild → Type 0
 Waiting leads start init now children =
     (calls : List Call) × Chain leads start calls now
-    × ((more : List Call) (place : ℕ) (outcome : Outcome) (after : List RunningChild) → WaitedOn children more place outcome after → WaitedOn init (calls ++ more) place outcome after)
+    × ((more : List Call) (place : ℕ) (outcome : Outcome) (after : List RunningChild) → PollsInTurns children more place outcome after → PollsInTurns init (calls ++ more) place outcome after)
 
 -- A turn without a finished child, and a pause, extend the wait.
 pub waiting_more : {O : Type 0} (leads : O → Call → O → Type 0) (start now mid new : O) (init children : List RunningChild) (d : Bool)
     → Waiting leads start init now children
-    → (calls : List Call) × Chain leads now calls mid × PolledAll children calls
+    → (calls : List Call) × Chain leads now calls mid × PollsAll children calls
     → leads mid (Pause d) new
-    → Waiting leads start init new (advanced_below (length children) children)
+    → Waiting leads start init new (children_after_running (length children) children)
 waiting_more leads start now mid new init children d (calls, chain, on) (ys, chain', polled) paused = (
   calls ++ (ys ++ Pause d ∷ []),
   chain_append leads start now new calls (ys ++ Pause d ∷ []) chain
@@ -45,8 +45,8 @@ waiting_more leads start now mid new init children d (calls, chain, on) (ys, cha
 -- A turn with a finished child completes the wait.
 pub waiting_over : {O : Type 0} (leads : O → Call → O → Type 0) (start now new : O) (init children last : List RunningChild) (place : ℕ) (outcome : Outcome)
     → Waiting leads start init now children
-    → (calls : List Call) × Chain leads now calls new × PolledUntil children place calls outcome
-    → last ≡ advanced_below place children
-    → (calls : List Call) × Chain leads start calls new × WaitedOn init calls place outcome last
+    → (calls : List Call) × Chain leads now calls new × PollsUntil children place calls outcome
+    → last ≡ children_after_running place children
+    → (calls : List Call) × Chain leads start calls new × PollsInTurns init calls place outcome last
 waiting_over leads start now new init children last place outcome (calls, chain, on) (ys, chain', until) f =
     rw f (calls ++ ys, chain_append leads start now new calls ys chain chain', on ys place outcome _ (last_turn children ys place outcome until))

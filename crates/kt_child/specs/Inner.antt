@@ -1,4 +1,3 @@
 -- Definitions for private functions. No public clause cites them.
 pub mod Children
-pub mod Host
 pub mod Started

@@ -1,9 +1,7 @@
 pub mod Common
 pub mod Driving
 pub mod Ending
-pub mod Host
 pub mod Inner
 pub mod Planning
 pub mod Polling
-pub mod System
 pub mod Types

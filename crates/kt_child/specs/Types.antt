@@ -19,10 +19,10 @@ pub use Rattle.kt_child.specs.declared.planning.Want.{Want}
 pub use Rattle.kt_child.specs.declared.planning.workdir.Paths.{Paths}
 pub use Rattle.kt_child.specs.declared.polling.PollCounts.{PollCounts}
 pub use Rattle.kt_child.specs.declared.polling.RunningChild.{RunningChild}
-pub use Rattle.kt_child.specs.declared.system.Child.{Child}
-pub use Rattle.kt_child.specs.declared.system.EnvPlan.{EnvPlan}
-pub use Rattle.kt_child.specs.declared.system.FileRead.{FileRead}
-pub use Rattle.kt_child.specs.declared.system.FileRead.TheVariants.{Missing, Part}
-pub use Rattle.kt_child.specs.declared.system.OsFault.{OsFault}
-pub use Rattle.kt_child.specs.declared.system.Polled.{Polled}
-pub use Rattle.kt_child.specs.declared.system.Polled.TheVariants.{Exited, Running, Signaled}
+pub use Rattle.kt_os.specs.declared.system.Child.{Child}
+pub use Rattle.kt_os.specs.declared.system.EnvPlan.{EnvPlan}
+pub use Rattle.kt_os.specs.declared.system.FileRead.{FileRead}
+pub use Rattle.kt_os.specs.declared.system.FileRead.TheVariants.{Missing, Part}
+pub use Rattle.kt_os.specs.declared.system.OsFault.{OsFault}
+pub use Rattle.kt_os.specs.declared.system.Polled.{Polled}
+pub use Rattle.kt_os.specs.declared.system.Polled.TheVariants.{Exited, Running, Signaled}

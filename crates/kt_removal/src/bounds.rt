@@ -1,5 +1,5 @@
 ghost use Rattle.std.specs.Prelude.{◌≡◌, ◌↔◌, ◌≤◌, ◌+◌, ◌-◌, ◌^◌, min, IsTrue};
-ghost use Rattle.kt_removal.specs.Common.{IsSpent, closing_limit, case_limit, closing_steps_least};
+ghost use Rattle.kt_removal.specs.Common.{IsSpent, closing_limit, case_limit, min_root_steps};
 
 use std::rt::Clock;
 use std::time::Instant;
@@ -7,13 +7,13 @@ use std::time::Instant;
 /// The time limit for the removal of a case's directory, in microseconds.
 const CASE_LIMIT_MICROS: u64 = 5_000;
 
-/// The time that a step counts for if the clock fails, in microseconds.
+/// The time that is counted for each step of a removal if the clock fails, in microseconds.
 const STEP_MICROS: u64 = 100;
 
-/// A limit on the duration of a removal, with the steps that were counted against it.
+/// A time limit of a removal, with the number of its steps so far.
 #[derive(Clone, Copy)]
 pub(crate) struct Bound {
-    /// The start time, or `None` if the clock failed.
+    /// The start time of the removal, or `None` if the clock failed.
     started: Option<Instant>,
     /// The time limit, in microseconds. It also limits the iterations of each loop, since a clock
     /// may stop.
@@ -24,10 +24,10 @@ pub(crate) struct Bound {
     steps: u64,
 }
 
-/// Returns `true` if a removal has used up its limit of `micros` microseconds.
+/// Returns `true` if a removal has used up its time limit of `micros` microseconds.
 ///
-/// `taken` is the time since the start of the removal. If the clock failed, each step counts as 100
-/// microseconds.
+/// `taken` is the time since the start of the removal, in microseconds. If it is `None`, the clock
+/// failed, and each of the `steps` steps counts as 100 microseconds.
 fn is_spent(micros: u64, steps: u64, taken: Option<u128>) -> bool
     ensures { IsTrue result ↔ IsSpent micros steps taken }
 {
@@ -50,15 +50,15 @@ fn root_limit_micros(waiting: u32) -> u64
 ///
 /// The minimum is 20,000, plus 50 for each of the `waiting` directories in the queue. It lets a
 /// slow machine finish the removal after the time limit.
-fn closing_steps(waiting: u32) -> u64
-    ensures { result ≡ closing_steps_least waiting }
+fn min_root_steps(waiting: u32) -> u64
+    ensures { result ≡ min_root_steps waiting }
 {
     20_000 + 50 * u64::from(waiting)
 }
 
 impl Bound {
     /// Creates a bound of `micros` microseconds that starts now.
-    pub(crate) fn starting<C: Clock>(clock: &C, micros: u64) -> Bound
+    pub(crate) fn from_now<C: Clock>(clock: &C, micros: u64) -> Bound
         ensures micros { result.micros ≡ micros }
         ensures least { result.least ≡ 0 }
         ensures steps { result.steps ≡ 0 }
@@ -76,20 +76,20 @@ impl Bound {
         ensures micros { result.micros ≡ case_limit }
         ensures least { result.least ≡ 0 }
     {
-        Bound::starting(clock, CASE_LIMIT_MICROS)
+        Bound::from_now(clock, CASE_LIMIT_MICROS)
     }
 
     /// Creates the bound for the removal of the root directory, while `waiting` directories are in
     /// the queue.
-    pub(crate) fn closing<C: Clock>(clock: &C, waiting: u32) -> Bound
+    pub(crate) fn for_root<C: Clock>(clock: &C, waiting: u32) -> Bound
         ensures micros { result.micros ≡ closing_limit waiting }
-        ensures least { result.least ≡ closing_steps_least waiting }
+        ensures least { result.least ≡ min_root_steps waiting }
         ensures steps { result.steps ≡ 0 }
     {
         Bound {
             started: Instant::now(clock).ok(),
             micros: root_limit_micros(waiting),
-            least: closing_steps(waiting),
+            least: min_root_steps(waiting),
             steps: 0,
         }
     }
@@ -107,8 +107,8 @@ impl Bound {
         u64::try_from(taken).unwrap_or(u64::MAX)
     }
 
-    /// Counts a step, and returns `true` if the removal must stop after it.
-    pub(crate) fn is_over<C: Clock>(&mut self, clock: &C) -> bool
+    /// Counts a step of the removal, and returns `true` if the removal must stop after this step.
+    pub(crate) fn must_stop_after_step<C: Clock>(&mut self, clock: &C) -> bool
         ensures least { IsTrue result → self.old.least ≤ self.new.steps }
         ensures counted { self.new.steps ≡ min (self.old.steps + 1) (2 ^ 64 - 1) }
     {

@@ -1,5 +1,5 @@
 ghost use Rattle.std.specs.Prelude.{IsTrue};
-ghost use Rattle.kt_removal.specs.Common.{IsCaseOf, IsNumber};
+ghost use Rattle.kt_removal.specs.Common.{IsCaseDirectory, IsNumber};
 
 use kt_base::{Text, is_digit};
 
@@ -12,8 +12,8 @@ fn is_number(name: &[u8]) -> bool
 
 /// Returns `true` if `path` has the form of a case's directory: an entry of `root` whose name is a
 /// number.
-pub(crate) fn is_case(root: &Text, path: &Text) -> bool
-    ensures { IsTrue result → IsCaseOf root.now path.now }
+pub(crate) fn is_case_directory(root: &Text, path: &Text) -> bool
+    ensures { IsTrue result → IsCaseDirectory root.now path.now }
 {
     let Some(below) = path.as_bytes().strip_prefix(root.as_bytes()) else {
         return false;

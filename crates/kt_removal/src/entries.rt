@@ -1,5 +1,5 @@
 ghost use Rattle.std.specs.Prelude.{◌≡◌, ◌++◌, ◌∷◌, IfOk};
-ghost use Rattle.kt_removal.specs.Common.{MayEmpty, MayRemove, is_name, queued_dir, utf8};
+ghost use Rattle.kt_removal.specs.Common.{MayEmpty, MayRemove, is_entry_name, queued_dir, utf8};
 
 use crate::state::Removals;
 use kt_base::{Bytes, NoMemory, Text};
@@ -12,7 +12,8 @@ use std::{fs, io, str};
 /// The permission bits that let the owner read, change and pass through a directory.
 const OWNER_RIGHTS: u32 = 0o700;
 
-/// Returns the path of the entry `name` of a directory. The name may contain any bytes.
+/// Returns the path of the entry `name` of the directory `directory`. The name may contain any
+/// bytes.
 pub(crate) fn entry_path(alloc: Global, directory: &Text, name: &[u8]) -> Result<Bytes, NoMemory>
     ensures { IfOk result (λ path. path ≡ utf8 directory.now ++ 47 ∷ name.now) }
 {
@@ -22,10 +23,10 @@ pub(crate) fn entry_path(alloc: Global, directory: &Text, name: &[u8]) -> Result
     Ok(path)
 }
 
-/// Returns `true` if `name` is the name of an entry: not empty, without a slash, and neither `.`
-/// nor `..`.
-pub(crate) fn is_name(name: &[u8]) -> bool
-    ensures { result ≡ is_name name.now }
+/// Returns `true` if `name` can be the name of a directory's entry: not empty, without a slash, and
+/// neither `.` nor `..`.
+pub(crate) fn is_entry_name(name: &[u8]) -> bool
+    ensures { result ≡ is_entry_name name.now }
 {
     name != b"".as_slice()
         && name != b".".as_slice()
@@ -33,7 +34,8 @@ pub(crate) fn is_name(name: &[u8]) -> bool
         && !name.contains(&b'/')
 }
 
-/// Converts the status of a system call to a result. On failure, the error is that of `errno`.
+/// Converts the status of a system call to a result. A status other than 0 is a failure with the
+/// error of `errno`.
 fn answer(status: i32) -> io::Result<()> {
     if status == 0 {
         Ok(())
@@ -44,7 +46,7 @@ fn answer(status: i32) -> io::Result<()> {
 
 // Only these methods remove or move files, so their clauses bound what a removal may touch.
 impl Removals {
-    /// Removes the file or link at `path`. Fails for a directory.
+    /// Removes the file or link at `path`. Fails if `path` is a directory or can't be removed.
     pub(crate) fn remove_file<R: Files>(&self, rt: &R, path: &[u8]) -> io::Result<()>
         requires { MayRemove self.now path.now }
     {
@@ -54,8 +56,9 @@ impl Removals {
         }
     }
 
-    /// Removes the empty directory at `path`. Fails for a file, and for a directory with entries.
-    pub(crate) fn remove_empty<R: Files>(&self, rt: &R, path: &[u8]) -> io::Result<()>
+    /// Removes the empty directory at `path`. Fails if `path` is a file or a directory with
+    /// entries, or can't be removed.
+    pub(crate) fn remove_empty_dir<R: Files>(&self, rt: &R, path: &[u8]) -> io::Result<()>
         requires { MayRemove self.now path.now }
     {
         match str::from_utf8(path) {
@@ -71,7 +74,7 @@ impl Removals {
         fs::remove_dir(rt, directory.as_str()).is_ok()
     }
 
-    /// Moves the directory `path` to `to`, which is the path of the next number in the queue.
+    /// Moves the directory `path` to `to`, the path of the next number in the queue.
     pub(crate) fn move_to<R: Files>(&self, rt: &R, path: &[u8], to: &Text) -> io::Result<()>
         requires from { MayRemove self.now path.now }
         requires to { to.now ≡ queued_dir self.now.place self.now.moved }
@@ -82,17 +85,17 @@ impl Removals {
         }
     }
 
-    /// Sets the mode of a directory to 0700. Returns `true` on success.
+    /// Sets the mode of the directory `path` to 0700. Returns `true` on success.
     ///
     /// The caller has found `path` to be a directory with entries, so it is not a symbolic link.
-    pub(crate) fn give_rights(&self, path: &[u8]) -> bool
+    pub(crate) fn set_owner_mode(&self, path: &[u8]) -> bool
         requires { MayRemove self.now path.now }
     {
         os::chmod(path, OWNER_RIGHTS) == 0
     }
 
-    /// Sets the mode of a directory to 0700 if its owner lacks a permission, and returns `true` if
-    /// the directory may be emptied.
+    /// Returns `true` if the directory `path` may be emptied. Sets its mode to 0700 if its owner
+    /// lacks a permission.
     ///
     /// Returns `false` if the status of `path` can't be read, or if `path` is not a directory. A
     /// symbolic link is not a directory. Returns `false`, too, if `path` is on another device than
@@ -118,8 +121,8 @@ impl Removals {
         }
     }
 
-    /// Opens a directory to read its names. Returns `None` if that fails, or if [`Self::make_accessible`]
-    /// returns `false`.
+    /// Opens the directory `path` to read the names of its entries. Returns `None` if that fails,
+    /// or if [`Self::make_accessible`] returns `false`.
     pub(crate) fn open_names<R: Files>(&self, rt: &R, path: &Text) -> Option<R::Dir>
         requires { MayEmpty self.now path.now }
     {

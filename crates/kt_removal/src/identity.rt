@@ -5,44 +5,44 @@ use std::{fs, io};
 
 /// An identity of a directory: its device and inode number, which don't depend on its path.
 #[derive(Clone, Copy)]
-pub struct Identity {
+pub struct DirIdentity {
     /// The device number.
     pub(crate) device: u64,
     /// The inode number on that device.
     number: u64,
 }
 
-impl Identity {
+impl DirIdentity {
     ghost use Rattle.std.specs.Prelude.{◌≡◌, ◌↔◌, IsTrue};
 
     /// Returns the identity of the directory at `path`.
     ///
     /// # Errors
     ///
-    /// - `NotADirectory`: the path is a symbolic link or a file of another type.
+    /// - `NotADirectory`: the path leads to a symbolic link or a file of another type.
     /// - Any other error: the status of the path can't be read.
-    pub fn of<R: Files>(rt: &R, path: &str) -> io::Result<Identity> {
+    pub fn of<R: Files>(rt: &R, path: &str) -> io::Result<DirIdentity> {
         let found = fs::symlink_metadata(rt, path)?;
         if !found.is_dir() {
             return Err(io::Error::from(ErrorKind::NotADirectory));
         }
-        Ok(Identity {
+        Ok(DirIdentity {
             device: found.dev(),
             number: found.ino(),
         })
     }
 
     /// Returns `true` if both identities are those of one directory.
-    fn is_same(self, other: Identity) -> bool
+    fn is_same(self, other: DirIdentity) -> bool
         ensures { IsTrue result ↔ ((self.device ≡ other.device) × (self.number ≡ other.number)) }
     {
         self.device == other.device && self.number == other.number
     }
 
-    /// Returns `true` if `path` is this directory. Returns `false` for a symbolic link to the
-    /// directory, and if the status of `path` can't be read.
+    /// Returns `true` if the directory at `path` has this identity. Returns `false` for a symbolic
+    /// link to the directory, and if the status of `path` can't be read.
     pub(crate) fn is_at<R: Files>(self, rt: &R, path: &str) -> bool {
-        match Identity::of(rt, path) {
+        match DirIdentity::of(rt, path) {
             Ok(found) => self.is_same(found),
             Err(_) => false,
         }

@@ -4,7 +4,7 @@ ghost use Rattle.kt_removal.specs.Common.{chars, decimal};
 use kt_base::{NoMemory, Text};
 use std::alloc::Global;
 
-/// Returns the path that consists of `base`, `between` and `number` in decimal digits.
+/// Returns the path that consists of `base`, the text `between`, and `number` in decimal digits.
 ///
 /// # Errors
 ///

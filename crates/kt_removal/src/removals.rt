@@ -1,10 +1,10 @@
 ghost use Rattle.std.specs.Prelude.{◌≡◌, ◌≤◌, ◌++◌, ◌∷◌, [], false, ◌==◌, IfOk, IfSome};
 ghost use Rattle.std.specs.List.{list_any};
-ghost use Rattle.kt_removal.specs.Common.{IsCaseOf, IsRemovable, HasNextDirectory, MayEmpty, MayRemove, KeepsQueue, closing_limit, is_name, queued_dir, closing_steps_least, waiting};
+ghost use Rattle.kt_removal.specs.Common.{IsCaseDirectory, IsRemovable, HasNextDirectory, MayEmpty, MayRemove, KeepsQueue, closing_limit, is_entry_name, queued_dir, min_root_steps, waiting};
 
 use crate::bounds::Bound;
-use crate::cases::is_case;
-use crate::identity::Identity;
+use crate::cases::is_case_directory;
+use crate::identity::DirIdentity;
 use crate::state::Removals;
 use crate::{entries, numbered_path};
 use kt_base::{NoMemory, Text};
@@ -48,8 +48,8 @@ impl Removals {
         ensures root { IfOk result (λ removals. removals.root ≡ root) }
         ensures place { IfOk result (λ removals. removals.place ≡ place) }
     {
-        let root_identity = Identity::of(rt, root.as_str())?;
-        let queue_identity = Identity::of(rt, place.as_str())?;
+        let root_identity = DirIdentity::of(rt, root.as_str())?;
+        let queue_identity = DirIdentity::of(rt, place.as_str())?;
         let gaps = Vec::new(rt.alloc());
         Ok(Removals {
             root,
@@ -75,14 +75,16 @@ impl Removals {
         queued_path(alloc, &self.place, self.moved)
     }
 
-    /// Returns `true` if no directory was moved to the number that is emptied next.
+    /// Returns `true` if the next number of the queue has no directory, since the move to it
+    /// failed.
     fn is_gap(&self) -> bool
         ensures { result ≡ list_any (λ n. n == self.now.done) self.now.gaps.items }
     {
         self.gaps.as_slice().contains(&self.done)
     }
 
-    /// Returns the number of directories in the queue, at most `u32::MAX`. Failed moves count, too.
+    /// Returns the number of directories in the queue, at most 2^32 - 1. Numbers of failed moves
+    /// count, too.
     fn waiting(&self) -> u32
         ensures { result ≡ waiting self.now.moved self.now.done }
     {
@@ -96,24 +98,24 @@ impl Removals {
         self.done < self.moved
     }
 
-    /// Returns the path of the directory of the queue that is emptied next.
+    /// Returns the path of the queued directory that is emptied next.
     fn path(&self, alloc: Global) -> Result<Text, NoMemory>
         ensures { IfOk result (λ path. path ≡ queued_dir self.now.place self.now.done) }
     {
         queued_path(alloc, &self.place, self.done)
     }
 
-    /// Removes an empty directory, or a file that a process put at its path. Returns `true` on
-    /// success.
+    /// Removes the empty directory `path`, or a file that a process put at this path. Returns
+    /// `true` on success.
     fn remove_empty_or_file<R: Files>(&self, rt: &R, path: &Text) -> bool
         requires { IsRemovable self.now path.now }
     {
         self.remove_if_empty(rt, path) || self.remove_file(rt, path.as_bytes()).is_ok()
     }
 
-    /// Skips the next number of the queue, since the move to it failed.
+    /// Skips the number that the next moved directory would get, since the move to it failed.
     ///
-    /// If the allocation fails, the number is not skipped, so the next move tries it again.
+    /// If an allocation fails, the number is not skipped, so the next move tries it again.
     fn skip_number(&mut self)
         ensures stays { KeepsQueue self.old self.new }
         ensures gap { (self.new.moved ≡ self.old.moved)
@@ -143,30 +145,31 @@ impl Removals {
         false
     }
 
-    /// Removes an empty directory, or moves a directory with entries into the queue.
+    /// Removes the directory `path` if it is empty, and otherwise moves it into the queue.
     ///
     /// A mount point is left as it is: its removal fails because it is busy.
     fn remove_directory<R: Files + AllocGlobal>(&mut self, rt: &R, path: &[u8])
         requires { MayRemove self.old path.now }
         ensures stays { KeepsQueue self.old self.new }
     {
-        match self.remove_empty(rt, path) {
+        match self.remove_empty_dir(rt, path) {
             Ok(()) => self.progress = true,
             Err(error) => {
                 let full = error.kind() == ErrorKind::DirectoryNotEmpty;
-                if full && self.give_rights(path) && self.take(rt, path) {
+                if full && self.set_owner_mode(path) && self.take(rt, path) {
                     self.progress = true;
                 }
             }
         }
     }
 
-    /// Removes the entry `name` of a directory, or moves it into the queue if it has entries.
+    /// Removes the entry `name` of `directory`. A directory with entries is moved into the queue
+    /// instead.
     ///
     /// The queue directory itself is left, and so is the entry if the allocation of its path fails.
     fn remove_entry<R: Files + AllocGlobal>(&mut self, rt: &R, directory: &Text, name: &[u8])
         requires may { MayEmpty self.old directory.now }
-        requires name { is_name name.now ≡ true }
+        requires name { is_entry_name name.now ≡ true }
         ensures stays { KeepsQueue self.old self.new }
     {
         let Ok(path) = entries::entry_path(rt.alloc(), directory, name) else {
@@ -180,7 +183,12 @@ impl Removals {
     }
 
     /// Removes the entries of `directory` whose names are in `names`. Each name ends with byte 0.
-    fn remove_names<R: Files + AllocGlobal>(&mut self, rt: &R, directory: &Text, names: &[u8])
+    fn remove_named_entries<R: Files + AllocGlobal>(
+        &mut self,
+        rt: &R,
+        directory: &Text,
+        names: &[u8],
+    )
         requires { MayEmpty self.old directory.now }
         ensures stays { KeepsQueue self.old self.new }
     {
@@ -189,14 +197,15 @@ impl Removals {
             let Some((name, rest)) = split_name(left) else {
                 return;
             };
-            if entries::is_name(name) {
+            if entries::is_entry_name(name) {
                 self.remove_entry(rt, directory, name);
             }
             left = rest;
         }
     }
 
-    /// Reads the next names of `directory` from `names` and removes the entries with these names.
+    /// Reads the next names of entries of `directory` from `names`, and removes the entries with
+    /// these names.
     ///
     /// Returns `false` at the end of the directory, or if the read fails.
     fn remove_next_entries<R: Files + AllocGlobal>(
@@ -211,14 +220,15 @@ impl Removals {
         let mut buffer = [0u8; NAMES_BYTES];
         match names.read(&mut buffer) {
             Ok(count) => {
-                self.remove_names(rt, directory, &buffer[..count]);
+                self.remove_named_entries(rt, directory, &buffer[..count]);
                 count > 0
             }
             Err(_) => false,
         }
     }
 
-    /// Removes an emptied directory of the queue and moves on to the next number.
+    /// Removes `path`, the directory of the queue that was emptied, and moves on to the next
+    /// number.
     ///
     /// If the directory still has entries, it is moved to the end of the queue. It is left if
     /// nothing could be removed from it.
@@ -233,11 +243,11 @@ impl Removals {
         if !self.remove_empty_or_file(rt, path) && self.progress {
             let _ = self.take(rt, path.as_bytes());
         }
-        self.pass();
+        self.advance_queue();
     }
 
     /// Moves on to the next number of the queue.
-    fn pass(&mut self)
+    fn advance_queue(&mut self)
         ensures root { self.new.root ≡ self.old.root }
         ensures place { self.new.place ≡ self.old.place }
         ensures progress { self.new.progress ≡ false }
@@ -247,11 +257,11 @@ impl Removals {
         self.done = self.done.saturating_add(1);
     }
 
-    /// Removes the entries of a directory until its end is reached or the bound is over. An entry
-    /// that has entries itself is moved into the queue.
+    /// Removes the entries of `directory` until all names are read or the time of `bound` is over.
+    /// An entry that is a directory with entries is moved into the queue.
     ///
-    /// Returns `true` if the end was reached, or if the directory can't be opened or read. The
-    /// names of the first read are removed even if the bound is over.
+    /// Returns `true` if all names were read, or if the directory can't be opened or read. The
+    /// entries of the first read are removed even if the time is over.
     fn empty<R: Files + Clock + AllocGlobal>(
         &mut self,
         rt: &R,
@@ -268,19 +278,19 @@ impl Removals {
             if !self.remove_next_entries(rt, directory, &mut names) {
                 return true;
             }
-            if bound.is_over(rt) {
+            if bound.must_stop_after_step(rt) {
                 return false;
             }
         }
         false
     }
 
-    /// Empties the next directory of the queue. Returns `true` if the end of the directory was
-    /// reached, or if the directory can't be opened or read.
+    /// Empties `path`, the next directory of the queue, within `bound`. Returns `true` if all its
+    /// names were read, or if the directory can't be opened or read.
     ///
     /// Otherwise the next call begins again with this directory. If nothing could be removed from
     /// it, the directory is skipped.
-    fn empty_next<R: Files + Clock + AllocGlobal>(
+    fn empty_next_dir<R: Files + Clock + AllocGlobal>(
         &mut self,
         rt: &R,
         path: &Text,
@@ -298,13 +308,13 @@ impl Removals {
         if ended {
             self.finish(rt, path);
         } else if !self.progress {
-            self.pass();
+            self.advance_queue();
         }
         ended
     }
 
     /// Empties the next directory of the queue, or skips a number without a directory. Returns
-    /// `true` if another step may follow within the bound.
+    /// `true` if another step may follow within `bound`.
     ///
     /// If the allocation of the path fails, the next step tries the directory again.
     fn step<R: Files + Clock + AllocGlobal>(&mut self, rt: &R, bound: &mut Bound) -> bool
@@ -313,16 +323,16 @@ impl Removals {
         ensures place { self.new.place ≡ self.old.place }
     {
         if self.is_gap() {
-            self.pass();
+            self.advance_queue();
             return true;
         }
         let Ok(path) = self.path(rt.alloc()) else {
-            return !bound.is_over(rt);
+            return !bound.must_stop_after_step(rt);
         };
-        self.empty_next(rt, &path, bound)
+        self.empty_next_dir(rt, &path, bound)
     }
 
-    /// Empties the directories of the queue in order, until the bound is over.
+    /// Empties the directories of the queue in order, until the time of `bound` is over.
     ///
     /// If the queue directory was removed or replaced, its entries are left.
     fn empty_queue<R: Files + Clock + AllocGlobal>(&mut self, rt: &R, bound: &mut Bound)
@@ -343,7 +353,7 @@ impl Removals {
         }
     }
 
-    /// Creates the queue directory again if a test removed or replaced it. That fails if another
+    /// Creates the queue directory again if a process removed or replaced it. That fails if another
     /// directory with entries is at its path.
     ///
     /// The directories of the old queue are left.
@@ -359,24 +369,24 @@ impl Removals {
         if fs::create_dir(rt, self.place.as_str()).is_err() {
             return;
         }
-        if let Ok(place) = Identity::of(rt, self.place.as_str()) {
+        if let Ok(place) = DirIdentity::of(rt, self.place.as_str()) {
             self.queue_identity = place;
         }
     }
 
-    /// Removes `root`, the directory of all attempts, with its entries, within the bound of a close.
-    /// Returns `true` on success.
+    /// Removes `root`, the directory of all attempts, with its entries, within the time limit for
+    /// the root. Returns `true` on success.
     fn close<R: Files + Clock + AllocGlobal>(&mut self, rt: &R, root: &Text) -> bool
         requires { root.now ≡ self.old.root }
         ensures place { self.new.place ≡ self.old.place }
     {
         self.recreate_queue_dir(rt);
-        let mut bound = Bound::closing(rt, self.waiting());
+        let mut bound = Bound::for_root(rt, self.waiting());
         self.remove_root_within(rt, root, &mut bound)
     }
 
-    /// Removes `root`, the directory of all attempts, with its entries, until `bound` ends. Returns
-    /// `true` on success.
+    /// Removes `root`, the directory of all attempts, with its entries, until the time of `bound`
+    /// is over. Returns `true` on success.
     fn remove_root_within<R: Files + Clock + AllocGlobal>(
         &mut self,
         rt: &R,
@@ -385,7 +395,8 @@ impl Removals {
     ) -> bool
         requires root { root.now ≡ self.old.root }
         requires micros { bound.old.micros ≡ closing_limit (waiting self.old.moved self.old.done) }
-        requires least { bound.old.least ≡ closing_steps_least (waiting self.old.moved self.old.done) }
+        requires least { bound.old.least ≡ min_root_steps (waiting self.old.moved
+            self.old.done) }
         ensures place { self.new.place ≡ self.old.place }
     {
         let _ = self.empty(rt, root, bound);
@@ -396,7 +407,8 @@ impl Removals {
         self.remove_if_empty(rt, root)
     }
 
-    /// Empties the queue directory once more, for directories that were skipped.
+    /// Empties the queue directory once more within `bound`, because it still has directories that
+    /// were skipped.
     ///
     /// A directory is skipped, for example, if the allocation of an entry's path failed.
     fn empty_queue_dir<R: Files + Clock + AllocGlobal>(&mut self, rt: &R, bound: &mut Bound)
@@ -413,15 +425,15 @@ impl Removals {
         }
     }
 
-    /// Empties and removes the directory of a case, or moves it into the queue if it can't be
-    /// removed within the bound. Returns `true` if the path no longer exists.
-    fn walk<R: Files + Clock + AllocGlobal>(
+    /// Empties and removes `tree`, the directory of a case. Moves it into the queue if it can't be
+    /// removed within `bound`. Returns `true` if the path no longer exists.
+    fn remove_or_enqueue<R: Files + Clock + AllocGlobal>(
         &mut self,
         rt: &R,
         tree: &Text,
         bound: &mut Bound,
     ) -> bool
-        requires { IsCaseOf self.old.root tree.now }
+        requires { IsCaseDirectory self.old.root tree.now }
         ensures root { self.new.root ≡ self.old.root }
         ensures place { self.new.place ≡ self.old.place }
     {
@@ -429,20 +441,23 @@ impl Removals {
         self.remove_empty_or_file(rt, tree) || self.take(rt, tree.as_bytes())
     }
 
-    /// Removes the directory of a case or moves it into the queue, and then empties the queue, for
-    /// 5 milliseconds in all. Returns `true` if the path no longer exists.
+    /// Removes `tree`, the directory of a case, or moves it into the queue. Then empties the queue.
+    /// Returns `true` if the path no longer exists.
+    ///
+    /// The time limit for all this is 5 milliseconds.
     fn remove_case<R: Files + Clock + AllocGlobal>(&mut self, rt: &R, tree: &Text) -> bool
-        requires { IsCaseOf self.old.root tree.now }
+        requires { IsCaseDirectory self.old.root tree.now }
         ensures place { self.new.place ≡ self.old.place }
     {
         let mut bound = Bound::case_limit(rt);
-        let gone = self.remove_known_files(rt, tree) || self.walk(rt, tree, &mut bound);
+        let gone = self.remove_known_files(rt, tree)
+            || self.remove_or_enqueue(rt, tree, &mut bound);
         self.empty_queue(rt, &mut bound);
         gone
     }
 
-    /// Removes the root or the directory of a case, with all entries. Returns `true` if the path no
-    /// longer exists.
+    /// Removes the directory `tree` with all entries. It must be the root or the directory of a
+    /// case. Returns `true` if the path no longer exists.
     ///
     /// Links are not followed. A case's directory that takes too long to empty is moved into the
     /// queue, and is removed later. The root itself is not moved. Any other path is left as it is,
@@ -450,7 +465,7 @@ impl Removals {
     pub fn remove_tree<R: Files + Clock + AllocGlobal>(&mut self, rt: &R, tree: &Text) -> bool
         ensures place { self.new.place ≡ self.old.place }
         ensures outside { result ≡ true → (tree.now ≡ self.old.root)
-            ⊎ IsCaseOf self.old.root tree.now }
+            ⊎ IsCaseDirectory self.old.root tree.now }
     {
         if !self.root_identity.is_at(rt, self.root.as_str()) {
             return false;
@@ -458,11 +473,12 @@ impl Removals {
         if tree.as_str() == self.root.as_str() {
             return self.close(rt, tree);
         }
-        is_case(&self.root, tree) && self.remove_case(rt, tree)
+        is_case_directory(&self.root, tree) && self.remove_case(rt, tree)
     }
 }
 
-/// Empties the queue for `micros` microseconds, or sleeps for that time if the queue is empty.
+/// Empties the queue of `removals` for `micros` microseconds, or sleeps for that time if the queue
+/// is empty.
 ///
 /// Returns the microseconds that passed, or `micros` if fewer passed. More than `micros` pass if
 /// the system takes long to remove an entry.
@@ -475,7 +491,7 @@ pub fn rest<R: Files + Clock + AllocGlobal>(
 {
     if let Some(removals) = removals {
         if removals.is_pending() {
-            let mut bound = Bound::starting(rt, micros);
+            let mut bound = Bound::from_now(rt, micros);
             removals.empty_queue(rt, &mut bound);
             return bound.passed(rt).max(micros);
         }

@@ -1,4 +1,4 @@
-use crate::identity::Identity;
+use crate::identity::DirIdentity;
 use kt_base::Text;
 
 /// A queue of removals below a root directory, which proceeds in short steps.
@@ -18,16 +18,16 @@ pub struct Removals {
     pub root: Text,
     /// The path of the queue directory, which is an entry of the root.
     pub place: Text,
-    /// The identity of the root directory at the start.
-    pub(crate) root_identity: Identity,
+    /// The identity of the root directory when the queue was created.
+    pub(crate) root_identity: DirIdentity,
     /// The identity of the queue directory when it was created.
-    pub(crate) queue_identity: Identity,
+    pub(crate) queue_identity: DirIdentity,
     /// The number that the next moved directory gets.
     pub(crate) moved: u64,
-    /// The number of the directory that is emptied next.
+    /// The number of the queue's directory that is emptied next.
     pub(crate) done: u64,
     /// The numbers without a directory, since the move to them failed.
     pub(crate) gaps: Vec<u64>,
-    /// `true` if an entry was removed or moved since the work on the current directory began.
+    /// `true` if an entry of the current directory was removed or moved.
     pub(crate) progress: bool,
 }

@@ -1,10 +1,11 @@
 -- The running children of a driver, and the cases with a pending cleanup.
 use Rattle.std.specs.Prelude.{map, ℕ, Bool, true, false, ◌==◌, ◌&&◌, List, [], ◌∷◌, ◌++◌, Option, Some, None, if◌then◌else◌}
 use Rattle.kt_child.specs.Types.{CaseAttempt, Role, RunningChild}
-use Rattle.kt_sched.specs.Children.{Child as Shown, same_role}
-use Rattle.kt_child.specs.Ending.Ends.{is_over}
+use Rattle.kt_sched.specs.Children.{Child as Shown, is_same_role}
+use Rattle.kt_child.specs.Ending.Ends.{is_last_child}
 
--- The running children in the order of their start, and the cases with a pending cleanup.
+-- `ChildrenState`: the running children in the order of their start, and the cases with a pending
+-- cleanup.
 pub record ChildrenState : Type 0 where
   pub children : List RunningChild
   pub pending : List CaseAttempt
@@ -13,32 +14,32 @@ pub record ChildrenState : Type 0 where
 abbrev pub idle_state : ChildrenState
 idle_state = record { children = []; pending = [] }
 
--- `cases_of children`: the cases of `children`.
+-- `cases_of children`: the cases of the running children `children`, in order.
 abbrev pub cases_of : List RunningChild → List CaseAttempt
 cases_of children = map (λ k. k.case) children
 
--- `shown c`: the interface of the case `c` and whether it declares a cleanup, as the scheduler's
--- contracts cite them.
-abbrev pub shown : CaseAttempt → Shown
-shown c = record { interface = c.interface; cleanup = c.cleanup }
+-- `launcher_child c`: the child of the case `c` as a launcher shows it: its interface, and whether
+-- the case declares a cleanup.
+abbrev pub launcher_child : CaseAttempt → Shown
+launcher_child c = record { interface = c.interface; cleanup = c.cleanup }
 
--- `shown_at cases k r`: the properties (`shown`) of the first of `cases` at the position `k` in the
--- role `r`, or `None` if there is none.
-abbrev pub shown_at : List CaseAttempt → ℕ → Role → Option Shown
-shown_at [] k r = None
-shown_at (c ∷ cases) k r = if k == c.position && same_role r c.role then Some (shown c) else shown_at cases k r
+-- `launcher_child_at cases k r`: the child (`launcher_child`) of the first case in `cases` that has
+-- the position `k` and the role `r`. It is `None` if there is no such case.
+abbrev pub launcher_child_at : List CaseAttempt → ℕ → Role → Option Shown
+launcher_child_at [] k r = None
+launcher_child_at (c ∷ cases) k r = if k == c.position && is_same_role r c.role then Some (launcher_child c) else launcher_child_at cases k r
 
--- `shown_in b k r`: the properties (`shown`) of the running child of `b` at the position `k` in the
--- role `r`, or `None` if there is none.
-abbrev pub shown_in : ChildrenState → ℕ → Role → Option Shown
-shown_in b = shown_at (cases_of b.children)
+-- `launcher_child_in b k r`: the running child (`launcher_child`) in the state `b` whose case has
+-- the position `k` and the role `r`. It is `None` if there is no such child.
+abbrev pub launcher_child_in : ChildrenState → ℕ → Role → Option Shown
+launcher_child_in b = launcher_child_at (cases_of b.children)
 
--- `is_among cases k`: one of `cases` has the position `k`.
+-- `is_among cases k`: a case in `cases` has the position `k`.
 abbrev pub is_among : List CaseAttempt → ℕ → Bool
 is_among [] k = false
 is_among (c ∷ cases) k = if k == c.position then true else is_among cases k
 
--- `pending_with c pending`: the cases with a pending cleanup after the current child of `c` has
--- ended: `pending`, and `c` if a cleanup follows.
+-- `pending_with c pending`: the cases with a pending cleanup after the current child of the case
+-- `c` has ended. They were `pending` before, and `c` is appended if a cleanup follows.
 abbrev pub pending_with : CaseAttempt → List CaseAttempt → List CaseAttempt
-pending_with c pending = if is_over c then pending else pending ++ c ∷ []
+pending_with c pending = if is_last_child c then pending else pending ++ c ∷ []

@@ -4,33 +4,33 @@ use Rattle.std.specs.Prelude.{◌≡◌, ℕ, ◌+◌, ◌-◌, ◌<◌, ◌^◌
 use Rattle.kt_child.specs.Types.{Body, CaseAttempt, Chain, Cleanup, Ended, Job, OsFault, Outcome, Polled, Refused as RefusedFor, Role, StartAnswer, Started as StartedAt, RunningChild}
 use Rattle.kt_child.specs.declared.driving.driver.Driver.{Driver}
 use Rattle.kt_base.specs.declared.failed_start.Refused.TheVariants.{Directory}
-use Rattle.kt_child.specs.System.Calls.{Call, Kill, Pause, Poll}
+use Rattle.kt_os.specs.System.Calls.{Call, Kill, Pause, Poll}
 use Rattle.kt_child.specs.Planning.ChildPlan.{child_of, paths_of}
-use Rattle.kt_child.specs.Polling.ChildOutcome.{ChildResponse, KillResponse, PollResponse, Yields, answered}
-use Rattle.kt_child.specs.Polling.Turns.{WaitedOn}
+use Rattle.kt_child.specs.Polling.ChildOutcome.{ChildResponse, KillResponse, PollResponse, Yields, responses_so_far}
+use Rattle.kt_child.specs.Polling.Turns.{PollsInTurns}
 use Rattle.kt_child.specs.Ending.Ends.{FinishesChild}
 use Rattle.kt_child.specs.Driving.ChildrenState.{ChildrenState, pending_with}
-use Rattle.kt_child.specs.Driving.JobPlan.{case_of, limit_of, spawning_of}
+use Rattle.kt_child.specs.Driving.JobPlan.{case_of, limit_of, job_spawn_plan}
 use Rattle.kt_child.specs.Driving.Starting.{StartsByPlan}
 
--- A running child: its case, its timeout in seconds, and its responses (the results of its polls
--- and its kill) since its start.
+-- `PolledChild`: a running child with its case, its timeout in seconds, and the results of its
+-- polls and its kill since its start.
 pub record PolledChild : Type 0 where
   pub case : CaseAttempt
   pub limit : ℕ
   pub heard : List ChildResponse
 
--- A state of a driver: the running children in the order of their start, the cases with a pending
--- cleanup, and the next attempt number.
+-- `DriverState`: the running children of a driver in the order of their start, the cases with a
+-- pending cleanup, and the next attempt number.
 pub record DriverState : Type 0 where
   pub alive : List PolledChild
   pub owed : List CaseAttempt
   pub next : ℕ
 
--- `polled_children children`: the running `children`, each with the responses that its poll counts
--- represent. By `EndsFollow`, a child has no other responses.
+-- `polled_children children`: the running children `children`, each with the responses that its
+-- poll counts represent. By `CallsMatchTraces`, a child has no other responses.
 abbrev pub polled_children : List RunningChild → List PolledChild
-polled_children children = map (λ k. record { case = k.case; limit = k.limit; heard = answered k.limit k.watch }) children
+polled_children children = map (λ k. record { case = k.case; limit = k.limit; heard = responses_so_far k.limit k.watch }) children
 
 -- `driver_state_of b next`: the driver state with the children and pending cleanups of `b`, and the
 -- next attempt number `next`.
@@ -42,62 +42,65 @@ driver_state_of b next = record { alive = polled_children b.children; owed = b.p
 abbrev pub driver_state : {O : Type 0} → Driver O → DriverState
 driver_state d = driver_state_of d.running d.next
 
--- `TakesNumber old number new`: the counter of attempts returns its value `old` as `number` and
--- becomes `new`. At 2^64 - 1, `number` is `None` and the counter stays.
-abbrev pub TakesNumber : ℕ → Option ℕ → ℕ → Type 0
-TakesNumber old None new = (old ≡ 2 ^ 64 - 1) × (new ≡ old)
-TakesNumber old (Some number) new = (old < 2 ^ 64 - 1) × (number ≡ old) × (new ≡ old + 1)
+-- `TakesAttemptNumber old number new`: the attempt number `number` is taken, and the counter goes
+-- from `old` to `new`. If `old` is 2^64 - 1, `number` is `None` and the counter is unchanged.
+-- Otherwise `number` is `old`, and `new` is `old + 1`.
+abbrev pub TakesAttemptNumber : ℕ → Option ℕ → ℕ → Type 0
+TakesAttemptNumber old None new = (old ≡ 2 ^ 64 - 1) × (new ≡ old)
+TakesAttemptNumber old (Some number) new = (old < 2 ^ 64 - 1) × (number ≡ old) × (new ≡ old + 1)
 
--- `TakesCase root old job role c new`: `c` is the case for a start of `job`'s child in `role`, and
--- the driver state goes from `old` to `new`. A body gets the next attempt number and its paths
--- below `root`. A cleanup gets those of the pending case, which is removed.
+-- `TakesCase root old job role c new`: `c` is the case for the start of a child of `job` in `role`.
+-- The driver state goes from `old` to `new`. A body gets the next attempt number and its paths
+-- below `root`. A cleanup gets the number and the paths of the pending case, which is removed.
 abbrev pub TakesCase : List ℕ → DriverState → Job → Role → CaseAttempt → DriverState → Type 0
 TakesCase root old job Body c new =
-    TakesNumber old.next (Some c.attempt) new.next × (new.owed ≡ old.owed) × (c ≡ case_of job Body old.next (paths_of root old.next))
+    TakesAttemptNumber old.next (Some c.attempt) new.next × (new.owed ≡ old.owed) × (c ≡ case_of job Body old.next (paths_of root old.next))
 TakesCase root old job Cleanup c new =
     (place : ℕ) × (owed : CaseAttempt) × (slice_get old.owed place ≡ Some owed) × (owed.position ≡ job.position)
     × (new.next ≡ old.next) × (new.owed ≡ remove old.owed place) × (c ≡ case_of job Cleanup owed.attempt owed.paths)
 
--- `children_after_start alive job c result`: the running children `alive` after a start of `job`'s child
--- with the case `c`. If `result` is `Started`, the child is appended, without responses.
+-- `children_after_start alive job c result`: the running children after a start of a child of `job`
+-- with the case `c` and the result `result`. They were `alive` before. If `result` is `Started`,
+-- the child is appended, without responses.
 abbrev pub children_after_start : List PolledChild → Job → CaseAttempt → StartAnswer → List PolledChild
 children_after_start alive job c (StartedAt moment) = alive ++ record { case = c; limit = limit_of job c.role; heard = [] } ∷ []
 children_after_start alive job c (RefusedFor cause) = alive
 
--- `source` is the directory of the root Kyuafile, and `root` that of all attempts.
+-- `source` is the absolute path of the root Kyuafile's directory, and `root` the root directory of
+-- the driver.
 module _ (source root : List ℕ) where
-  -- `Starts old job role calls answer new`: `calls` start `job`'s child in `role` with the result
-  -- `answer`, and the driver state goes from `old` to `new`. A body is refused if no attempt number
-  -- is left.
+  -- `Starts old job role calls answer new`: `calls` are the calls for the start of a child of `job`
+  -- in `role`, and `answer` is the result of the start. The driver state goes from `old` to `new`.
+  -- A body is refused if no attempt number is left.
   abbrev pub Starts : DriverState → Job → Role → List Call → StartAnswer → DriverState → Type 0
   Starts old job role calls answer new =
       ((role ≡ Body) × (old.next ≡ 2 ^ 64 - 1) × (answer ≡ RefusedFor Directory) × (calls ≡ []) × (new ≡ old))
-      ⊎ ((c : CaseAttempt) × TakesCase root old job role c new × StartsByPlan (spawning_of source job c) calls answer
+      ⊎ ((c : CaseAttempt) × TakesCase root old job role c new × StartsByPlan (job_spawn_plan source job c) calls answer
       × (new.alive ≡ children_after_start old.alive job c answer))
 
--- `hears a answer`: the child `a` with `answer` as one more response.
-abbrev pub hears : PolledChild → ChildResponse → PolledChild
-hears a answer = record { case = a.case; limit = a.limit; heard = a.heard ++ answer ∷ [] }
+-- `child_with_response a answer`: the running child `a` with `answer` as one more response.
+abbrev pub child_with_response : PolledChild → ChildResponse → PolledChild
+child_with_response a answer = record { case = a.case; limit = a.limit; heard = a.heard ++ answer ∷ [] }
 
--- `IsPolled old call new`: `new` are the running children `old` after `call`: the child that `call`
--- polls or kills has its result as one more response. A pause changes no child. The names of
--- children are unique (`IsApart` of Numbers).
-pub data IsPolled : List PolledChild → Call → List PolledChild → Type 0 where
+-- `AddsResponse old call new`: `call` takes the running children from `old` to `new`. In `new`, the
+-- child that it polls or kills has the result as one more response. A pause changes no child. The
+-- names of children are unique (`HasUniqueNumbers` of Numbers).
+pub data AddsResponse : List PolledChild → Call → List PolledChild → Type 0 where
   polled : (a : PolledChild) (others : List PolledChild) (answer : Result Polled OsFault)
-      → IsPolled (a ∷ others) (Poll (child_of a.case) answer) (hears a (PollResponse answer) ∷ others)
+      → AddsResponse (a ∷ others) (Poll (child_of a.case) answer) (child_with_response a (PollResponse answer) ∷ others)
   killed : (a : PolledChild) (others : List PolledChild) (done : Bool)
-      → IsPolled (a ∷ others) (Kill (child_of a.case) done) (hears a (KillResponse done) ∷ others)
-  later : (a : PolledChild) (others after : List PolledChild) (call : Call) → IsPolled others call after → IsPolled (a ∷ others) call (a ∷ after)
-  paused : (alive : List PolledChild) (done : Bool) → IsPolled alive (Pause done) alive
+      → AddsResponse (a ∷ others) (Kill (child_of a.case) done) (child_with_response a (KillResponse done) ∷ others)
+  later : (a : PolledChild) (others after : List PolledChild) (call : Call) → AddsResponse others call after → AddsResponse (a ∷ others) call (a ∷ after)
+  paused : (alive : List PolledChild) (done : Bool) → AddsResponse alive (Pause done) alive
 
--- `IsOver old polls after place over outcome`: `polls` take the running children from `old` to
--- `after`. Of these, the child `over` at index `place` has finished with `outcome`, which follows
--- from all its responses (`Yields`).
-abbrev pub IsOver : List PolledChild → List Call → List PolledChild → ℕ → PolledChild → Outcome → Type 0
-IsOver old polls after place over outcome =
-    Chain IsPolled old polls after × (slice_get after place ≡ Some over) × Yields over.limit over.heard outcome
+-- `FinishesByPolls old polls after place over outcome`: `polls` take the running children from
+-- `old` to `after`. The child at the index `place` of `after` is `over`. It has finished with
+-- `outcome`, which follows from all its responses (`Yields`).
+abbrev pub FinishesByPolls : List PolledChild → List Call → List PolledChild → ℕ → PolledChild → Outcome → Type 0
+FinishesByPolls old polls after place over outcome =
+    Chain AddsResponse old polls after × (slice_get after place ≡ Some over) × Yields over.limit over.heard outcome
 
--- `Ends old calls e new`: `calls` are polls until a child has finished, and then the calls that
+-- `Ends old calls e new`: `calls` poll the running children until one has finished, and then
 -- determine its end `e`: its outcome, evidence and outputs. The driver state goes from `old` to
 -- `new`, which lacks the child.
 pub record Ends (old : DriverState) (calls : List Call) (e : Ended) (new : DriverState) : Type 0 where
@@ -107,15 +110,15 @@ pub record Ends (old : DriverState) (calls : List Call) (e : Ended) (new : Drive
   pub after : List PolledChild
   pub place : ℕ
   pub over : PolledChild
-  pub follows : IsOver old.alive polls after place over e.outcome
+  pub follows : FinishesByPolls old.alive polls after place over e.outcome
   pub left : FinishesChild over.case leaving e.outcome e
   pub alive : new.alive ≡ remove after place
   pub owed : new.owed ≡ pending_with over.case old.owed
   pub next : new.next ≡ old.next
 
--- `Waited children old calls e left new`: `calls` are a wait that returns `e`. By `Ends`, it takes
--- the driver state from `old` to `new`. By `WaitedOn`, with the same polls, it takes the running
--- `children` to `left`, which lack the finished child.
-abbrev pub Waited : List RunningChild → DriverState → List Call → Ended → List RunningChild → DriverState → Type 0
-Waited children old calls e left new =
-    (end : Ends old calls e new) × (after : List RunningChild) × WaitedOn children end.polls end.place e.outcome after × (left ≡ remove after end.place)
+-- `WaitsForEnd children old calls e left new`: `calls` are the calls of a wait, which returns the
+-- end `e` of a child. They take the driver state from `old` to `new` (`Ends`). Their polls take the
+-- running `children` to `left`, which lack the finished child (`PollsInTurns`).
+abbrev pub WaitsForEnd : List RunningChild → DriverState → List Call → Ended → List RunningChild → DriverState → Type 0
+WaitsForEnd children old calls e left new =
+    (end : Ends old calls e new) × (after : List RunningChild) × PollsInTurns children end.polls end.place e.outcome after × (left ≡ remove after end.place)

@@ -1,25 +1,25 @@
 -- The calls after the last poll of a child.
 use Rattle.std.specs.Prelude.{◌≡◌, ◌≤◌, ℕ, Bool, true, false, ◌&&◌, List, [], ◌∷◌, ◌++◌, length, Result, if◌then◌else◌}
 use Rattle.kt_child.specs.Types.{Body, CaseAttempt, Cleanup, Ended, FileRead, OsFault, Outcome, Paths, Role}
-use Rattle.kt_sched.specs.Children.{same_role}
-use Rattle.kt_child.specs.System.Calls.{Call, Now, ReadFile, RemoveTree}
-use Rattle.kt_child.specs.System.Moments.{moment_of}
+use Rattle.kt_sched.specs.Children.{is_same_role}
+use Rattle.kt_os.specs.System.Calls.{Call, Now, ReadFile, RemoveTree}
+use Rattle.kt_os.specs.System.Moments.{moment_of}
 use Rattle.kt_child.specs.Ending.Reads.{bytes_of}
-use Rattle.kt_child.specs.Ending.Gathering.{Gathers}
+use Rattle.kt_child.specs.Ending.Gathering.{ReadsEvidence}
 
--- `out_of role paths`: the file among `paths` for the standard output of a child in `role`.
-abbrev pub out_of : Role → Paths → List ℕ
-out_of Body paths = paths.out
-out_of Cleanup paths = paths.cleanup_out
+-- `stdout_path role paths`: the file among `paths` for the standard output of a child in `role`.
+abbrev pub stdout_path : Role → Paths → List ℕ
+stdout_path Body paths = paths.out
+stdout_path Cleanup paths = paths.cleanup_out
 
--- `err_of role paths`: the file among `paths` for the standard error of a child in `role`.
-abbrev pub err_of : Role → Paths → List ℕ
-err_of Body paths = paths.err
-err_of Cleanup paths = paths.cleanup_err
+-- `stderr_path role paths`: the file among `paths` for the standard error of a child in `role`.
+abbrev pub stderr_path : Role → Paths → List ℕ
+stderr_path Body paths = paths.err
+stderr_path Cleanup paths = paths.cleanup_err
 
--- `is_over c`: the case `c` is finished when its current child ends, so no cleanup follows.
-abbrev pub is_over : CaseAttempt → Bool
-is_over c = if same_role c.role Body && c.cleanup then false else true
+-- `is_last_child c`: no cleanup follows after the current child of the case `c` has ended.
+abbrev pub is_last_child : CaseAttempt → Bool
+is_last_child c = if is_same_role c.role Body && c.cleanup then false else true
 
 -- `Removes removed dir calls`: `calls` remove the directory `dir` if `removed` is `true`. Otherwise
 -- there are no calls.
@@ -34,8 +34,8 @@ Removes false dir calls = calls ≡ []
 abbrev pub FinishesChild : CaseAttempt → List Call → Outcome → Ended → Type 0
 FinishesChild c calls outcome e =
     (now : Result ℕ OsFault) × (reads : List Call) × (out : Result FileRead OsFault) × (err : Result FileRead OsFault) × (last : List Call)
-    × (calls ≡ Now now ∷ (reads ++ ReadFile (out_of c.role c.paths) 1048576 out ∷ ReadFile (err_of c.role c.paths) 1048576 err ∷ last))
-    × Gathers c.interface c.role c.paths reads e.evidence × Removes (is_over c) c.paths.dir last
+    × (calls ≡ Now now ∷ (reads ++ ReadFile (stdout_path c.role c.paths) 1048576 out ∷ ReadFile (stderr_path c.role c.paths) 1048576 err ∷ last))
+    × ReadsEvidence c.interface c.role c.paths reads e.evidence × Removes (is_last_child c) c.paths.dir last
     × (e.position ≡ c.position) × (e.role ≡ c.role) × (e.outcome ≡ outcome)
     × (e.output.out ≡ bytes_of out) × (e.output.err ≡ bytes_of err) × (e.moment ≡ moment_of now)
     × (length e.output.out ≤ 1048576) × (length e.output.err ≤ 1048576)

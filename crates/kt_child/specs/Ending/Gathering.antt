@@ -12,21 +12,22 @@ use Rattle.kt_claim.specs.declared.evidence.Tap.TheVariants as tap
 use Rattle.kt_claim.specs.declared.evidence.TapFault.TheVariants as tap_fault
 use Rattle.kt_claim.specs.ResultFile.{IsClaimOf}
 use Rattle.kt_claim.specs.TapStream.{tap_of}
-use Rattle.kt_child.specs.System.Calls.{Call}
+use Rattle.kt_os.specs.System.Calls.{Call}
 use Rattle.kt_child.specs.declared.ending.ReadEnd.{ReadEnd}
 use Rattle.kt_child.specs.declared.ending.ReadEnd.TheVariants.{Missing, Unreadable, TooLong, Complete}
 use Rattle.kt_child.specs.Ending.Parts.{Reads}
 
--- `IsClaim end bytes found`: `found` is the claim of a result file with the bytes `bytes`, if its
--- read had the end `end`. If an allocation fails, the file counts as unreadable.
+-- `IsClaim end bytes found`: `found` is the claim of a result file. `end` is the result of reading
+-- the file, and `bytes` are the bytes read. If an allocation fails, the file counts as unreadable.
 abbrev pub IsClaim : ReadEnd → List ℕ → Claim → Type 0
 IsClaim Missing bytes found = found ≡ claim.Missing
 IsClaim Unreadable bytes found = found ≡ claim.Unreadable
 IsClaim TooLong bytes found = found ≡ claim.Malformed claim_fault.TooLong
 IsClaim Complete bytes found = (found ≡ claim.Unreadable) ⊎ IsClaimOf bytes found
 
--- `IsTap end bytes found`: `found` is the meaning of an output with the bytes `bytes` as a TAP
--- stream, if its read had the end `end`. If an allocation fails, the output counts as unreadable.
+-- `IsTap end bytes found`: `found` is the meaning of a program's output as a TAP stream. `end` is
+-- the result of reading the output, and `bytes` are the bytes read. If an allocation fails, the
+-- output counts as unreadable.
 abbrev pub IsTap : ReadEnd → List ℕ → Tap → Type 0
 IsTap TooLong bytes found = found ≡ tap.Invalid tap_fault.TooLong
 IsTap Complete bytes found = (found ≡ tap.Invalid tap_fault.Unreadable) ⊎ (found ≡ tap_of bytes)
@@ -42,11 +43,11 @@ ReadsClaim path calls found = (end : ReadEnd) × (bytes : List ℕ) × Reads pat
 abbrev pub ReadsTap : List ℕ → List Call → Tap → Type 0
 ReadsTap path calls found = (end : ReadEnd) × (bytes : List ℕ) × Reads path 65536 16777216 [] calls end bytes × IsTap end bytes found
 
--- `Gathers interface role paths calls left`: `calls` read the evidence `left` of a child in `role`,
--- whose program has the interface `interface`. It is the result file of an ATF body, or the output
--- of a TAP body, at `paths`. For other children there are no calls.
-abbrev pub Gathers : Interface → Role → Paths → List Call → Evidence → Type 0
-Gathers kind Cleanup paths calls left = (calls ≡ []) × (left ≡ evidence.Plain)
-Gathers interface.Atf Body paths calls left = (found : Claim) × ReadsClaim paths.result calls found × (left ≡ evidence.Atf found)
-Gathers interface.Tap Body paths calls left = (found : Tap) × ReadsTap paths.out calls found × (left ≡ evidence.Tap found)
-Gathers interface.Plain Body paths calls left = (calls ≡ []) × (left ≡ evidence.Plain)
+-- `ReadsEvidence interface role paths calls left`: `calls` read `left`, the evidence of a child in
+-- `role` whose program has the interface `interface`. The evidence is the result file of an ATF
+-- body, or the output of a TAP body, at `paths`. For other children there are no calls.
+abbrev pub ReadsEvidence : Interface → Role → Paths → List Call → Evidence → Type 0
+ReadsEvidence kind Cleanup paths calls left = (calls ≡ []) × (left ≡ evidence.Plain)
+ReadsEvidence interface.Atf Body paths calls left = (found : Claim) × ReadsClaim paths.result calls found × (left ≡ evidence.Atf found)
+ReadsEvidence interface.Tap Body paths calls left = (found : Tap) × ReadsTap paths.out calls found × (left ≡ evidence.Tap found)
+ReadsEvidence interface.Plain Body paths calls left = (calls ≡ []) × (left ≡ evidence.Plain)

@@ -3,23 +3,18 @@ use Rattle.std.specs.Prelude.{ℕ, ◌≤◌, List, [], length, true, false, Res
 use Rattle.kt_child.specs.Types.{FileRead, ListBytes, OsFault, Part}
 use Rattle.kt_atflist.specs.declared.listing.ListBytes.TheVariants.{Read, Unreadable, TooLong}
 
--- `bytes_of answer`: the bytes of a read with the result `answer`, none if it failed or the file is
--- missing.
+-- `bytes_of answer`: the bytes that a read with the result `answer` returned. There are none if the
+-- read failed or the file is missing.
 abbrev pub bytes_of : Result FileRead OsFault → List ℕ
 bytes_of (Ok (Part bytes follows)) = bytes
 bytes_of answer = []
 
--- `list_of answer`: the list of test cases that a read with the result `answer` gives: `TooLong` if
--- more bytes follow, and `Unreadable` if the read failed or the file is missing.
+-- `list_of answer`: the list of test cases in a file whose read had the result `answer`. It is
+-- `TooLong` if more bytes follow, and `Unreadable` if the read failed or the file is missing.
 abbrev pub list_of : Result FileRead OsFault → ListBytes
 list_of (Ok (Part bytes true)) = TooLong
 list_of (Ok (Part bytes false)) = Read bytes
 list_of answer = Unreadable
-
--- `IsReadWithin limit answer`: a read with the result `answer` returns at most `limit` bytes.
-abbrev pub IsReadWithin : ℕ → Result FileRead OsFault → Type 0
-IsReadWithin limit (Ok (Part bytes follows)) = length bytes ≤ limit
-IsReadWithin limit answer = Unit {0}
 
 -- `IsListWithin list`: `list` has at most 1,048,576 bytes.
 abbrev pub IsListWithin : ListBytes → Type 0

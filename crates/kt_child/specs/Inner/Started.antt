@@ -2,8 +2,8 @@
 use Rattle.std.specs.Prelude.{◌≡◌, ℕ}
 use Rattle.kt_child.specs.Types.{Job, Role, StartAnswer}
 use Rattle.kt_child.specs.declared.driving.driver.Driver.{Driver}
-use Rattle.kt_child.specs.System.Calls.{Call}
-use Rattle.kt_child.specs.Driving.ChildrenState.{is_among, shown_in}
+use Rattle.kt_os.specs.System.Calls.{Call}
+use Rattle.kt_child.specs.Driving.ChildrenState.{is_among, launcher_child_in}
 use Rattle.kt_child.specs.Driving.DriverSteps.{DriverStarts}
 use Rattle.kt_sched.specs.Children.{pending_after_start, running_after_start}
 use Rattle.kt_sched.specs.Trace.{HasMoment}
@@ -15,5 +15,5 @@ use Rattle.kt_sched.specs.Trace.{HasMoment}
 pub record IsStart {O : Type 0} (leads : O → Call → O → Type 0) (old : Driver O) (job : Job) (role : Role) (answer : StartAnswer) (new : Driver O) : Type 0 where
   pub starts : DriverStarts leads old job role answer new
   pub moment : HasMoment answer
-  pub running : (k : ℕ) (r : Role) → shown_in new.running k r ≡ running_after_start (shown_in old.running) job role answer k r
+  pub running : (k : ℕ) (r : Role) → launcher_child_in new.running k r ≡ running_after_start (launcher_child_in old.running) job role answer k r
   pub pending : (k : ℕ) → is_among new.running.pending k ≡ pending_after_start (is_among old.running.pending) job.position role k

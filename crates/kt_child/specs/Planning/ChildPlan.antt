@@ -8,7 +8,8 @@ use Rattle.kt_child.specs.declared.planning.Want.TheVariants.{List as Listing, B
 abbrev pub child_of : CaseAttempt → Child
 child_of c = record { attempt = c.attempt; role = c.role }
 
--- `attempt_dir root number`: the directory of the attempt `number` below `root`.
+-- `attempt_dir root number`: the directory of the attempt `number` below `root`, the root directory
+-- of the driver.
 abbrev pub attempt_dir : List ℕ → ℕ → List ℕ
 attempt_dir root number = root ++ codes "/" ++ decimal number
 
@@ -34,46 +35,48 @@ paths_of root number =
 abbrev pub variable_argument : Variable → List ℕ
 variable_argument v = codes "-v" ++ v.name ++ codes "=" ++ v.value
 
--- `words_of interface want result source variables case_name`: the arguments of a program with the
--- interface `interface` that is started for `want`. `result` is the path of the result file,
--- `source` the directory of the program, `variables` are those of its suite, and `case_name` is the
--- name of the case.
-abbrev pub words_of : Interface → Want → List ℕ → List ℕ → List Variable → List ℕ → List (List ℕ)
-words_of Atf Listing result source variables case_name = map variable_argument variables ++ codes "-l" ∷ []
-words_of Atf Body result source variables case_name =
+-- `args_of interface want result source variables case_name`: the arguments of a program that is
+-- started for the purpose `want` and has the interface `interface`. `result` is the path of the
+-- result file, and `source` the directory of the program. `variables` are the variables of its
+-- suite, and `case_name` is the name of the case.
+abbrev pub args_of : Interface → Want → List ℕ → List ℕ → List Variable → List ℕ → List (List ℕ)
+args_of Atf Listing result source variables case_name = map variable_argument variables ++ codes "-l" ∷ []
+args_of Atf Body result source variables case_name =
     ((codes "-r" ++ result) ∷ (codes "-s" ++ source) ∷ []) ++ map variable_argument variables ++ case_name ∷ []
-words_of Atf Cleanup result source variables case_name =
+args_of Atf Cleanup result source variables case_name =
     ((codes "-s" ++ source) ∷ []) ++ map variable_argument variables ++ (case_name ++ codes ":cleanup") ∷ []
-words_of interface want result source variables case_name = []
+args_of interface want result source variables case_name = []
 
 -- `variable name value`: the variable `name` with the value `value`.
 abbrev pub variable : List ℕ → List ℕ → Variable
 variable name value = record { name = name; value = value }
 
--- `removed_names`: the names of the locale variables, which are removed from each child's
+-- `locale_names`: the names of the locale variables, which are removed from each child's
 -- environment.
-abbrev pub removed_names : List (List ℕ)
-removed_names =
+abbrev pub locale_names : List (List ℕ)
+locale_names =
     codes "LANG" ∷ codes "LC_ALL" ∷ codes "LC_COLLATE" ∷ codes "LC_CTYPE" ∷ codes "LC_MESSAGES" ∷ codes "LC_MONETARY"
     ∷ codes "LC_NUMERIC" ∷ codes "LC_TIME" ∷ []
 
--- `test_variable v`: the suite's variable `v` as a TAP or plain program gets it: its name has the
--- prefix `TEST_ENV_`.
+-- `test_variable v`: `v`, a variable of a suite, in the form that TAP and plain programs get: the
+-- name has the prefix `TEST_ENV_`.
 abbrev pub test_variable : Variable → Variable
 test_variable v = variable (codes "TEST_ENV_" ++ v.name) v.value
 
--- `common_variables work`: the variables that each child gets. `work` is its work directory.
+-- `common_variables work`: the environment variables that every child gets. `work` is the child's
+-- work directory.
 abbrev pub common_variables : List ℕ → List Variable
 common_variables work = variable (codes "TZ") (codes "UTC") ∷ variable (codes "HOME") work ∷ variable (codes "TMPDIR") work ∷ []
 
--- `own_variables interface variables`: the variables that depend on the child's `interface`.
--- `variables` are those of its suite.
-abbrev pub own_variables : Interface → List Variable → List Variable
-own_variables Atf variables = variable (codes "__RUNNING_INSIDE_ATF_RUN") (codes "internal-yes-value") ∷ []
-own_variables interface variables = map test_variable variables
+-- `interface_variables interface variables`: the environment variables that depend on `interface`,
+-- the interface of a program. `variables` are the variables of the program's suite.
+abbrev pub interface_variables : Interface → List Variable → List Variable
+interface_variables Atf variables = variable (codes "__RUNNING_INSIDE_ATF_RUN") (codes "internal-yes-value") ∷ []
+interface_variables interface variables = map test_variable variables
 
--- `env_of interface variables work`: the environment plan of a child of a program with the
--- interface `interface`. `variables` are those of its suite, and `work` is its work directory.
+-- `env_of interface variables work`: the changes that turn the runner's environment into a child's.
+-- `interface` is the interface of the child's program, and `variables` are the variables of its
+-- suite. `work` is the work directory of the child.
 abbrev pub env_of : Interface → List Variable → List ℕ → EnvPlan
 env_of interface variables work =
-    record { removed = removed_names; set = common_variables work ++ own_variables interface variables }
+    record { removed = locale_names; set = common_variables work ++ interface_variables interface variables }

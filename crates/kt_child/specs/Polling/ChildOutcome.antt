@@ -1,9 +1,11 @@
--- The outcome of a child, by the results of its polls and its kill.
+-- The outcome of a child, by the results of its polls and its kill. A `running` response is the
+-- result of a poll that reports the child as running.
 use Rattle.std.specs.Prelude.{◌≡◌, ℕ, ◌*◌, ◌<◌, List, [], ◌∷◌, ◌++◌, Bool, true, false, Option, Some, None, Result, Ok, Err, replicate, ◌⊎◌, if◌then◌else◌}
 use Rattle.kt_child.specs.Types.{Exited as PolledExit, OsFault, Outcome, Polled, Running, Signaled as PolledSignal, PollCounts}
 use Rattle.kt_base.specs.declared.child.Outcome.TheVariants.{Exited, Signaled, TimedOut, WaitFailed}
 
--- A response of one child: the result of a poll or of a kill.
+-- `ChildResponse`: the result of a poll or of a kill of one child. `done` is `true` if the kill
+-- succeeded.
 pub data ChildResponse : Type 0 where
   PollResponse : (answer : Result Polled OsFault) → ChildResponse
   KillResponse : (done : Bool) → ChildResponse
@@ -19,9 +21,9 @@ outcome_of Running = None
 outcome_of (PolledExit code) = Some (Exited code)
 outcome_of (PolledSignal signal core) = Some (Signaled signal core)
 
--- `YieldsAfterKill left heard outcome`: the responses `heard` after a kill, of which at most `left`
--- are `running`, give `outcome`. An exit or a signal gives a timeout. A failed poll, or the
--- `left`-th `running` response, gives a failed wait.
+-- `YieldsAfterKill left heard outcome`: a child was killed, and the responses `heard` after the
+-- kill give `outcome`. An exit or a signal gives a timeout. A failed poll gives a failed wait, and
+-- so does `running` for the `left`-th time.
 abbrev pub YieldsAfterKill : ℕ → List ChildResponse → Outcome → Type 0
 YieldsAfterKill left heard outcome =
     ((k : ℕ) × (s : Polled) × (x : Outcome) × (k < left) × (outcome_of s ≡ Some x)
@@ -30,10 +32,10 @@ YieldsAfterKill left heard outcome =
     ⊎ ((k : ℕ) × (f : OsFault) × (done : Bool) × (k < left)
     × (heard ≡ replicate k running ++ PollResponse (Err f) ∷ KillResponse done ∷ []) × (outcome ≡ WaitFailed))
 
--- `YieldsWithin left heard outcome`: the responses `heard` of a child that may have `left`
--- `running` responses before a kill give `outcome`. An exit or a signal before the kill is the
--- outcome. After the `left`-th `running` response, the child is killed, and the responses after the
--- kill give the outcome. A failed poll or a failed kill gives a failed wait.
+-- `YieldsWithin left heard outcome`: the responses `heard` of a child give `outcome`. An exit or a
+-- signal before a kill is the outcome. When the child is `running` for the `left`-th time, it is
+-- killed, and the responses after the kill give the outcome. A failed poll or a failed kill gives a
+-- failed wait.
 abbrev pub YieldsWithin : ℕ → List ChildResponse → Outcome → Type 0
 YieldsWithin left heard outcome =
     ((k : ℕ) × (s : Polled) × (k < left) × (outcome_of s ≡ Some outcome)
@@ -48,11 +50,11 @@ YieldsWithin left heard outcome =
 abbrev pub Yields : ℕ → List ChildResponse → Outcome → Type 0
 Yields limit heard outcome = YieldsWithin (100 * limit) heard outcome
 
--- `fresh`: the poll counts of a child that has just started.
-abbrev pub fresh : PollCounts
-fresh = record { before = 0; killed = false; after = 0 }
+-- `initial_counts`: the poll counts of a child that has just started.
+abbrev pub initial_counts : PollCounts
+initial_counts = record { before = 0; killed = false; after = 0 }
 
--- `answered limit w`: the responses so far of a running child with the timeout `limit`, in seconds,
--- and the poll counts `w`.
-abbrev pub answered : ℕ → PollCounts → List ChildResponse
-answered limit w = if w.killed then replicate (100 * limit) running ++ KillResponse true ∷ replicate w.after running else replicate w.before running
+-- `responses_so_far limit w`: the responses so far of a running child with the timeout `limit`, in
+-- seconds, and the poll counts `w`.
+abbrev pub responses_so_far : ℕ → PollCounts → List ChildResponse
+responses_so_far limit w = if w.killed then replicate (100 * limit) running ++ KillResponse true ∷ replicate w.after running else replicate w.before running

@@ -1,22 +1,23 @@
 ghost use Rattle.std.specs.Prelude.{◌≡◌, List, IfOk};
 ghost use Rattle.kt_base.specs.Chains.{Chain};
-ghost use Rattle.kt_child.specs.System.Calls.{Call};
-ghost use Rattle.kt_child.specs.Driving.Roots.{FindsRoot, root_of};
+ghost use Rattle.kt_os.specs.System.Calls.{Call};
+ghost use Rattle.kt_child.specs.Driving.Roots.{CreatesRoot, driver_fault_of, root_of};
 ghost use Rattle.kt_child.specs.declared.driving.driver.DriverFault.TheVariants as fault;
 
-use crate::driving::running_children::{RunningChildren, refuse};
-use crate::driving::starts::{memory_refusal, spawning, take_number, want_and_limit};
+use crate::driving::running_children::{RunningChildren, refuse_for_memory};
+use crate::driving::starts::{memory_refusal, spawn_plan, take_attempt_number, want_and_limit};
 use crate::planning::{CaseAttempt, ChildPurpose};
-use crate::{Os, Paths, workdir_plan};
+use crate::{Paths, workdir_plan};
 use kt_base::{NoMemory, OUT_OF_MEMORY, Refused, Role, Text};
+use kt_os::{Os, OsFault};
 use kt_removal::numbered_path;
 use kt_sched::{Ended, Job, Launcher, StartAnswer};
 use std::alloc::Global;
 use thiserror::Error;
 
-/// Errors returned by [`Driver::new`]. `Display` prints the text of [`DriverFault::words`].
+/// Errors returned by [`Driver::new`]. `Display` prints the message of [`DriverFault::message`].
 #[derive(Clone, Copy, Debug, Error)]
-#[error("{}", self.words())]
+#[error("{}", self.message())]
 pub enum DriverFault {
     /// An allocation failed.
     NoMemory(NoMemory),
@@ -25,11 +26,11 @@ pub enum DriverFault {
 }
 
 impl DriverFault {
-    ghost use Rattle.kt_child.specs.Common.{driver_words};
+    ghost use Rattle.kt_child.specs.Common.{driver_message};
 
-    /// Returns the text of the error message (this profile).
-    pub fn words(self) -> &'static str
-        ensures { result.now ≡ driver_words self }
+    /// Returns the message of the error (this profile).
+    pub fn message(self) -> &'static str
+        ensures { result.now ≡ driver_message self }
     {
         match self {
             DriverFault::NoMemory(_) => OUT_OF_MEMORY,
@@ -46,28 +47,40 @@ impl From<NoMemory> for DriverFault {
     }
 }
 
+impl From<OsFault> for DriverFault {
+    ghost from_gives = { λ os driver. driver ≡ driver_fault_of os };
+
+    fn from(fault: OsFault) -> DriverFault {
+        match fault {
+            OsFault::Failed => DriverFault::NoWorkDirectory,
+            OsFault::Memory(refusal) => DriverFault::NoMemory(refusal),
+        }
+    }
+}
+
 /// A driver of child processes. It starts them in directories below its root directory, polls them,
-/// and removes these directories.
+/// and removes the directories afterwards.
 #[derive(Drop)]
 pub struct Driver<O: Drop> {
-    /// The system.
+    /// The system that starts and polls the children.
     pub(crate) os: O,
-    /// The allocator.
+    /// The allocator of the driver's values.
     pub(crate) alloc: Global,
-    /// The absolute directory of the root Kyuafile.
+    /// The absolute path of the root Kyuafile's directory.
     pub(crate) source: Text,
     /// The root directory, which contains the directories of all attempts.
     pub(crate) root: Text,
-    /// The number of the next attempt. An attempt is the start of a body or of a list.
+    /// The number of the next attempt, counted from 0. The start of a body uses one number, and so
+    /// does the start of a program that lists its test cases.
     pub(crate) next: u64,
     /// The running children and the cases with a pending cleanup.
     pub(crate) running: RunningChildren,
 }
 
 impl<O: Os + Drop> Launcher for Driver<O> {
-    ghost use Rattle.kt_child.specs.Common.{is_among, shown_in, DriverStarts, DriverWaits};
+    ghost use Rattle.kt_child.specs.Common.{is_among, launcher_child_in, DriverStarts, DriverWaits};
 
-    ghost running = { λ d. shown_in d.running };
+    ghost running = { λ d. launcher_child_in d.running };
 
     ghost pending = { λ d. is_among d.running.pending };
 
@@ -78,8 +91,8 @@ impl<O: Os + Drop> Launcher for Driver<O> {
     /// Starts the body or the cleanup of a case.
     ///
     /// The driver allocates before its first call to the system. If its allocation fails, it makes
-    /// no call, except that it removes the directory of a refused cleanup. The bodies and lists of
-    /// a driver have different attempt numbers.
+    /// no call, except that it removes the directory of a refused cleanup. No two bodies or lists
+    /// of a driver have the same attempt number.
     ///
     /// # Errors
     ///
@@ -98,9 +111,9 @@ impl<O: Os + Drop> Launcher for Driver<O> {
 
     /// Waits until a child has finished, and returns its outcome, evidence and outputs.
     ///
-    /// The children are polled in turns, in the order of their start. A pause follows each turn
+    /// The children are polled in turns, in the order of their starts. A pause follows each turn
     /// without a finished child. A child has finished if it has ended, or if a poll or the kill at
-    /// its timeout fails. A child that is still running 500 polls after the kill counts as
+    /// its timeout fails. A child that is still running at the 500th poll after the kill counts as
     /// finished, too. If a read or an allocation fails, the evidence is unreadable or the output is
     /// empty.
     fn wait(&mut self) -> Ended {
@@ -110,14 +123,14 @@ impl<O: Os + Drop> Launcher for Driver<O> {
 
 impl<O: Os + Drop> Driver<O> {
     ghost use Rattle.std.specs.Prelude.{◌≡◌, Bool, ℕ, List, MatchResult, Ok, Err};
-    ghost use Rattle.kt_child.specs.Common.{Chain, Call, RemoveTree, FindsRoot, idle_state, MayStart, running_after_start, HasMoment, IsFit, count_in, StartsByPlan, case_of, limit_of, spawned, state_after_start, is_among, shown_in, spawning_of, IsStart};
+    ghost use Rattle.kt_child.specs.Common.{Chain, Call, RemoveTree, CreatesRoot, idle_state, MayStart, running_after_start, HasMoment, IsFit, count_in, StartsByPlan, case_of, limit_of, new_running_child, state_after_start, is_among, launcher_child_in, job_spawn_plan, IsStart};
     ghost use Rattle.kt_base.specs.declared.child.Role.{Role as Part};
 
     /// Creates a driver with a new root directory below `base` (this profile).
     ///
     /// The root directory is the first of `kyua.0` to `kyua.999` that can be created. An existing
-    /// directory, such as that of a killed runner, is never used. `source` is the absolute
-    /// directory of the root Kyuafile, which contains the programs.
+    /// directory, such as that of a killed runner, is never used. `source` is the absolute path of
+    /// the root Kyuafile's directory. The paths of programs are relative to it.
     ///
     /// # Errors
     ///
@@ -132,12 +145,14 @@ impl<O: Os + Drop> Driver<O> {
         source: Text,
     ) -> Result<Driver<O>, (DriverFault, O)>
         ensures { MatchResult result
-            (λ d. ((calls : List Call) × Chain O.leads os calls d.os × FindsRoot base.now calls (Ok d.root))
+            (λ d. ((calls : List Call) × Chain O.leads os calls d.os
+            × CreatesRoot base.now calls (Ok d.root))
             × (d.source ≡ source) × (d.next ≡ 0) × (d.running ≡ idle_state))
-            (λ e. (calls : List Call) × Chain O.leads os calls e.1 × FindsRoot base.now calls (Err e.0)) }
+            (λ e. (calls : List Call) × Chain O.leads os calls e.1
+            × CreatesRoot base.now calls (Err e.0)) }
     {
         let mut os = os;
-        match find_root(alloc, &mut os, base) {
+        match create_driver_root(alloc, &mut os, base) {
             Err(fault) => Err((fault, os)),
             Ok(root) => Ok(Driver {
                 os,
@@ -150,7 +165,8 @@ impl<O: Os + Drop> Driver<O> {
         }
     }
 
-    /// Removes the root directory and returns the system. A failed removal is ignored.
+    /// Removes the root directory of the driver and returns the system. A failed removal is
+    /// ignored.
     pub fn close(self) -> O
         ensures { (done : Bool) × O.leads self.os (RemoveTree self.root done) result }
     {
@@ -159,18 +175,19 @@ impl<O: Os + Drop> Driver<O> {
         os
     }
 
-    /// Starts a child for the body or the cleanup of a job. `attempt` and `paths` are the number
-    /// and the paths of the body.
+    /// Starts the child of the job `job` in the role `role`. `attempt` and `paths` are the number
+    /// and the paths of its attempt, which a cleanup shares with its body.
     fn begin(&mut self, job: &Job, role: Role, attempt: u64, paths: Paths) -> StartAnswer
         requires fit { IsFit job.now }
         requires free { count_in job.now.position self.old.running ≡ 0 }
         ensures begun { (calls : List Call) × Chain O.leads self.old.os calls self.new.os
-            × StartsByPlan (spawning_of self.old.source job.now (case_of job.now role attempt paths))
+            × StartsByPlan (job_spawn_plan self.old.source job.now (case_of job.now role attempt
+            paths))
             calls result }
         ensures state { self.new.running ≡ state_after_start self.old.running
-            (spawned (limit_of job.now role) (case_of job.now role attempt paths)) result }
-        ensures running { (k : ℕ) (r : Part) → shown_in self.new.running k r
-            ≡ running_after_start (shown_in self.old.running) job.now role result k r }
+            (new_running_child (limit_of job.now role) (case_of job.now role attempt paths)) result }
+        ensures running { (k : ℕ) (r : Part) → launcher_child_in self.new.running k r
+            ≡ running_after_start (launcher_child_in self.old.running) job.now role result k r }
         ensures moment { HasMoment result }
         ensures next { self.new.next ≡ self.old.next }
         ensures source { self.new.source ≡ self.old.source }
@@ -192,8 +209,8 @@ impl<O: Os + Drop> Driver<O> {
             case_name: &job.case_name,
             limit,
         };
-        match spawning(self.alloc, &self.source, purpose, &case) {
-            Err(refusal) => refuse(&mut self.os, role, &case.paths.dir, refusal),
+        match spawn_plan(self.alloc, &self.source, purpose, &case) {
+            Err(refusal) => refuse_for_memory(&mut self.os, role, &case.paths.dir, refusal),
             Ok(plan) => self.running.start(&mut self.os, case, &plan),
         }
     }
@@ -202,11 +219,11 @@ impl<O: Os + Drop> Driver<O> {
     /// left.
     pub(crate) fn start_body(&mut self, job: &Job) -> StartAnswer
         requires fit { IsFit job.now }
-        requires may { MayStart (shown_in self.old.running)
+        requires may { MayStart (launcher_child_in self.old.running)
             (is_among self.old.running.pending) job.now.position Role.Body }
         ensures { IsStart O.leads self.old job.now Role.Body result self.new }
     {
-        let Some(attempt) = take_number(&mut self.next) else {
+        let Some(attempt) = take_attempt_number(&mut self.next) else {
             return StartAnswer::Refused(Refused::Directory);
         };
         match workdir_plan(self.alloc, &self.root, attempt) {
@@ -218,7 +235,7 @@ impl<O: Os + Drop> Driver<O> {
     /// Starts the pending cleanup of a job, with the attempt number and the paths of its body.
     pub(crate) fn start_cleanup(&mut self, job: &Job) -> StartAnswer
         requires fit { IsFit job.now }
-        requires may { MayStart (shown_in self.old.running)
+        requires may { MayStart (launcher_child_in self.old.running)
             (is_among self.old.running.pending) job.now.position Role.Cleanup }
         ensures { IsStart O.leads self.old job.now Role.Cleanup result self.new }
     {
@@ -227,19 +244,21 @@ impl<O: Os + Drop> Driver<O> {
     }
 }
 
-/// Returns the path of the root directory with a number: `BASE/kyua.NUMBER`.
+/// Returns `BASE/kyua.NUMBER`, the path of a root directory of a driver.
 pub(crate) fn root_path(alloc: Global, base: &Text, number: u64) -> Result<Text, NoMemory>
     ensures { IfOk result (λ path. path ≡ root_of base.now number) }
 {
     numbered_path(alloc, base, "/kyua.", number)
 }
 
-/// Creates the root directory of a driver (this profile): the first of `kyua.0` to `kyua.999` below
-/// `base` that can be created. An existing directory, such as that of a killed runner, is never
-/// used.
-fn find_root<O: Os>(alloc: Global, os: &mut O, base: &Text) -> Result<Text, DriverFault>
+/// Creates the root directory of a driver below `base`, and returns its path (this profile).
+///
+/// The directory is the first of `kyua.0` to `kyua.999` that can be created. An existing directory,
+/// such as that of a killed runner, is never used. Fails with `NoWorkDirectory` if none of the
+/// 1,000 directories can be created.
+fn create_driver_root<O: Os>(alloc: Global, os: &mut O, base: &Text) -> Result<Text, DriverFault>
     ensures { (calls : List Call) × Chain O.leads os.old calls os.new
-        × FindsRoot base.now calls result }
+        × CreatesRoot base.now calls result }
 {
     for number in 0..1000 {
         let root = root_path(alloc, base, number)?;

@@ -1,12 +1,13 @@
-ghost use Rattle.kt_child.specs.Common.{IsIdle, IsPlan, IsWidth, Ran, Trace, Leads, is_among, shown_in, DriverStarts, DriverWaits, AttemptsDiffer, NumbersDiffer, EndsFollow, RunsFrom, driver_state};
+ghost use Rattle.kt_child.specs.Common.{IsIdle, IsPlan, IsWidth, RunsPlan, Trace, Leads, is_among, launcher_child_in, DriverStarts, DriverWaits, AttemptsDiffer, NumbersDiffer, CallsMatchTraces, RunsFrom, driver_state};
 
-use crate::{Driver, Os};
+use crate::Driver;
 use kt_base::Items;
+use kt_os::Os;
 use kt_sched::{Job, Launcher, RunFault, Sink, Totals, run_cases};
 use std::alloc::Global;
 
-/// Runs the cases of a plan over a driver, at most `width` at once, and puts the entry of each into
-/// a sink.
+/// Runs the cases of a plan with a driver, at most `width` at once, and puts the entry of each case
+/// into a sink.
 ///
 /// The contract is a theorem about drivers. The program itself calls `run_cases` with a launcher
 /// that contains a driver.
@@ -25,9 +26,9 @@ pub fn run_driver<O: Os + Drop, S: Sink>(
 ) -> Result<Totals, RunFault>
     requires plan { IsPlan plan }
     requires width { IsWidth width }
-    requires idle { IsIdle (shown_in driver.old.running)
+    requires idle { IsIdle (launcher_child_in driver.old.running)
         (is_among driver.old.running.pending) }
-    ensures ran { Ran ⟦<Driver<O> as Launcher>⟧ S.Sink plan width driver.old driver.new
+    ensures ran { RunsPlan ⟦<Driver<O> as Launcher>⟧ S.Sink plan width driver.old driver.new
         sink.old sink.new result }
     ensures by_trace { (T : Trace)
         → Leads (DriverStarts O.leads) (DriverWaits O.leads) plan T driver.old driver.new
@@ -37,13 +38,13 @@ pub fn run_driver<O: Os + Drop, S: Sink>(
 }
 
 /// Theorem: no two attempts of a driver have the same number. An attempt is the start of a body, or
-/// a list of a program's test cases.
+/// of a program that lists its test cases.
 pub fn theorem_of_numbers<O: Os + Drop>()
     ensures { AttemptsDiffer O.leads }
 {}
 
-/// Theorem: no two running children have the same name, if the driver began without children and
-/// without pending cleanups.
+/// Theorem: no two children of a driver have the same name, if the driver began without children
+/// and without pending cleanups.
 pub fn theorem_of_names()
     ensures { NumbersDiffer }
 {}
@@ -51,8 +52,8 @@ pub fn theorem_of_names()
 /// Theorem: the calls of a driver to the system are the calls of its starts and waits, in order.
 ///
 /// Each poll and kill concerns one child. The outcome of a child follows from all results of its
-/// polls and its kill (`Yields`). The start, the reads and the removal of a child concern its own
-/// directory.
+/// polls and its kill (`Yields`). The directories and files of a start, of the reads and of the
+/// removal are those of the child's attempt.
 pub fn theorem_of_traces<O: Os + Drop>()
-    ensures { EndsFollow O.leads }
+    ensures { CallsMatchTraces O.leads }
 {}

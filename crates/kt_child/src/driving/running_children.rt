@@ -5,15 +5,15 @@ ghost use Rattle.kt_child.specs.Driving.Starting.{FailsBeforeStart};
 ghost use Rattle.kt_child.specs.declared.polling.RunningChild.{RunningChild};
 ghost use Rattle.kt_child.specs.Driving.ChildrenState.{is_among, pending_with};
 ghost use Rattle.kt_base.specs.Chains.{Chain};
-ghost use Rattle.kt_child.specs.System.Calls.{Call};
+ghost use Rattle.kt_os.specs.System.Calls.{Call};
 
-use crate::Os;
-use crate::driving::starts::{memory_refusal, spawned, start_child};
-use crate::ending::ends::{finish_child, is_over, remove_if};
+use crate::driving::starts::{memory_refusal, new_running_child, start_child};
+use crate::ending::ends::{finish_child, is_last_child, remove_dir_if};
 use crate::planning::{CaseAttempt, SpawnPlan};
 use crate::polling::RunningChild;
 use crate::polling::polls::poll_until_finished;
 use kt_base::{NoMemory, Refused, Role, Text};
+use kt_os::Os;
 use kt_sched::{Ended, StartAnswer};
 use std::alloc::Global;
 use std::marker::Model;
@@ -45,8 +45,9 @@ impl Model for RunningChildren {
         × (vec_len r.children + vec_len r.pending ≤ vec_capacity r.pending) };
 }
 
-/// Reserves capacity for one more child and for the pending cleanup of its case.
-fn make_room(
+/// Reserves capacity for one more child in `children`, and for the cases of all these children in
+/// `pending`.
+fn add_capacity(
     children: &mut Vec<RunningChild>,
     pending: &mut Vec<CaseAttempt>,
 ) -> Result<(), NoMemory>
@@ -63,12 +64,13 @@ fn make_room(
     Ok(())
 }
 
-/// Returns the index in `cases` of the case with this position in the plan. The caller guarantees
-/// that there is such a case.
-fn place_of(cases: &[CaseAttempt], position: u32) -> usize
+/// Returns the index in `cases` of the case with the position `position` in the plan. The caller
+/// guarantees that there is such a case.
+fn find_case_index(cases: &[CaseAttempt], position: u32) -> usize
     requires { is_among cases.now position ≡ true }
     ensures within { result < length cases.now }
-    ensures position { (c : CaseAttempt) → slice_get cases.now result ≡ Some c → c.position ≡ position }
+    ensures position { (c : CaseAttempt) → slice_get cases.now result ≡ Some c
+        → c.position ≡ position }
 {
     let mut place = 0;
     while cases[place].position != position {
@@ -77,8 +79,13 @@ fn place_of(cases: &[CaseAttempt], position: u32) -> usize
     place
 }
 
-/// Removes the child at the index `place`. Appends its case to `pending` if a cleanup follows.
-fn forget(children: &mut Vec<RunningChild>, pending: &mut Vec<CaseAttempt>, place: usize)
+/// Removes the child at the index `place` from `children`. Appends its case to `pending` if a
+/// cleanup follows.
+fn remove_finished_child(
+    children: &mut Vec<RunningChild>,
+    pending: &mut Vec<CaseAttempt>,
+    place: usize,
+)
     requires child { place < vec_len children.old }
     requires room { vec_len children.old + vec_len pending.old ≤ vec_capacity pending.old }
     ensures children { children.new.items ≡ remove children.old.items place }
@@ -87,30 +94,38 @@ fn forget(children: &mut Vec<RunningChild>, pending: &mut Vec<CaseAttempt>, plac
     ensures room { vec_len children.new + vec_len pending.new ≤ vec_capacity pending.new }
 {
     let RunningChild { case, .. } = children.remove(place);
-    if is_over(&case) {
+    if is_last_child(&case) {
         return;
     }
     pending.push_reserved(case);
 }
 
-/// Returns the refusal of a start for which an allocation failed. Removes the directory of a
-/// cleanup, since a cleanup is not started again.
-pub(crate) fn refuse<O: Os>(os: &mut O, role: Role, dir: &Text, refusal: NoMemory) -> StartAnswer
+/// Returns the refusal of a start whose allocation failed with `refusal`. `role` is the role of the
+/// child.
+///
+/// For a cleanup, also removes `dir`, the directory of the attempt, since a cleanup is not started
+/// again.
+pub(crate) fn refuse_for_memory<O: Os>(
+    os: &mut O,
+    role: Role,
+    dir: &Text,
+    refusal: NoMemory,
+) -> StartAnswer
     ensures refused { result ≡ StartAnswer.Refused Refused.Memory }
     ensures asked { (calls : List Call) × Chain O.leads os.old calls os.new
         × FailsBeforeStart role dir.now calls result }
 {
-    remove_if(os, role == Role::Cleanup, dir);
+    remove_dir_if(os, role == Role::Cleanup, dir);
     StartAnswer::Refused(memory_refusal(refusal))
 }
 
 impl RunningChildren {
     ghost use Rattle.std.specs.Prelude.{◌≡◌, ◌==◌, ℕ, ◌<◌, List, length, slice_get, remove, Some, true, false, if◌then◌else◌};
-    ghost use Rattle.kt_child.specs.Common.{IsEvidence, running_after_end, pending_after_end, IsMoment, HasMoment, Chain, Call, IsRunningChild, count_in, Waited, idle_state, is_among, shown_in, StartsByPlan, state_after_start, spawned, with_pending, driver_state_of};
+    ghost use Rattle.kt_child.specs.Common.{IsEvidence, running_after_end, pending_after_end, IsMoment, HasMoment, Chain, Call, IsRunningChild, count_in, WaitsForEnd, idle_state, is_among, launcher_child_in, StartsByPlan, state_after_start, new_running_child, with_pending, driver_state_of};
     ghost use Rattle.kt_sched.specs.Children.{Child as Shown};
 
-    /// Creates an empty list of running children and an empty list of pending cleanups. Nothing is
-    /// allocated.
+    /// Creates an empty list of running children and an empty list of pending cleanups. Allocates
+    /// nothing.
     pub(crate) fn new(alloc: Global) -> RunningChildren
         ensures { result ≡ idle_state }
     {
@@ -120,7 +135,7 @@ impl RunningChildren {
         }
     }
 
-    /// Removes the case with this position in the plan from the pending cleanups, and returns the
+    /// Removes the case with the position `position` from the pending cleanups, and returns the
     /// case.
     pub(crate) fn take_pending(&mut self, position: u32) -> CaseAttempt
         requires { is_among self.old.pending position ≡ true }
@@ -132,56 +147,59 @@ impl RunningChildren {
         ensures pending { (k : ℕ) → is_among self.new.pending k
             ≡ (if k == position then false else is_among self.old.pending k) }
     {
-        let place = place_of(&self.pending, position);
+        let place = find_case_index(&self.pending, position);
         self.pending.remove(place)
     }
 
-    /// Starts a child of a case: a body in a new directory, or a cleanup in the directory of its
-    /// body. A child that was started is added to the running children.
+    /// Starts a child of the case `case`: a body in a new directory, or a cleanup in the directory
+    /// of its body. `plan` has the values for the start. A child that was started is added to the
+    /// running children.
     pub(crate) fn start<O: Os>(
         &mut self,
         os: &mut O,
         case: CaseAttempt,
         plan: &SpawnPlan,
     ) -> StartAnswer
-        requires on { IsRunningChild (spawned plan.now.limit case) }
+        requires on { IsRunningChild (new_running_child plan.now.limit case) }
         requires free { count_in case.position self.old ≡ 0 }
         ensures begun { (calls : List Call) × Chain O.leads os.old calls os.new
             × StartsByPlan plan.now calls result }
         ensures moment { HasMoment result }
         ensures state { self.new
-            ≡ state_after_start self.old (spawned plan.now.limit case) result }
+            ≡ state_after_start self.old (new_running_child plan.now.limit case) result }
     {
-        if let Err(refusal) = make_room(&mut self.children, &mut self.pending) {
-            return refuse(os, plan.child.role, &plan.dir, refusal);
+        if let Err(refusal) = add_capacity(&mut self.children, &mut self.pending) {
+            return refuse_for_memory(os, plan.child.role, &plan.dir, refusal);
         }
         match start_child(os, plan) {
             StartAnswer::Refused(cause) => StartAnswer::Refused(cause),
             StartAnswer::Started(moment) => {
-                self.children.push_reserved(spawned(plan.limit, case));
+                self.children
+                    .push_reserved(new_running_child(plan.limit, case));
                 StartAnswer::Started(moment)
             }
         }
     }
 
-    /// Polls the running children until one has finished, and removes that child. Returns its
-    /// outcome, evidence and outputs.
+    /// Polls the running children until one of them has finished, and removes it from the list.
+    /// Returns its outcome, evidence and outputs.
     pub(crate) fn wait<O: Os>(&mut self, alloc: Global, os: &mut O) -> Ended
         requires { 0 < length self.old.children }
         ensures waited { (calls : List Call) × Chain O.leads os.old calls os.new
-            × ((next : ℕ) → Waited self.old.children (driver_state_of self.old next) calls result
+            × ((next : ℕ) → WaitsForEnd self.old.children (driver_state_of self.old next) calls
+            result
             self.new.children (driver_state_of self.new next)) }
         ensures moment { IsMoment result.moment }
-        ensures one_that_ran { (s : Shown) × (shown_in self.old result.position result.role
+        ensures one_that_ran { (s : Shown) × (launcher_child_in self.old result.position result.role
             ≡ Some s) × IsEvidence s.interface result.role result.evidence }
-        ensures running { (k : ℕ) (r : Role) → shown_in self.new k r
-            ≡ running_after_end (shown_in self.old) result k r }
+        ensures running { (k : ℕ) (r : Role) → launcher_child_in self.new k r
+            ≡ running_after_end (launcher_child_in self.old) result k r }
         ensures pending { (k : ℕ) → is_among self.new.pending k
-            ≡ pending_after_end (shown_in self.old) (is_among self.old.pending) result k }
+            ≡ pending_after_end (launcher_child_in self.old) (is_among self.old.pending) result k }
     {
         let first = poll_until_finished(os, &mut self.children);
         let ended = finish_child(alloc, os, &self.children[first.place].case, first.outcome);
-        forget(&mut self.children, &mut self.pending, first.place);
+        remove_finished_child(&mut self.children, &mut self.pending, first.place);
         ended
     }
 }

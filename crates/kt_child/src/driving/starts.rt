@@ -1,30 +1,30 @@
 ghost use Rattle.std.specs.Prelude.{◌≡◌, ◌≤◌, List, IfOk};
-ghost use Rattle.kt_child.specs.Common.{Chain, Call, HasMoment, SetUp, SetUpExisting, SetUpNew, Started, TakesNumber, MakesCalls, child_asks, new_attempt_asks, spawned, cause_of, fresh, IsFit, IsRunningWithin, limit_of, spawning_for, want_of, words_of, program_directory};
+ghost use Rattle.kt_child.specs.Common.{Chain, Call, HasMoment, SpawnsByPlan, SpawnsInExistingDir, SpawnsInNewDir, Started, TakesAttemptNumber, MakesCalls, spawn_calls, new_attempt_calls, new_running_child, refusal_cause, initial_counts, IsFit, IsRunningWithin, limit_of, spawn_plan_for, want_of, args_of, program_directory};
 
-use crate::ending::ends::{output_paths, remove_if};
+use crate::ending::ends::{output_paths, remove_dir_if};
 use crate::planning::words::{absolute_path, program_directory};
 use crate::planning::{CaseAttempt, ChildPurpose, SpawnPlan};
 use crate::polling::{PollCounts, RunningChild};
-use crate::system::moments::moment;
-use crate::{Os, OsFault, Want, argv_plan, env_plan};
+use crate::{Want, argv_plan, env_plan};
 use kt_base::{Items, NoMemory, Refused, Role, Text};
+use kt_os::{Os, OsFault, moment};
 use kt_sched::{Job, StartAnswer};
 use std::alloc::Global;
 
 /// The timeout of a cleanup, in seconds (this profile).
-const CLEANUP_LIMIT: u64 = 60;
+const CLEANUP_LIMIT_SECONDS: u64 = 60;
 
-/// Returns the number of the next attempt and increments the counter. Returns `None` if the counter
-/// has reached 2^64 - 1.
-pub(crate) fn take_number(next: &mut u64) -> Option<u64>
-    ensures { TakesNumber next.old result next.new }
+/// Returns `next`, the number of the next attempt, and increments it. Returns `None` if `next` has
+/// reached 2^64 - 1.
+pub(crate) fn take_attempt_number(next: &mut u64) -> Option<u64>
+    ensures { TakesAttemptNumber next.old result next.new }
 {
     let number = *next;
     *next = number.checked_add(1)?;
     Some(number)
 }
 
-/// Returns the part of the test program that a job's child runs, and its timeout in seconds.
+/// Returns the purpose of the job's child in the role `role`, and the child's timeout in seconds.
 pub(crate) fn want_and_limit(job: &Job, role: Role) -> (Want, u64)
     requires { IsFit job.now }
     ensures want { result.0 ≡ want_of role }
@@ -34,12 +34,12 @@ pub(crate) fn want_and_limit(job: &Job, role: Role) -> (Want, u64)
 {
     match role {
         Role::Body => (Want::Body, job.timeout as u64),
-        Role::Cleanup => (Want::Cleanup, CLEANUP_LIMIT),
+        Role::Cleanup => (Want::Cleanup, CLEANUP_LIMIT_SECONDS),
     }
 }
 
-/// Returns copies of two texts.
-fn copies(first: &Text, second: &Text) -> Result<(Text, Text), NoMemory>
+/// Returns copies of `first` and `second`.
+fn copy_both(first: &Text, second: &Text) -> Result<(Text, Text), NoMemory>
     ensures first { IfOk result (λ two. two.0 ≡ first.now) }
     ensures second { IfOk result (λ two. two.1 ≡ second.now) }
 {
@@ -47,14 +47,15 @@ fn copies(first: &Text, second: &Text) -> Result<(Text, Text), NoMemory>
     Ok((first, second.copy()?))
 }
 
-/// Returns the arguments of a case's child. `program` is the absolute path of its program.
+/// Returns the arguments of a child of the case `case` with the purpose `purpose`. `program` is the
+/// absolute path of the program.
 fn child_args(
     alloc: Global,
     program: &Text,
     purpose: ChildPurpose<'_>,
     case: &CaseAttempt,
 ) -> Result<Items<Text>, NoMemory>
-    ensures { IfOk result (λ words. words ≡ words_of case.now.interface purpose.entry.want
+    ensures { IfOk result (λ words. words ≡ args_of case.now.interface purpose.entry.want
         case.now.paths.result (program_directory program.now) purpose.entry.variables.now
         purpose.entry.case_name.now) }
 {
@@ -70,9 +71,9 @@ fn child_args(
     )
 }
 
-/// Returns the plan of a child's start: its program, arguments, environment and paths. `source` is
-/// the absolute directory of the root Kyuafile.
-pub(crate) fn spawning(
+/// Creates the plan for the start of a child of the case `case` with the purpose `purpose`.
+/// `source` is the absolute path of the root Kyuafile's directory.
+pub(crate) fn spawn_plan(
     alloc: Global,
     source: &Text,
     purpose: ChildPurpose<'_>,
@@ -80,21 +81,21 @@ pub(crate) fn spawning(
 ) -> Result<SpawnPlan, NoMemory>
     requires some { 1 ≤ purpose.limit }
     requires range { purpose.limit ≤ 1000000 }
-    ensures plan { IfOk result (λ plan. plan ≡ spawning_for source.now (record {
+    ensures plan { IfOk result (λ plan. plan ≡ spawn_plan_for source.now (record {
       want = purpose.entry.want;
       program = purpose.entry.program.now;
       variables = purpose.entry.variables.now;
       case_name = purpose.entry.case_name.now;
       limit = purpose.entry.limit;
     }) case.now) }
-    ensures on { IfOk result (λ plan. IsRunningWithin plan.limit fresh) }
+    ensures on { IfOk result (λ plan. IsRunningWithin plan.limit initial_counts) }
 {
     let paths = &case.paths;
     let program = absolute_path(alloc, source, purpose.program)?;
     let words = child_args(alloc, &program, purpose, case)?;
-    let (dir, work) = copies(&paths.dir, &paths.work)?;
+    let (dir, work) = copy_both(&paths.dir, &paths.work)?;
     let (out, err) = output_paths(case.role, paths);
-    let (out, err) = copies(out, err)?;
+    let (out, err) = copy_both(out, err)?;
     let env = env_plan(alloc, case.interface, purpose.variables, &paths.work)?;
     Ok(SpawnPlan {
         child: case.child(),
@@ -109,18 +110,18 @@ pub(crate) fn spawning(
     })
 }
 
-/// Returns `Refused::Memory`, the cause of the refusal of a start for which an allocation failed.
-/// No other function of this crate creates that cause.
+/// Converts a failed allocation to `Refused::Memory`, the cause with which a start is refused. No
+/// other function of this crate creates that cause.
 pub(crate) fn memory_refusal(_refusal: NoMemory) -> Refused
     ensures { result ≡ Refused.Memory }
 {
     Refused::Memory
 }
 
-/// Returns the cause of the refusal of a start whose call failed with `fault`: `Memory` if an
-/// allocation of the call failed, and otherwise `cause`.
-fn cause_of(cause: Refused, fault: OsFault) -> Refused
-    ensures { result ≡ cause_of cause fault }
+/// Returns the cause with which a start is refused after a call of the start failed with `fault`.
+/// The cause is `Memory` if an allocation of the call failed, and otherwise `cause`.
+fn refusal_cause(cause: Refused, fault: OsFault) -> Refused
+    ensures { result ≡ refusal_cause cause fault }
 {
     match fault {
         OsFault::Failed => cause,
@@ -130,8 +131,8 @@ fn cause_of(cause: Refused, fault: OsFault) -> Refused
 
 /// Creates the state of a child that has just started and was not polled yet. `limit` is its
 /// timeout in seconds.
-pub(crate) fn spawned(limit: u64, case: CaseAttempt) -> RunningChild
-    ensures { result ≡ spawned limit case }
+pub(crate) fn new_running_child(limit: u64, case: CaseAttempt) -> RunningChild
+    ensures { result ≡ new_running_child limit case }
 {
     let watch = PollCounts {
         before: 0,
@@ -141,16 +142,18 @@ pub(crate) fn spawned(limit: u64, case: CaseAttempt) -> RunningChild
     RunningChild { case, limit, watch }
 }
 
-/// Opens the two output files and spawns the child. The first failed call ends the start.
+/// Creates the two output files of `plan` and spawns its child.
+///
+/// Stops at the first call that fails, and returns the cause of the refusal.
 fn open_and_spawn<O: Os>(os: &mut O, plan: &SpawnPlan) -> Result<(), Refused>
     ensures { (calls : List Call) × Chain O.leads os.old calls os.new
-        × MakesCalls (child_asks plan.now) calls result }
+        × MakesCalls (spawn_calls plan.now) calls result }
 {
     if let Err(fault) = os.open_output(plan.child, &plan.out) {
-        return Err(cause_of(Refused::Output, fault));
+        return Err(refusal_cause(Refused::Output, fault));
     }
     if let Err(fault) = os.open_output(plan.child, &plan.err) {
-        return Err(cause_of(Refused::Output, fault));
+        return Err(refusal_cause(Refused::Output, fault));
     }
     match os.spawn(
         plan.child,
@@ -160,68 +163,69 @@ fn open_and_spawn<O: Os>(os: &mut O, plan: &SpawnPlan) -> Result<(), Refused>
         &plan.work,
     ) {
         Ok(()) => Ok(()),
-        Err(fault) => Err(cause_of(Refused::Spawn, fault)),
+        Err(fault) => Err(refusal_cause(Refused::Spawn, fault)),
     }
 }
 
-/// Creates the work directory, opens the output files and spawns the child. The first failed call
-/// ends the start.
-fn furnish<O: Os>(os: &mut O, plan: &SpawnPlan) -> Result<(), Refused>
+/// Creates the work directory and the two output files of `plan`, and spawns its child.
+///
+/// Stops at the first call that fails, and returns the cause of the refusal.
+fn spawn_in_work_dir<O: Os>(os: &mut O, plan: &SpawnPlan) -> Result<(), Refused>
     ensures { (calls : List Call) × Chain O.leads os.old calls os.new
-        × MakesCalls (new_attempt_asks plan.now) calls result }
+        × MakesCalls (new_attempt_calls plan.now) calls result }
 {
     if let Err(fault) = os.make_dir(&plan.work) {
-        return Err(cause_of(Refused::Directory, fault));
+        return Err(refusal_cause(Refused::Directory, fault));
     }
     open_and_spawn(os, plan)
 }
 
-/// Starts a body, or a program that lists its test cases, in a new directory. Removes the directory
-/// if a later call of the start fails.
-fn set_up_new<O: Os>(os: &mut O, plan: &SpawnPlan) -> Result<(), Refused>
+/// Starts a body, or a program that lists its test cases, in a new directory. If a later call of
+/// the start fails, removes the directory and returns the cause of the refusal.
+fn spawn_in_new_dir<O: Os>(os: &mut O, plan: &SpawnPlan) -> Result<(), Refused>
     ensures { (calls : List Call) × Chain O.leads os.old calls os.new
-        × SetUpNew (new_attempt_asks plan.now) plan.now.dir calls result }
+        × SpawnsInNewDir (new_attempt_calls plan.now) plan.now.dir calls result }
 {
     if let Err(fault) = os.make_dir(&plan.dir) {
-        return Err(cause_of(Refused::Directory, fault));
+        return Err(refusal_cause(Refused::Directory, fault));
     }
-    let tried = furnish(os, plan);
-    remove_if(os, tried.is_err(), &plan.dir);
+    let tried = spawn_in_work_dir(os, plan);
+    remove_dir_if(os, tried.is_err(), &plan.dir);
     tried
 }
 
-/// Starts a cleanup in the directory of its body. Removes the directory if a call of the start
-/// fails.
-fn set_up_existing<O: Os>(os: &mut O, plan: &SpawnPlan) -> Result<(), Refused>
+/// Starts a cleanup in the directory of its body. If a call of the start fails, removes the
+/// directory and returns the cause of the refusal.
+fn spawn_in_existing_dir<O: Os>(os: &mut O, plan: &SpawnPlan) -> Result<(), Refused>
     ensures { (calls : List Call) × Chain O.leads os.old calls os.new
-        × SetUpExisting (child_asks plan.now) plan.now.dir calls result }
+        × SpawnsInExistingDir (spawn_calls plan.now) plan.now.dir calls result }
 {
     let tried = open_and_spawn(os, plan);
-    remove_if(os, tried.is_err(), &plan.dir);
+    remove_dir_if(os, tried.is_err(), &plan.dir);
     tried
 }
 
-/// Sets the timeout of a child and starts the child, without reading the clock.
-pub(crate) fn set_up<O: Os>(os: &mut O, plan: &SpawnPlan) -> Result<(), Refused>
+/// Sets the timeout of the child of `plan` and starts the child. Does not read the clock.
+pub(crate) fn spawn_by_plan<O: Os>(os: &mut O, plan: &SpawnPlan) -> Result<(), Refused>
     ensures { (calls : List Call) × Chain O.leads os.old calls os.new
-        × SetUp plan.now calls result }
+        × SpawnsByPlan plan.now calls result }
 {
     // Set the timeout first, since the system measures the child's time from its start.
     os.set_limit(plan.child, plan.limit);
     match plan.child.role {
-        Role::Body => set_up_new(os, plan),
-        Role::Cleanup => set_up_existing(os, plan),
+        Role::Body => spawn_in_new_dir(os, plan),
+        Role::Cleanup => spawn_in_existing_dir(os, plan),
     }
 }
 
-/// Starts a child and returns the time of its start, in milliseconds since 1970 in UTC, or the
-/// cause of a refusal.
+/// Starts the child of `plan`. Returns the time of the start, in milliseconds since 1970 in UTC, or
+/// the cause of the refusal.
 pub(crate) fn start_child<O: Os>(os: &mut O, plan: &SpawnPlan) -> StartAnswer
     ensures asked { (calls : List Call) × Chain O.leads os.old calls os.new
         × Started plan.now calls result }
     ensures moment { HasMoment result }
 {
-    match set_up(os, plan) {
+    match spawn_by_plan(os, plan) {
         Ok(()) => StartAnswer::Started(moment(os)),
         Err(cause) => StartAnswer::Refused(cause),
     }

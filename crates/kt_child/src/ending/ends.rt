@@ -1,29 +1,30 @@
 ghost use Rattle.std.specs.Prelude.{◌≡◌, List, ◌≤◌, Result, length};
-ghost use Rattle.kt_child.specs.Common.{IsEvidence, IsMoment, Chain, Call, FinishesChild, Removes, err_of, is_over, out_of, FileRead, OsFault, ReadFile, IsListWithin, bytes_of, list_of};
+ghost use Rattle.kt_child.specs.Common.{IsEvidence, IsMoment, Chain, Call, FinishesChild, Removes, stderr_path, is_last_child, stdout_path, FileRead, OsFault, ReadFile, IsListWithin, bytes_of, list_of};
 
+use crate::Paths;
 use crate::ending::gathering::read_evidence;
 use crate::planning::CaseAttempt;
-use crate::system::moments::moment;
-use crate::{FileRead, Os, Paths};
 use kt_atflist::ListBytes;
 use kt_base::{Bytes, Outcome, Output, Role, Text};
+use kt_os::{FileRead, Os, moment};
 use kt_sched::Ended;
 use std::alloc::Global;
 
 /// The greatest size of a recorded output, in bytes (this profile). Further bytes are dropped.
-const KEPT: u64 = 1_048_576;
+const MAX_OUTPUT_BYTES: u64 = 1_048_576;
 
 /// The greatest size of a list of test cases, in bytes (this profile).
 const LIST_LIMIT: u64 = 1_048_576;
 
-/// Reads the first 1,048,576 bytes of an output. Returns no bytes if the file is missing or a read
-/// fails.
-pub(crate) fn read_kept<O: Os>(alloc: Global, os: &mut O, path: &Text) -> Bytes
-    ensures asked { (answer : Result FileRead OsFault) × O.leads os.old (ReadFile path.now 1048576 answer) os.new
+/// Reads an output of a child from the file `path`, at most 1,048,576 bytes. Returns no bytes if
+/// the file is missing or a read fails.
+pub(crate) fn read_child_output<O: Os>(alloc: Global, os: &mut O, path: &Text) -> Bytes
+    ensures asked { (answer : Result FileRead OsFault)
+        × O.leads os.old (ReadFile path.now 1048576 answer) os.new
         × (result ≡ bytes_of answer) }
     ensures within { length result ≤ 1048576 }
 {
-    match os.read_file(path, KEPT) {
+    match os.read_file(path, MAX_OUTPUT_BYTES) {
         Ok(FileRead::Part(bytes, _)) => bytes,
         Ok(FileRead::Missing) | Err(_) => Bytes::new(alloc),
     }
@@ -32,7 +33,8 @@ pub(crate) fn read_kept<O: Os>(alloc: Global, os: &mut O, path: &Text) -> Bytes
 /// Reads the list of test cases that a program wrote to the file `path`. Returns `TooLong` if the
 /// file has more than 1,048,576 bytes, and `Unreadable` if it is missing or a read fails.
 pub(crate) fn read_list<O: Os>(os: &mut O, path: &Text) -> ListBytes
-    ensures asked { (answer : Result FileRead OsFault) × O.leads os.old (ReadFile path.now 1048576 answer) os.new
+    ensures asked { (answer : Result FileRead OsFault)
+        × O.leads os.old (ReadFile path.now 1048576 answer) os.new
         × (result ≡ list_of answer) }
     ensures within { IsListWithin result }
 {
@@ -43,10 +45,10 @@ pub(crate) fn read_list<O: Os>(os: &mut O, path: &Text) -> ListBytes
     }
 }
 
-/// Returns the paths of the files for a child's standard output and standard error.
+/// Returns the paths of the files for a child's standard output and standard error, in that order.
 pub(crate) fn output_paths(role: Role, paths: &Paths) -> (&Text, &Text)
-    ensures out { result.0.now ≡ out_of role paths.now }
-    ensures err { result.1.now ≡ err_of role paths.now }
+    ensures out { result.0.now ≡ stdout_path role paths.now }
+    ensures err { result.1.now ≡ stderr_path role paths.now }
 {
     match role {
         Role::Body => (&paths.out, &paths.err),
@@ -54,15 +56,15 @@ pub(crate) fn output_paths(role: Role, paths: &Paths) -> (&Text, &Text)
     }
 }
 
-/// Returns `true` if no cleanup follows the end of the case's current child.
-pub(crate) fn is_over(case: &CaseAttempt) -> bool
-    ensures { result ≡ is_over case.now }
+/// Returns `true` if no cleanup follows after the current child of `case` has ended.
+pub(crate) fn is_last_child(case: &CaseAttempt) -> bool
+    ensures { result ≡ is_last_child case.now }
 {
     case.role == Role::Cleanup || !case.cleanup
 }
 
-/// Removes a directory if `removed` is `true`. A failed removal is ignored.
-pub(crate) fn remove_if<O: Os>(os: &mut O, removed: bool, dir: &Text)
+/// Removes the directory `dir` if `removed` is `true`. A failed removal is ignored.
+pub(crate) fn remove_dir_if<O: Os>(os: &mut O, removed: bool, dir: &Text)
     ensures { (calls : List Call) × Chain O.leads os.old calls os.new
         × Removes removed dir.now calls }
 {
@@ -88,10 +90,10 @@ pub(crate) fn finish_child<O: Os>(
     let moment = moment(os);
     let evidence = read_evidence(alloc, os, case.interface, case.role, &case.paths);
     let (out, err) = output_paths(case.role, &case.paths);
-    let out = read_kept(alloc, os, out);
-    let err = read_kept(alloc, os, err);
+    let out = read_child_output(alloc, os, out);
+    let err = read_child_output(alloc, os, err);
     // Remove the directory last, since it contains the files that are read.
-    remove_if(os, is_over(case), &case.paths.dir);
+    remove_dir_if(os, is_last_child(case), &case.paths.dir);
     Ended {
         position: case.position,
         role: case.role,

@@ -1,34 +1,36 @@
 ghost use Rattle.std.specs.Prelude.{List};
-ghost use Rattle.kt_child.specs.Common.{Chain, Call, Gathers, ReadsClaim, ReadsTap, IsEvidence};
+ghost use Rattle.kt_child.specs.Common.{Chain, Call, ReadsEvidence, ReadsClaim, ReadsTap, IsEvidence};
 
+use crate::Paths;
 use crate::ending::ReadEnd;
 use crate::ending::parts::read_in_parts;
-use crate::{Os, Paths};
 use kt_base::{Interface, Role, Text};
 use kt_claim::{Claim, ClaimFault, ClaimReader, Evidence, Tap, TapFault, TapReader};
+use kt_os::Os;
 use std::alloc::Global;
 
 /// The greatest size of one read of a result file, in bytes (this profile).
-const RESULT_PART: u64 = 4096;
+const RESULT_PART_BYTES: u64 = 4096;
 
-/// The greatest size of a result file, in bytes (this profile). It equals `LIMIT` of kt_claim.
-const RESULT_LIMIT: u64 = 65_536;
+/// The greatest size of a result file, in bytes (this profile). `ClaimReader` has the same limit.
+const MAX_RESULT_BYTES: u64 = 65_536;
 
 /// The greatest size of one read of a TAP stream, in bytes (this profile).
-const STREAM_PART: u64 = 65_536;
+const STREAM_PART_BYTES: u64 = 65_536;
 
 /// The greatest size of a TAP stream, in bytes (this profile).
-const STREAM_LIMIT: u64 = 16_777_216;
+const MAX_STREAM_BYTES: u64 = 16_777_216;
 
-/// Reads the result file of an ATF body and returns its claim. Returns `Missing` if there is no
-/// file, `Unreadable` if a read or an allocation fails, and a malformed claim if the file has more
-/// than 65,536 bytes.
+/// Reads the result file of an ATF body and returns its claim.
+///
+/// The claim is `Missing` if there is no file, and `Unreadable` if a read or an allocation fails.
+/// It is `Malformed` with `TooLong` if the file has more than 65,536 bytes.
 fn read_claim<O: Os>(alloc: Global, os: &mut O, path: &Text) -> Claim
     ensures { (calls : List Call) × Chain O.leads os.old calls os.new
         × ReadsClaim path.now calls result }
 {
     let mut reader = ClaimReader::new(alloc);
-    match read_in_parts(os, path, RESULT_PART, RESULT_LIMIT, &mut reader) {
+    match read_in_parts(os, path, RESULT_PART_BYTES, MAX_RESULT_BYTES, &mut reader) {
         ReadEnd::Missing => Claim::Missing,
         ReadEnd::Unreadable => Claim::Unreadable,
         ReadEnd::TooLong => Claim::Malformed(ClaimFault::TooLong),
@@ -39,15 +41,16 @@ fn read_claim<O: Os>(alloc: Global, os: &mut O, path: &Text) -> Claim
     }
 }
 
-/// Reads and parses the output of a TAP body. The result is `TapFault::Unreadable` if the output is
-/// missing, or if a read or an allocation fails. It is `TapFault::TooLong` for more than 16,777,216
-/// bytes.
+/// Reads the output of a TAP body and parses it as a TAP stream.
+///
+/// The result is `Invalid` with `Unreadable` if the output is missing, or if a read or an
+/// allocation fails. It is `Invalid` with `TooLong` if the output has more than 16,777,216 bytes.
 fn read_tap<O: Os>(alloc: Global, os: &mut O, path: &Text) -> Tap
     ensures { (calls : List Call) × Chain O.leads os.old calls os.new
         × ReadsTap path.now calls result }
 {
     let mut reader = TapReader::new(alloc);
-    match read_in_parts(os, path, STREAM_PART, STREAM_LIMIT, &mut reader) {
+    match read_in_parts(os, path, STREAM_PART_BYTES, MAX_STREAM_BYTES, &mut reader) {
         ReadEnd::Missing | ReadEnd::Unreadable => Tap::Invalid(TapFault::Unreadable),
         ReadEnd::TooLong => Tap::Invalid(TapFault::TooLong),
         ReadEnd::Complete => match reader.finish() {
@@ -58,7 +61,7 @@ fn read_tap<O: Os>(alloc: Global, os: &mut O, path: &Text) -> Tap
 }
 
 /// Reads the evidence of a finished child: the result file of an ATF body, or the output of a TAP
-/// body. Reads nothing for a plain program or a cleanup.
+/// body. For a plain program or a cleanup, reads nothing and returns `Plain`.
 pub(crate) fn read_evidence<O: Os>(
     alloc: Global,
     os: &mut O,
@@ -67,7 +70,7 @@ pub(crate) fn read_evidence<O: Os>(
     paths: &Paths,
 ) -> Evidence
     ensures gathered { (calls : List Call) × Chain O.leads os.old calls os.new
-        × Gathers interface role paths.now calls result }
+        × ReadsEvidence interface role paths.now calls result }
     ensures interface { IsEvidence interface role result }
 {
     match (role, interface) {

@@ -4,13 +4,13 @@ pub(crate) mod ends;
 pub(crate) mod gathering;
 pub(crate) mod parts;
 
-/// A result of reading a file in parts.
+/// A result of reading a whole file in parts.
 #[derive(Clone, Copy)]
 pub(crate) enum ReadEnd {
     /// The file is missing.
     Missing,
-    /// A read or an allocation failed. The file was missing after its first part, or a read
-    /// returned no bytes before its end.
+    /// A read or an allocation failed, the file vanished after its first part, or a read before the
+    /// end of the file returned no bytes.
     Unreadable,
     /// The file has more bytes than the limit.
     TooLong,

@@ -1,17 +1,17 @@
 ghost use Rattle.std.specs.Prelude.{◌≡◌, ℕ, ◌+◌, ◌<◌, List, [], Result, Some, length, Ok, IfNone, OnOk};
-ghost use Rattle.kt_child.specs.Common.{FileRead, OsFault, Chain, Call, bytes_of, TakesBytes, IsEnd, Reads, next_part};
+ghost use Rattle.kt_child.specs.Common.{FileRead, OsFault, Chain, Call, bytes_of, TakesBytes, IsReadEnd, Reads, next_part_call};
 
 use crate::ending::ReadEnd;
-use crate::{FileRead, Os};
 use kt_base::{NoMemory, Text};
 use kt_claim::{ClaimReader, TapReader};
+use kt_os::{FileRead, Os};
 
 /// An interface to a reader that parses a file part by part.
 pub(crate) trait PartReader {
     ghost use Rattle.std.specs.Prelude.{ℕ, List, OnOk};
     ghost use Rattle.kt_child.specs.Inner.Children.{TakesBytes};
 
-    /// `has_taken reader bytes`: the parts that were fed to `reader` are, joined, exactly `bytes`.
+    /// `has_taken reader bytes`: `bytes` are all bytes that were fed to `reader` so far.
     ghost has_taken: { Self → List ℕ → Type 0 };
 
     /// Feeds the next part of the file to the reader.
@@ -24,7 +24,7 @@ pub(crate) trait PartReader {
 }
 
 impl PartReader for ClaimReader {
-    ghost use Rattle.kt_claim.specs.ClaimReading.{HasRead};
+    ghost use Rattle.kt_claim.specs.ClaimReaderState.{HasRead};
 
     ghost has_taken = { λ reader bytes. HasRead reader bytes };
 
@@ -34,7 +34,7 @@ impl PartReader for ClaimReader {
 }
 
 impl PartReader for TapReader {
-    ghost use Rattle.kt_claim.specs.StreamReading.{HasStream};
+    ghost use Rattle.kt_claim.specs.TapReaderState.{HasStream};
 
     ghost has_taken = { λ reader bytes. HasStream reader bytes };
 
@@ -43,9 +43,12 @@ impl PartReader for TapReader {
     }
 }
 
-/// Reads the next part of a file, at most `part` bytes, and feeds it to the reader. Returns the end
-/// of the read, or adds the part's length to `got` and returns `None` if more parts follow.
-fn read_next<O: Os, R: PartReader>(
+/// Reads the next part of the file `path`, at most `part` bytes, and feeds the part to `reader`.
+///
+/// Returns the result of the whole read if it ends with this part. Otherwise, adds the part's
+/// length to `got` and returns `None`. `got` is the number of bytes that were read before, and
+/// `limit` the greatest size of the file in bytes.
+fn read_next_part<O: Os, R: PartReader>(
     os: &mut O,
     path: &Text,
     part: u64,
@@ -55,8 +58,8 @@ fn read_next<O: Os, R: PartReader>(
 ) -> Option<ReadEnd>
     requires { got.old < limit }
     ensures asked { (answer : Result FileRead OsFault)
-        × O.leads os.old (next_part path.now part limit got.old answer) os.new
-        × IsEnd limit got.old answer result
+        × O.leads os.old (next_part_call path.now part limit got.old answer) os.new
+        × IsReadEnd limit got.old answer result
         × (result ≡ Some ReadEnd.Complete
         → TakesBytes R.has_taken reader.old reader.new (bytes_of answer))
         × IfNone result (TakesBytes R.has_taken reader.old reader.new (bytes_of answer))
@@ -89,8 +92,8 @@ fn read_next<O: Os, R: PartReader>(
     }
 }
 
-/// Feeds a file to a new reader, in parts of at most `part` bytes, and returns the end of the read.
-/// At most `limit` bytes are read.
+/// Reads the file `path` in parts of at most `part` bytes, and feeds the parts to the new reader
+/// `reader`. Returns the result of the whole read. At most `limit` bytes are read.
 pub(crate) fn read_in_parts<O: Os, R: PartReader>(
     os: &mut O,
     path: &Text,
@@ -106,7 +109,7 @@ pub(crate) fn read_in_parts<O: Os, R: PartReader>(
 {
     let mut got = 0;
     'parts: loop {
-        if let Some(end) = read_next(os, path, part, limit, reader, &mut got) {
+        if let Some(end) = read_next_part(os, path, part, limit, reader, &mut got) {
             return end;
         }
     }

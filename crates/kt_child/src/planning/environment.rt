@@ -1,13 +1,13 @@
 ghost use Rattle.std.specs.Prelude.{◌≡◌, [], ◌∷◌, ◌++◌, map, IfOk, OnOk};
-ghost use Rattle.kt_child.specs.Common.{chars, common_variables, env_of, own_variables, removed_names, test_variable, variable};
+ghost use Rattle.kt_child.specs.Common.{chars, common_variables, env_of, interface_variables, locale_names, test_variable, variable};
 
-use crate::EnvPlan;
-use crate::planning::words::{joined, push_text};
+use crate::planning::words::{concat_texts, push_text};
 use kt_base::{Interface, Items, NoMemory, Text, Variable, Variables};
+use kt_os::EnvPlan;
 use std::alloc::Global;
 
 /// The names of the environment variables that set the locale (environ(7)).
-const LANGUAGE: [&str; 8] = [
+const LOCALE_VARIABLES: [&str; 8] = [
     "LANG",
     "LC_ALL",
     "LC_COLLATE",
@@ -18,12 +18,13 @@ const LANGUAGE: [&str; 8] = [
     "LC_TIME",
 ];
 
-/// Appends the names of the locale variables, which are removed from each child's environment.
-fn push_removed(alloc: Global, names: &mut Items<Text>) -> Result<(), NoMemory>
+/// Appends the names of the locale variables to `names`. These variables are removed from each
+/// child's environment.
+fn push_locale_names(alloc: Global, names: &mut Items<Text>) -> Result<(), NoMemory>
     requires { names.old ≡ [] }
-    ensures { OnOk result (names.new ≡ removed_names) }
+    ensures { OnOk result (names.new ≡ locale_names) }
 {
-    for name in &LANGUAGE {
+    for name in &LOCALE_VARIABLES {
         push_text(alloc, names, name)?;
     }
     Ok(())
@@ -38,30 +39,37 @@ fn push_variable(alloc: Global, set: &mut Variables, name: &str, text: &str) -> 
     set.push(Variable { name, value })
 }
 
-/// Returns a copy of a suite's variable for a TAP or plain program: its name has the prefix
-/// `TEST_ENV_`.
-fn for_test(alloc: Global, variable: &Variable) -> Result<Variable, NoMemory>
+/// Returns a copy of `variable`, a variable of a suite, with the prefix `TEST_ENV_` before its
+/// name.
+///
+/// TAP and plain programs get the variable in this form.
+fn copy_as_test_variable(alloc: Global, variable: &Variable) -> Result<Variable, NoMemory>
     ensures { IfOk result (λ v. v ≡ test_variable variable.now) }
 {
-    let name = joined(alloc, "TEST_ENV_", variable.name.as_str())?;
+    let name = concat_texts(alloc, "TEST_ENV_", variable.name.as_str())?;
     let value = variable.value.copy()?;
     Ok(Variable { name, value })
 }
 
-/// Appends a suite's variables for a TAP or plain program: each name has the prefix `TEST_ENV_`.
-fn push_for_test(alloc: Global, set: &mut Variables, variables: &Variables) -> Result<(), NoMemory>
+/// Appends copies of `variables`, the variables of a suite, to `set`. Each copy has the prefix
+/// `TEST_ENV_` before its name.
+fn push_test_variables(
+    alloc: Global,
+    set: &mut Variables,
+    variables: &Variables,
+) -> Result<(), NoMemory>
     ensures { OnOk result (set.new ≡ set.old ++ map test_variable variables.now) }
 {
     for variable in variables.as_slice() {
-        let passed = for_test(alloc, variable)?;
+        let passed = copy_as_test_variable(alloc, variable)?;
         set.push(passed)?;
     }
     Ok(())
 }
 
-/// Appends the variables that each child gets: `TZ` with `UTC`, and `HOME` and `TMPDIR` with the
-/// path of the child's work directory.
-fn push_common(alloc: Global, set: &mut Variables, work: &Text) -> Result<(), NoMemory>
+/// Appends to `set` the variables that every child gets: `TZ` with the value `UTC`, and `HOME` and
+/// `TMPDIR` with the value `work`. `work` is the path of the child's work directory.
+fn push_common_variables(alloc: Global, set: &mut Variables, work: &Text) -> Result<(), NoMemory>
     requires { set.old ≡ [] }
     ensures { OnOk result (set.new ≡ common_variables work.now) }
 {
@@ -70,15 +78,17 @@ fn push_common(alloc: Global, set: &mut Variables, work: &Text) -> Result<(), No
     push_variable(alloc, set, "TMPDIR", work.as_str())
 }
 
-/// Appends the variables that depend on the interface: `__RUNNING_INSIDE_ATF_RUN` for an ATF
-/// program, and the suite's variables for TAP and plain programs.
-fn push_own(
+/// Appends to `set` the environment variables that depend on the interface of a program.
+///
+/// An ATF program gets `__RUNNING_INSIDE_ATF_RUN`. TAP and plain programs get `variables`, the
+/// variables of the suite, with the prefix `TEST_ENV_` before each name.
+fn push_interface_variables(
     alloc: Global,
     set: &mut Variables,
     interface: Interface,
     variables: &Variables,
 ) -> Result<(), NoMemory>
-    ensures { OnOk result (set.new ≡ set.old ++ own_variables interface variables.now) }
+    ensures { OnOk result (set.new ≡ set.old ++ interface_variables interface variables.now) }
 {
     match interface {
         Interface::Atf => push_variable(
@@ -87,15 +97,16 @@ fn push_own(
             "__RUNNING_INSIDE_ATF_RUN",
             "internal-yes-value",
         ),
-        Interface::Tap | Interface::Plain => push_for_test(alloc, set, variables),
+        Interface::Tap | Interface::Plain => push_test_variables(alloc, set, variables),
     }
 }
 
-/// Returns the plan of a child's environment (this profile).
+/// Returns the changes that turn the runner's environment into a child's (this profile).
 ///
-/// Locale variables, such as `LANG`, are removed from the runner's environment. `TZ`, `HOME`,
-/// `TMPDIR` and the interface's variables are set. `work` is the absolute path of the child's work
-/// directory.
+/// Locale variables, such as `LANG`, are removed. `TZ`, `HOME` and `TMPDIR` are set for each child.
+/// An ATF program also gets `__RUNNING_INSIDE_ATF_RUN`. TAP and plain programs also get
+/// `variables`, the variables of the suite, with the prefix `TEST_ENV_` before each name. `work` is
+/// the absolute path of the child's work directory.
 ///
 /// # Errors
 ///
@@ -109,9 +120,9 @@ pub fn env_plan(
     ensures { IfOk result (λ plan. plan ≡ env_of interface variables.now work.now) }
 {
     let mut removed = Items::new(alloc);
-    push_removed(alloc, &mut removed)?;
+    push_locale_names(alloc, &mut removed)?;
     let mut set = Variables::new(alloc);
-    push_common(alloc, &mut set, work)?;
-    push_own(alloc, &mut set, interface, variables)?;
+    push_common_variables(alloc, &mut set, work)?;
+    push_interface_variables(alloc, &mut set, interface, variables)?;
     Ok(EnvPlan { removed, set })
 }

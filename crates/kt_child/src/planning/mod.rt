@@ -1,11 +1,12 @@
-//! Plans of children: paths, arguments and environment.
+//! Values for the start of a child: paths, arguments and environment.
 
 pub(crate) mod environment;
 pub(crate) mod words;
 pub(crate) mod workdir;
 
-use crate::{Child, EnvPlan, Paths};
+use crate::Paths;
 use kt_base::{Interface, Items, Role, Text, Variables};
+use kt_os::{Child, EnvPlan};
 
 /// A purpose for which a test program is started (atf-test-program(1)).
 #[derive(Clone, Copy)]
@@ -18,13 +19,12 @@ pub enum Want {
     Cleanup,
 }
 
-/// A purpose of a child: the part of the test program that it runs, and the values for its
-/// arguments.
+/// A purpose of a child: what the test program does, the values for its arguments, and its timeout.
 #[derive(Clone, Copy)]
 pub(crate) struct ChildPurpose<'a> {
-    /// The part of the test program that runs.
+    /// The task of the program: to list its cases, or to run the body or the cleanup of a case.
     pub want: Want,
-    /// The path of the program, relative to the directory of the root Kyuafile.
+    /// The path of the program, relative to the root Kyuafile's directory.
     pub program: &'a Text,
     /// The variables of the suite.
     pub variables: &'a Variables,
@@ -34,11 +34,13 @@ pub(crate) struct ChildPurpose<'a> {
     pub limit: u64,
 }
 
-/// A case with a running child or a pending cleanup, and its attempt. It also represents a running
-/// program that lists its test cases.
+/// A case with a running child or a pending cleanup, with the number and the paths of its attempt.
+///
+/// It also represents a running program that lists its test cases.
 #[derive(Drop)]
 pub(crate) struct CaseAttempt {
-    /// The position of the case in the plan, counted from 0, or 0 for a list.
+    /// The position of the case in the plan, counted from 0. It is 0 for a program that lists its
+    /// cases.
     pub position: u32,
     /// The number of the attempt, counted from 0. A cleanup has the number of its body.
     pub attempt: u64,
@@ -56,7 +58,7 @@ impl CaseAttempt {
     ghost use Rattle.std.specs.Prelude.{◌≡◌};
     ghost use Rattle.kt_child.specs.Common.{child_of};
 
-    /// Returns the name, attempt and role, of the child that runs or ran last.
+    /// Returns the name of the child that runs or ran last: its attempt number and its role.
     pub(crate) fn child(&self) -> Child
         ensures { result ≡ child_of self.now }
     {
@@ -67,7 +69,7 @@ impl CaseAttempt {
     }
 }
 
-/// A plan of a child's start, with the values for all calls to the system.
+/// A set of the values for the system calls that start a child.
 #[derive(Drop)]
 pub(crate) struct SpawnPlan {
     /// The name of the child.

@@ -6,7 +6,10 @@ use kt_base::{NoMemory, Text};
 use kt_removal::numbered_path;
 use std::alloc::Global;
 
-/// A set of absolute paths that one attempt uses (this profile).
+/// A set of the absolute paths of one attempt (this profile).
+///
+/// An attempt is the run of a body and its cleanup, or the run of a program that lists its test
+/// cases.
 pub struct Paths {
     /// The directory of the attempt, which contains the other paths.
     pub dir: Text,
@@ -39,8 +42,8 @@ impl Drop for Paths {
     }
 }
 
-/// Returns `ROOT/NUMBER/NAME`, the path of `name` in the directory of an attempt.
-fn path_below(alloc: Global, root: &Text, number: u64, name: &str) -> Result<Text, NoMemory>
+/// Returns `ROOT/NUMBER/NAME`, the path of `name` in the directory of the attempt `number`.
+fn attempt_path(alloc: Global, root: &Text, number: u64, name: &str) -> Result<Text, NoMemory>
     ensures { IfOk result (λ path. path ≡ below root.now number (chars name.now)) }
 {
     let mut path = numbered_path(alloc, root, "/", number)?;
@@ -49,8 +52,9 @@ fn path_below(alloc: Global, root: &Text, number: u64, name: &str) -> Result<Tex
     Ok(path)
 }
 
-/// Returns `ROOT/NUMBER/FIRST` and `ROOT/NUMBER/SECOND`, two paths in the directory of an attempt.
-fn join_two(
+/// Returns `ROOT/NUMBER/FIRST` and `ROOT/NUMBER/SECOND`, the paths of two files in the directory of
+/// the attempt `number`.
+fn attempt_path_pair(
     alloc: Global,
     root: &Text,
     number: u64,
@@ -60,11 +64,11 @@ fn join_two(
     ensures first { IfOk result (λ two. two.0 ≡ below root.now number (chars first.now)) }
     ensures second { IfOk result (λ two. two.1 ≡ below root.now number (chars second.now)) }
 {
-    let first = path_below(alloc, root, number, first)?;
-    Ok((first, path_below(alloc, root, number, second)?))
+    let first = attempt_path(alloc, root, number, first)?;
+    Ok((first, attempt_path(alloc, root, number, second)?))
 }
 
-/// Returns the paths of an attempt, by its number and the root directory of the driver (this
+/// Returns the paths of the attempt `number` below `root`, the root directory of the driver (this
 /// profile).
 ///
 /// # Errors
@@ -74,10 +78,16 @@ pub fn workdir_plan(alloc: Global, root: &Text, number: u64) -> Result<Paths, No
     ensures { IfOk result (λ paths. paths ≡ paths_of root.now number) }
 {
     let dir = numbered_path(alloc, root, "/", number)?;
-    let work = path_below(alloc, root, number, "work")?;
-    let result = path_below(alloc, root, number, "result")?;
-    let (out, err) = join_two(alloc, root, number, "out", "err")?;
-    let (cleanup_out, cleanup_err) = join_two(alloc, root, number, "cleanup.out", "cleanup.err")?;
+    let work = attempt_path(alloc, root, number, "work")?;
+    let result = attempt_path(alloc, root, number, "result")?;
+    let (out, err) = attempt_path_pair(alloc, root, number, "out", "err")?;
+    let (cleanup_out, cleanup_err) = attempt_path_pair(
+        alloc,
+        root,
+        number,
+        "cleanup.out",
+        "cleanup.err",
+    )?;
     Ok(Paths {
         dir,
         work,

@@ -5,15 +5,14 @@ pub(crate) mod polls;
 use crate::planning::CaseAttempt;
 use kt_base::Outcome;
 
-/// A count of the polls of a running child. The driver measures a timeout in polls, 100 for each
-/// second.
+/// A count of the polls of a child. The driver measures a timeout in polls, 100 for each second.
 #[derive(Clone, Copy)]
 pub(crate) struct PollCounts {
-    /// The number of polls before a kill that reported the child as running.
+    /// The number of polls that reported the child as running before a kill.
     pub before: u64,
     /// `true` if the driver has killed the child.
     pub killed: bool,
-    /// The number of polls after the kill that reported the child as running.
+    /// The number of polls that reported the child as running after the kill.
     pub after: u64,
 }
 
@@ -24,15 +23,15 @@ pub(crate) struct RunningChild {
     pub case: CaseAttempt,
     /// The timeout of the child, in seconds, from 1 to 1,000,000.
     pub limit: u64,
-    /// The count of its polls.
+    /// The count of the child's polls.
     pub watch: PollCounts,
 }
 
 /// A state of a child after a poll.
 #[derive(Clone, Copy)]
-pub(crate) enum AfterPoll {
+pub(crate) enum ChildProgress {
     /// The child is still running.
-    More,
+    StillRunning,
     /// The child has finished, with this outcome.
     Ended(Outcome),
 }

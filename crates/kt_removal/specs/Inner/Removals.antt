@@ -15,34 +15,34 @@ queued_dir place number = place ++ codes "/" ++ decimal number
 abbrev pub IsNumber : List ℕ → Type 0
 IsNumber name = (0 < length name) × (list_all is_digit name ≡ true)
 
--- `IsCaseOf root path`: `path` has the form of a case's directory: an entry of `root` whose name is
+-- `IsCaseDirectory root path`: `path` has the form of a case's directory: an entry of `root` whose name is
 -- a number.
-abbrev pub IsCaseOf : List ℕ → List ℕ → Type 0
-IsCaseOf root path = (name : List ℕ) × (utf8 path ≡ utf8 root ++ 47 ∷ name) × IsNumber name
+abbrev pub IsCaseDirectory : List ℕ → List ℕ → Type 0
+IsCaseDirectory root path = (name : List ℕ) × (utf8 path ≡ utf8 root ++ 47 ∷ name) × IsNumber name
 
--- `HasNextDirectory r`: the queue `r` has a next directory: its number `r.done` is less than `r.moved`, and
--- the move to it did not fail.
+-- `HasNextDirectory r`: the queue `r` has a next directory. Its number `r.done` is less than
+-- `r.moved`, and the move to this number did not fail.
 abbrev pub HasNextDirectory : Removals → Type 0
 HasNextDirectory r = (r.done < r.moved) × (list_any (λ n. n == r.done) r.gaps.items ≡ false)
 
--- `IsRemovable r path`: for the removals `r`, `path` is a case's directory, the queue directory or the
--- next directory of the queue.
+-- `IsRemovable r path`: for the removals `r`, `path` is a case's directory, the queue directory or
+-- the next directory of the queue.
 abbrev pub IsRemovable : Removals → List ℕ → Type 0
-IsRemovable r path = IsCaseOf r.root path ⊎ (path ≡ r.place) ⊎ (HasNextDirectory r × (path ≡ queued_dir r.place r.done))
+IsRemovable r path = IsCaseDirectory r.root path ⊎ (path ≡ r.place) ⊎ (HasNextDirectory r × (path ≡ queued_dir r.place r.done))
 
 -- `MayEmpty r path`: a step of the removals `r` may remove the entries of `path`. It is the root, a
 -- case's directory, the queue directory or the next directory of the queue.
 abbrev pub MayEmpty : Removals → List ℕ → Type 0
 MayEmpty r path = (path ≡ r.root) ⊎ IsRemovable r path
 
--- `is_name name`: `name` is the name of an entry: not empty, without a slash, and neither `.` nor
--- `..`.
-abbrev pub is_name : List ℕ → Bool
-is_name name = not (bytes_eq name []) && not (bytes_eq name (codes ".")) && not (bytes_eq name (codes "..")) && not (list_any (λ c. c == 47) name)
+-- `is_entry_name name`: `name` can be the name of a directory's entry: not empty, without a slash, and
+-- neither `.` nor `..`.
+abbrev pub is_entry_name : List ℕ → Bool
+is_entry_name name = not (bytes_eq name []) && not (bytes_eq name (codes ".")) && not (bytes_eq name (codes "..")) && not (list_any (λ c. c == 47) name)
 
--- `IsEntryOf directory path`: `path` is an entry of `directory`.
+-- `IsEntryOf directory path`: `path` is the path of an entry of `directory`.
 abbrev pub IsEntryOf : List ℕ → List ℕ → Type 0
-IsEntryOf directory path = (name : List ℕ) × (path ≡ utf8 directory ++ 47 ∷ name) × (is_name name ≡ true)
+IsEntryOf directory path = (name : List ℕ) × (path ≡ utf8 directory ++ 47 ∷ name) × (is_entry_name name ≡ true)
 
 -- `MayRemove r path`: a step of the removals `r` may remove or move `path`. It is an entry of a
 -- directory that the step may empty (`MayEmpty`), or that directory itself if it isn't the root.
@@ -50,7 +50,7 @@ abbrev pub MayRemove : Removals → List ℕ → Type 0
 MayRemove r path = (directory : List ℕ) × ((IsRemovable r directory × (path ≡ utf8 directory)) ⊎ (MayEmpty r directory × IsEntryOf directory path))
 
 -- `KeepsQueue old new`: a step takes the removals from `old` to `new`, with the same root, queue
--- directory and next number. A directory that was moved to this number is still there.
+-- directory and next number. If `old` has a next directory, so has `new`.
 pub record KeepsQueue (old new : Removals) : Type 0 where
   pub root : new.root ≡ old.root
   pub place : new.place ≡ old.place
@@ -58,6 +58,6 @@ pub record KeepsQueue (old new : Removals) : Type 0 where
   pub moved : HasNextDirectory old → HasNextDirectory new
 
 -- `waiting moved done`: the number of directories in the queue, at most 2^32 - 1. `moved` is the
--- number of the next move, and `done` that of the next directory to empty.
+-- number that the next moved directory gets, and `done` that of the directory that is emptied next.
 abbrev pub waiting : ℕ → ℕ → ℕ
 waiting moved done = min (moved - done) (2 ^ 32 - 1)

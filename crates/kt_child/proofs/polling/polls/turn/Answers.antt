@@ -1,6 +1,6 @@
 use Rattle.std.proofs.Common.{◌<◌, length, arith, refl, subst}
 use Rattle.std.proofs.Math.ListN.{get_or}
-use Rattle.kt_child.proofs.Common.{All-set, IsRunningChild, IsWatched, RunningChild}
+use Rattle.kt_child.proofs.Common.{All-set, IsRunningChild, AreRunningCounts, RunningChild}
 use Rattle.kt_child.proofs.TurnSteps.{on_at, same_at, step_more, step_over, step_set}
 use Rattle.kt_child.proofs.polling.polls.turn.Goals as goal
 
@@ -15,17 +15,17 @@ loop-i-preserved g c =
     let init = c.args.children.now in
     let l = c.loop-i in
     let d = c.index-children-i.result in
-    let e = c.index-children-i-in-More.result in
+    let e = c.index-children-i-in-StillRunning.result in
     let lt : l.i < length init = omega arith in
     record {
       asked =
           step_more init l.children l.i d lt l.invariant.children g.O.Os.leads c.args.os.now l.os c.poll_once.new.os c.child.result c.child.ensures
-          l.invariant.asked c.in-More.ensures.asked;
-      children = step_set init l.children l.i d lt l.invariant.children e c.poll_once.new.watch (c.in-More.ensures.watched refl).0;
+          l.invariant.asked c.in-StillRunning.ensures.asked;
+      children = step_set init l.children l.i d lt l.invariant.children e c.poll_once.new.watch (c.in-StillRunning.ensures.watched refl).0;
       on =
           All-set IsRunningChild l.children l.i (record (get_or l.children l.i e) { watch = c.poll_once.new.watch }) (
-            subst (λ (t : RunningChild). IsWatched t.limit c.poll_once.new.watch) (same_at init l.children l.i d lt l.invariant.children e)
-                (c.in-More.ensures.watched refl).1,
+            subst (λ (t : RunningChild). AreRunningCounts t.limit c.poll_once.new.watch) (same_at init l.children l.i d lt l.invariant.children e)
+                (c.in-StillRunning.ensures.watched refl).1,
             (on_at init l.children l.i e lt l.invariant.children c.requires).1,
           )
           l.invariant.on;

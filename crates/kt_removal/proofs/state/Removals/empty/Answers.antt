@@ -8,8 +8,8 @@ pub returns-then-not-remove_next_entries : goal.returns-then-not-remove_next_ent
 returns-then-not-remove_next_entries g c =
     record { stays = stays_then c.args.self.now c.loop.self c.remove_next_entries.new.self c.loop.invariant c.remove_next_entries.ensures.stays }
 
-pub returns-then-is_over : goal.returns-then-is_over
-returns-then-is_over g c =
+pub returns-then-must_stop_after_step : goal.returns-then-must_stop_after_step
+returns-then-must_stop_after_step g c =
     record { stays = stays_then c.args.self.now c.loop.self c.remove_next_entries.new.self c.loop.invariant c.remove_next_entries.ensures.stays }
 
 pub loop-preserved : goal.loop-preserved

@@ -1,7 +1,0 @@
-use Rattle.std.proofs.Common.{ℕ, ◌<◌, IsSomeAnd, slice_get}
-use Rattle.std.specs.Map.{values_of}
-use Rattle.kt_child.specs.Common.{IsLateAt}
-use Rattle.kt_child.proofs.host.children.is_any_late.Given as goal
-
-abbrev pub invariant-loop-place : goal.invariant-loop-place
-invariant-loop-place g l = (i : ℕ) → i < l.place → IsSomeAnd (slice_get (values_of l.children.entries) i) (IsLateAt l.now) → ⊥

@@ -1,7 +1,0 @@
-use Rattle.std.proofs.Common.{refl}
-use Rattle.kt_child.proofs.Common.{chars}
-use Rattle.kt_child.proofs.planning.environment.for_test.Goals as goal
-
-pub returns : goal.returns
-unfolding chars
-returns c = rw (c.in_ok-name.ensures, c.in_ok-value.ensures, c.as_str.ensures.characters) refl

@@ -1,4 +1,0 @@
--- The implementation of `Os` by the standard library.
-pub mod HostAnswers
-pub mod HostStands
-pub mod Lateness

@@ -1,3 +1,0 @@
--- The interface to the system: the trait, its values, and the clock.
-pub mod Calls
-pub mod Moments

@@ -1,0 +1,5 @@
+pub mod Common
+pub mod HostReads
+pub mod HostStandings
+pub mod HostSteps
+pub mod ProgramSearch

@@ -1,0 +1,181 @@
+ghost use Rattle.std.specs.Prelude.{◌≡◌, None, Some, Result, Ok, IsSome, IsTrue, IfNone, IfSome, OnOk};
+ghost use Rattle.std.specs.declared.io.Error.{Error};
+ghost use Rattle.std.specs.declared.time.Instant.{Instant as Time};
+ghost use Rattle.kt_os.specs.Common.{AllProceed, AllStay, OthersStay, IsLateCheck, process_state_in, process_state};
+
+use crate::host::command::ProgramStart;
+use crate::host::host_child::HostChild;
+use crate::host::pace::{NEWEST_CHILDREN, PAUSE_MICROS, is_due, next_slice_micros};
+use crate::{Child, OsFault};
+use indexmap::IndexMap;
+use kt_base::NoMemory;
+use kt_removal::{Removals, rest};
+use std::fs::File;
+use std::process::{OpenProcess, Processes};
+use std::rt::{Clock, Files};
+use std::time::Instant;
+
+/// A map of the host's children by their names.
+pub(crate) type Children<P> = IndexMap<Child, HostChild<P>>;
+
+/// Removes a child from the map, and returns its name and the child. Returns `None` if the map
+/// lacks the child.
+pub(crate) fn remove_child<P: OpenProcess + Drop>(
+    children: &mut Children<P>,
+    child: Child,
+) -> Option<(Child, HostChild<P>)>
+    ensures own { IfSome result (λ gone. (gone.0 ≡ child)
+        × (process_state gone.1 ≡ process_state_in children.old.entries child)) }
+    ensures none { IfNone result (process_state_in children.old.entries child ≡ None) }
+    ensures forgotten { process_state_in children.new.entries child ≡ None }
+    ensures others { OthersStay child (process_state_in children.old.entries)
+        (process_state_in children.new.entries) }
+{
+    let held = children.shift_remove(&child)?;
+    Some((child, held))
+}
+
+/// Returns `true` if the next output file that is opened for a child is for its standard error.
+pub(crate) fn is_stderr_next<P: OpenProcess + Drop>(children: &Children<P>, child: Child) -> bool
+    ensures { IsTrue result → process_state_in children.now.entries child ≡ None }
+{
+    match children.get(&child) {
+        Some(held) => held.is_stderr_next(),
+        None => false,
+    }
+}
+
+/// Stores an opened output file of a child.
+///
+/// The file is for standard error if only standard output is open. Otherwise, it is for the
+/// standard output of a new child, whose timeout is `limit` seconds.
+pub(crate) fn keep_output<P: OpenProcess + Drop, C: Clock>(
+    children: &mut Children<P>,
+    child: Child,
+    limit: u64,
+    file: File,
+    clock: &C,
+) -> Result<(), NoMemory>
+    ensures unstarted { process_state_in children.new.entries child ≡ None }
+    ensures others { OthersStay child (process_state_in children.old.entries)
+        (process_state_in children.new.entries) }
+{
+    if let Some(held) = children.get_mut(&child) {
+        held.keep_file(limit, file, clock);
+        return Ok(());
+    }
+    children.insert(child, HostChild::new(limit, file, clock))?;
+    Ok(())
+}
+
+/// Starts the program of `asked` as the child `child` of the map, with the two output files of the
+/// child.
+///
+/// Fails if the map lacks the child, if one of the files is not open, or if the system can't start
+/// the program.
+pub(crate) fn launch<P: OpenProcess + Drop, R: Processes<Started = P> + Clock + AllocGlobal>(
+    children: &mut Children<P>,
+    child: Child,
+    rt: &R,
+    asked: ProgramStart<'_>,
+) -> Result<(), OsFault>
+    ensures started { OnOk result (IsSome (process_state_in children.new.entries child)) }
+    ensures others { OthersStay child (process_state_in children.old.entries)
+        (process_state_in children.new.entries) }
+{
+    match children.get_mut(&child) {
+        Some(held) => held.launch(rt, asked),
+        None => Err(OsFault::Failed),
+    }
+}
+
+/// Returns `true` if some child of the map has missed more than two polls. A child must be polled
+/// 100 times a second. Returns `false` if the clock fails.
+pub(crate) fn has_late_child<P: OpenProcess + Drop, C: Clock>(
+    children: &Children<P>,
+    rt: &C,
+) -> bool
+    ensures { (time : Result Time Error) × IsLateCheck children.now.entries time result }
+{
+    let Ok(now) = Instant::now(rt) else {
+        return false;
+    };
+    for place in 0..children.len() {
+        if children[place].is_late_at(now) {
+            return true;
+        }
+    }
+    false
+}
+
+/// Kills a child of the map. Fails if the map lacks the child, if the child was not started, or if
+/// the system can't kill it.
+pub(crate) fn kill<P: OpenProcess + Drop, C: Clock>(
+    children: &mut Children<P>,
+    child: Child,
+    clock: &C,
+) -> Result<(), OsFault>
+    ensures had { OnOk result (IsSome (process_state_in children.old.entries child)) }
+    ensures stay { AllStay (process_state_in children.old.entries) (process_state_in
+        children.new.entries) }
+{
+    match children.get_mut(&child) {
+        Some(held) => held.kill(clock),
+        None => Err(OsFault::Failed),
+    }
+}
+
+/// Returns `true` if a child at the index `from` or later has ended and no earlier check found its
+/// end. The search stops at the first such child.
+fn detect_new_end<P: OpenProcess + Drop>(children: &mut Children<P>, from: usize) -> bool
+    ensures { AllProceed (process_state_in children.old.entries) (process_state_in
+        children.new.entries) }
+{
+    for place in from..children.len() {
+        let held = &mut children[place];
+        if held.detect_new_end() {
+            return true;
+        }
+    }
+    false
+}
+
+/// Waits at most one pause, nominally 10 milliseconds, until a child has ended. Returns `true` if
+/// an end was found.
+///
+/// `pauses` is the number of pauses since the end of a child was last found. A pause has slices, in
+/// which the removals of `removals` continue. The newest children are checked after each slice, and
+/// all children at longer intervals. No check follows the last slice, since each child is polled
+/// next.
+pub(crate) fn await_end<P: OpenProcess + Drop, R: Files + Clock + AllocGlobal>(
+    children: &mut Children<P>,
+    removals: &mut Option<Removals>,
+    rt: &R,
+    pauses: u32,
+) -> bool
+    ensures { AllProceed (process_state_in children.old.entries) (process_state_in
+        children.new.entries) }
+{
+    let newest = children.len().saturating_sub(NEWEST_CHILDREN);
+    let mut looked = 0;
+    let mut rested = 0;
+    while rested < PAUSE_MICROS {
+        let slice = next_slice_micros(children.len(), pauses, rested);
+        let spent = rest(removals, rt, slice);
+        rested = rested.saturating_add(spent).min(PAUSE_MICROS);
+        let due = is_due(
+            children.len(),
+            pauses,
+            rested,
+            rested.saturating_sub(looked),
+        );
+        if due {
+            looked = rested;
+        }
+        let from = if due { 0 } else { newest };
+        if rested < PAUSE_MICROS && detect_new_end(children, from) {
+            return true;
+        }
+    }
+    false
+}

@@ -1,0 +1,227 @@
+use crate::OsFault;
+use crate::host::command::{ProgramStart, spawn};
+use crate::host::into_os_result;
+use crate::host::pace::Pace;
+use std::fs::File;
+use std::process::{ExitStatus, OpenProcess, Processes};
+use std::rt::Clock;
+use std::time::{Duration, Instant};
+use std::{process, thread};
+
+/// The greatest number of sleeps in one poll. Each takes one millisecond, and after 20 of them the
+/// next `Running` response is no longer early.
+const MAX_POLL_SLEEPS: u32 = 20;
+
+/// The timeout of a killed child, in seconds: the time of 500 `Running` responses.
+const KILLED_LIMIT_SECONDS: u64 = 5;
+
+/// A child of the host, from the opening of its first output file until its end is reported.
+pub(crate) struct HostChild<P: OpenProcess> {
+    /// The file for standard output, before the start.
+    out: Option<File>,
+    /// The file for standard error, before the start.
+    err: Option<File>,
+    /// The two output files, open from the start at least until the outputs have been read. A
+    /// process can't take a lease on a file that is open for writing (fcntl(2)).
+    kept: Option<(File, File)>,
+    /// The process, from the start on.
+    process: Option<process::Child<P>>,
+    /// The pace of the `Running` responses.
+    pace: Pace,
+    /// `true` if the end was found or a wait for it failed.
+    seen: bool,
+}
+
+/// A manual implementation, so that a drop of `HostChild` is one call for the prover.
+impl<P: OpenProcess + Drop> Drop for HostChild<P> {
+    fn drop(self) {
+        let HostChild {
+            out: _,
+            err: _,
+            kept: _,
+            process,
+            pace: _,
+            seen: _,
+        } = self;
+        drop(process);
+    }
+}
+
+impl<P: OpenProcess + Drop> HostChild<P> {
+    ghost use Rattle.std.specs.Prelude.{◌≡◌, ◌↔◌, ◌+◌, ◌-◌, ◌^◌, min, Some, None, Ok, true, false, IsTrue, IsSome, IsNone, IsOk, IsErr, IfOk, OnOk};
+    ghost use Rattle.kt_os.specs.Common.{IsInFirstHalf, IsLateAt, Proceeds, MayBeRunning, process_state};
+    ghost use Rattle.std.specs.declared.process.status.ExitStatus.{ExitStatus as Status};
+
+    /// Creates a child without a process. `limit` is its timeout in seconds, and `out` the file for
+    /// its standard output.
+    pub(crate) fn new<C: Clock>(limit: u64, out: File, clock: &C) -> HostChild<P>
+        ensures out { result.out ≡ Some out }
+        ensures err { result.err ≡ None }
+        ensures stands { process_state result ≡ None }
+        ensures limit { result.pace.limit ≡ limit }
+        ensures unseen { result.seen ≡ false }
+    {
+        HostChild {
+            out: Some(out),
+            err: None,
+            kept: None,
+            process: None,
+            pace: Pace::begun(limit, clock),
+            seen: false,
+        }
+    }
+
+    /// Returns `true` if the child was not started and only the file for its standard output is
+    /// open.
+    pub(crate) fn is_stderr_next(&self) -> bool
+        ensures { IsTrue result ↔ (IsSome self.now.out × IsNone self.now.err
+            × (process_state self.now ≡ None)) }
+    {
+        self.out.is_some() && self.err.is_none() && self.process.is_none()
+    }
+
+    /// Stores an opened output file.
+    ///
+    /// The file is for standard error if only standard output is open. Otherwise, a new child
+    /// replaces this child, with the file for its standard output and a timeout of `limit` seconds.
+    pub(crate) fn keep_file<C: Clock>(&mut self, limit: u64, file: File, clock: &C)
+        ensures stands { process_state self.new ≡ None }
+    {
+        if self.is_stderr_next() {
+            self.err = Some(file);
+        } else {
+            *self = HostChild::new(limit, file, clock);
+        }
+    }
+
+    /// Starts the program of `asked` with an empty standard input and the two output files. Fails
+    /// if one of the files is not open, or if the system can't start the program.
+    pub(crate) fn launch<R: Processes<Started = P> + Clock + AllocGlobal>(
+        &mut self,
+        rt: &R,
+        asked: ProgramStart<'_>,
+    ) -> Result<(), OsFault>
+        ensures started { OnOk result (IsSome (process_state self.new)) }
+        ensures reset { OnOk result (self.new.pace.answers ≡ 0) }
+    {
+        let Some((out, err)) = self.out.take().zip(self.err.take()) else {
+            return Err(OsFault::Failed);
+        };
+        let kept = (
+            into_os_result(out.try_clone())?,
+            into_os_result(err.try_clone())?,
+        );
+        drop(self.process.replace(spawn(rt, asked, out, err)?));
+        self.kept = Some(kept);
+        self.pace = Pace::begun(self.pace.limit, rt);
+        Ok(())
+    }
+
+    /// Returns the exit status of the child, or `None` if it is running.
+    ///
+    /// Once the child has ended, later calls return the same status. Fails if the child was not
+    /// started or can't be waited for.
+    fn status(&mut self) -> Result<Option<ExitStatus>, OsFault>
+        ensures proceeds { Proceeds (process_state self.old) (process_state self.new) }
+        ensures stands { IfOk result (λ status. process_state self.new ≡ Some status) }
+        ensures pace { self.new.pace ≡ self.old.pace }
+        ensures seen { IfOk result (λ status. IsSome status → self.new.seen ≡ true) }
+    {
+        let answer = match &mut self.process {
+            Some(process) => into_os_result(process.try_wait()),
+            None => return Err(OsFault::Failed),
+        };
+        if !matches!(answer, Ok(None)) {
+            self.seen = true;
+        }
+        answer
+    }
+
+    /// Returns `true` if the child has missed more than two polls by `now`. A child must be polled
+    /// 100 times a second. A child that was not started, whose end was found, or whose timeout had
+    /// its last poll has missed none.
+    pub(crate) fn is_late_at(&self, now: Instant) -> bool
+        ensures { IsTrue result ↔ IsLateAt now self.now }
+    {
+        !self.seen && self.process.is_some() && self.pace.is_late_at(now)
+    }
+
+    /// Returns `true` if the child is reported as running without a check.
+    ///
+    /// `late` is `true` if some child is polled late. The child itself must be in the first half of
+    /// its responses.
+    fn is_assumed_running(&self, late: bool) -> bool
+        ensures runs { IsTrue result → IsSome (process_state self.now) }
+        ensures late { IsTrue result → IsTrue late }
+        ensures free { IsTrue result → IsInFirstHalf self.now.pace.limit self.now.pace.answers }
+    {
+        late && !self.seen && self.process.is_some() && self.pace.is_in_first_half()
+    }
+
+    /// Returns the exit status of the child, or `None` if it is running.
+    ///
+    /// `None` is counted as a response; the poll sleeps first while that response is too early.
+    /// `late` is `true` if some child is polled late. `None` may then be returned without a check.
+    pub(crate) fn poll<C: Clock>(
+        &mut self,
+        late: bool,
+        clock: &C,
+    ) -> Result<Option<ExitStatus>, OsFault>
+        ensures proceeds { Proceeds (process_state self.old) (process_state self.new) }
+        ensures ended { IfOk result (λ status. IsSome status
+            → process_state self.new ≡ Some status) }
+        ensures running { result ≡ Ok None
+            → MayBeRunning late (process_state self.old)
+            × (process_state self.new ≡ process_state self.old) }
+        ensures counted { result ≡ Ok None → self.new.pace.answers
+            ≡ min (self.old.pace.answers + 1) (2 ^ 64 - 1) }
+    {
+        if self.is_assumed_running(late) {
+            self.pace.count_response();
+            return Ok(None);
+        }
+        // An early `Running` response would shorten the timeout, so sleep first.
+        for _ in 0..MAX_POLL_SLEEPS {
+            if !self.pace.is_early(clock) || self.status()?.is_some() {
+                break;
+            }
+            thread::sleep(clock, Duration::from_millis(1));
+        }
+        let status = self.status()?;
+        if status.is_none() {
+            self.pace.count_response();
+        }
+        Ok(status)
+    }
+
+    /// Kills the child. The polls after the kill have the pace of a timeout of 5 seconds.
+    ///
+    /// Fails if the child was not started or the system can't kill it.
+    pub(crate) fn kill<C: Clock>(&mut self, clock: &C) -> Result<(), OsFault>
+        ensures stands { process_state self.new ≡ process_state self.old }
+        ensures had { OnOk result (IsSome (process_state self.old)) }
+        ensures ended { (status : Status) → process_state self.old ≡ Some (Some status)
+            → IsOk result }
+        ensures limit { OnOk result (self.new.pace.limit ≡ 5) }
+        ensures reset { OnOk result (self.new.pace.answers ≡ 0) }
+    {
+        match &mut self.process {
+            Some(process) => into_os_result(process.kill())?,
+            None => return Err(OsFault::Failed),
+        }
+        self.pace = Pace::begun(KILLED_LIMIT_SECONDS, clock);
+        Ok(())
+    }
+
+    /// Returns `true` if the child has ended and no earlier call found its end. The next poll
+    /// returns the exit status.
+    pub(crate) fn detect_new_end(&mut self) -> bool
+        ensures proceeds { Proceeds (process_state self.old) (process_state self.new) }
+        ensures unseen { IsTrue result → self.old.seen ≡ false }
+        ensures seen { IsTrue result → self.new.seen ≡ true }
+        ensures ended { IsTrue result → ((status : Status)
+            × (process_state self.new ≡ Some (Some status))) }
+    {
+        !self.seen && matches!(self.status(), Ok(Some(_)))
+    }
+}
