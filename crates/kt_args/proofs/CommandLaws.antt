@@ -1,6 +1,6 @@
 -- Each command line that `clap` accepts names a command.
 use Rattle.std.proofs.Common.{rules, tests, arith, IfOk, IfSome, ◌≤◌, subst, ◌≡◌, ◌∙◌, ℕ, Bool, true, false, cond, ◌||◌, ◌&&◌, List, [], ◌∷◌, Option, Some, None, refl, ap, ap₂, sym, is_some, Result, Ok, Err, bytes_eq, codes, find, option_map}
-use Rattle.kt_args.proofs.Common.{list_all, App, IsParsedFrom, Row, Shape, Text, app_of, built, fault_of, first_of, is_simple, is_simple_and_free, matches_of, subcommand_of, subcommand_rows_of, out-Command, out-ArgMatches, argument_words, entered, label_of, names_of, rows_at, Kind, kyua_app, Reads, RefusesArgs, command_in, report_with, junit_with, report_in, junit_in, options_in, results_path, kinds_of, run_of}
+use Rattle.kt_args.proofs.Common.{list_all, App, IsParsedFrom, Row, Shape, Text, app_of, built, fault_of, first_of, is_simple, is_simple_and_free, matches_of, subcommand_of, subcommand_rows_of, out-Command, out-ArgMatches, argument_words, entered, label_of, names_of, rows_at, Kind, kyua_app, Reads, IsArgsFault, command_in, report_or_error, junit_or_error, report_in, junit_in, options_in, results_path, kinds_option, run_option}
 use Rattle.std.specs.Option.{option_map_or}
 use Rattle.clap.specs.declared.builder.command.Command.{Command as ClapCommand}
 use Rattle.clap.specs.declared.parser.matches.ArgMatches.{ArgMatches}
@@ -9,8 +9,8 @@ use Rattle.clap.specs.Walk.{answers_to, stop_after}
 use Rattle.clap.proofs.OnLiterals.{clap_on_literals}
 use Rattle.kt_args.specs.declared.command.Command.{Command}
 use Rattle.kt_args.specs.declared.options.CaseOptions.{CaseOptions}
-use Rattle.kt_args.specs.Commands.{HasRunNumber}
-use Rattle.kt_base.specs.Limits.{last_run}
+use Rattle.kt_args.specs.Commands.{HasValidRun}
+use Rattle.kt_base.specs.Limits.{greatest_run_number}
 use Rattle.kt_args.specs.declared.command_fault.CommandFault.{CommandFault}
 use Rattle.kt_args.specs.Inner.Reading.{Answers}
 use Rattle.kt_args.specs.declared.command.Command.TheVariants as command
@@ -54,20 +54,20 @@ by_stop (Some p) = go (find (λ s. answers_to p.0 (label_of s)) (built kyua_app)
 -- `Fits entered r`: the run number of the result `r`, if it has one, is 1 to 1,000,000. If
 -- `entered`, so that a command was found, `r` is not `Usage`.
 abbrev Fits : Bool → Result Command CommandFault → Type 0
-Fits entered (Ok c) = HasRunNumber c
+Fits entered (Ok c) = HasValidRun c
 Fits entered (Err (fault.Usage message)) = entered ≡ false
 Fits entered (Err other) = Unit {0}
 
-run_in_range : (o : Option Text) → IfSome (run_of o) (λ run'. IfSome run' (λ n. (1 ≤ n) × (n ≤ last_run)))
+run_in_range : (o : Option Text) → IfSome (run_option o) (λ run'. IfSome run' (λ n. (1 ≤ n) × (n ≤ greatest_run_number)))
 run_in_range None = tt
 run_in_range (Some word) = search (rules, tests, arith)
 
-report_fits : (before own : List Row) (kinds : Option (List Kind)) (run' : Option (Option ℕ)) → IfSome run' (λ o. IfSome o (λ n. (1 ≤ n) × (n ≤ last_run))) → Fits true (report_with before own kinds run')
+report_fits : (before own : List Row) (kinds : Option (List Kind)) (run' : Option (Option ℕ)) → IfSome run' (λ o. IfSome o (λ n. (1 ≤ n) × (n ≤ greatest_run_number))) → Fits true (report_or_error before own kinds run')
 report_fits before own None run' range = tt
 report_fits before own (Some kinds) None range = tt
 report_fits before own (Some kinds) (Some run') range = range
 
-junit_fits : (before own : List Row) (run' : Option (Option ℕ)) → IfSome run' (λ o. IfSome o (λ n. (1 ≤ n) × (n ≤ last_run))) → Fits true (junit_with before own run')
+junit_fits : (before own : List Row) (run' : Option (Option ℕ)) → IfSome run' (λ o. IfSome o (λ n. (1 ≤ n) × (n ≤ greatest_run_number))) → Fits true (junit_or_error before own run')
 junit_fits before own None range = tt
 junit_fits before own (Some run') range = range
 
@@ -86,7 +86,7 @@ in_fits before None = refl
 in_fits before (Some p) =
     named_fits (bytes_eq p.0 (codes "list")) (bytes_eq p.0 (codes "test")) (bytes_eq p.0 (codes "debug")) (bytes_eq p.0 (codes "report")) (bytes_eq p.0 (codes "report-junit"))
     (options_in before p.1) (results_path p.1) (report_in before p.1) (junit_in before p.1)
-    (report_fits before p.1 (kinds_of (first_of (codes "kinds") p.1)) _ (run_in_range (first_of (codes "run") p.1))) (junit_fits before p.1 _ (run_in_range (first_of (codes "run") p.1)))
+    (report_fits before p.1 (kinds_option (first_of (codes "kinds") p.1)) _ (run_in_range (first_of (codes "run") p.1))) (junit_fits before p.1 _ (run_in_range (first_of (codes "run") p.1)))
 
 both_true : (a b : Bool) → a ≡ true → b ≡ true → (a && b) ≡ false → ⊥
 both_true a b p q r = cc
@@ -99,7 +99,7 @@ no_usage before words message some is =
     (subst (Fits _) is (in_fits before (subcommand_of kyua_app words)))
 
 -- The run number of each result is in its range.
-pub number_in_range : (words : List Text) (r : Result Command CommandFault) → Reads words r → IfOk r HasRunNumber
+pub number_in_range : (words : List Text) (r : Result Command CommandFault) → Reads words r → IfOk r HasValidRun
 number_in_range words (Err f) s = tt
 number_in_range words (Ok c) s = subst (Fits _) (sym s.1) (in_fits (matches_of kyua_app words) (subcommand_of kyua_app words))
 
@@ -127,7 +127,7 @@ reads_found words before o (Err (fault.Usage message)) e d some none a =
     absurd (no_usage before words message (ap is_some (sym d) ∙ some) (ap (command_in before) (sym d) ∙ a))
 
 -- An error that is right for a failed allocation is right for any other error.
-pub refused_for : (short : Type 0) (f : CommandFault) → RefusesArgs short f → RefusesArgs ⊥ f
+pub refused_for : (short : Type 0) (f : CommandFault) → IsArgsFault short f → IsArgsFault ⊥ f
 refused_for short fault.BadKind r = r
 refused_for short fault.BadRun r = r
 refused_for short (fault.NoMemory shortage) r = tt

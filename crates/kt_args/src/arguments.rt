@@ -7,21 +7,23 @@ use kt_base::NoMemory;
 use std::alloc::Global;
 
 /// The default path of the Kyuafile (`-k`).
-pub const KYUAFILE: &str = "Kyuafile";
+pub const DEFAULT_KYUAFILE: &str = "Kyuafile";
 
-/// The default directory for work directories (`--work`, this profile).
-pub const WORK: &str = "/tmp";
+/// The default path of the directory in which work directories are created (`--work`, this
+/// profile).
+pub const DEFAULT_WORK_DIR: &str = "/tmp";
 
 /// The default path of the results file (`-r`, this profile).
-pub const RESULTS: &str = "kyua.db";
+pub const DEFAULT_RESULTS_FILE: &str = "kyua.db";
 
-/// The last line of each command's help.
+/// The text at the end of the help of each command.
 const OPTIONS_HINT: &str =
     "The options -c FILE and -v NAME=VALUE stand before the command; see 'kyua --help'.";
 
-/// Creates the option `--LONG VALUE`, where `long` is `LONG` and `value` is `VALUE`.
+/// Creates an option such as `--work DIR`. `long` is the name of the option without `--`, and
+/// `value` is the name of its value in the help.
 ///
-/// Its value is stored under the name `id`.
+/// `clap` stores the value of the option under the name `id`.
 fn option_arg<'a>(alloc: Global, id: &'a str, long: &'a str, value: &'a str) -> Arg<'a>
     ensures rule { rule_of result ≡ option_rule id.entry.now long.entry.now }
     ensures own { result.global ≡ false }
@@ -60,7 +62,7 @@ fn kyuafile_arg<'a>(alloc: Global) -> Arg<'a>
 {
     option_arg(alloc, "kyuafile", "kyuafile", "FILE")
         .short('k')
-        .default_value(KYUAFILE)
+        .default_value(DEFAULT_KYUAFILE)
         .help("The Kyuafile to read")
 }
 
@@ -70,7 +72,7 @@ fn work_arg<'a>(alloc: Global) -> Arg<'a>
     ensures own { result.global ≡ false }
 {
     option_arg(alloc, "work", "work", "DIR")
-        .default_value(WORK)
+        .default_value(DEFAULT_WORK_DIR)
         .help("The absolute path of a directory to make work directories in")
 }
 
@@ -81,7 +83,7 @@ fn results_arg<'a>(alloc: Global) -> Arg<'a>
 {
     option_arg(alloc, "results", "results-file", "FILE")
         .short('r')
-        .default_value(RESULTS)
+        .default_value(DEFAULT_RESULTS_FILE)
         .help("The file of the results")
 }
 
@@ -140,10 +142,10 @@ fn verbose_arg<'a>(alloc: Global) -> Arg<'a>
         .help("Shows the properties of each case beneath its line, defaults included")
 }
 
-/// A command line of `clap` that is being built, or the error of a failed allocation.
+/// A command line that is being declared to `clap`, or the error of a failed allocation.
 type ClapCommand<'a> = Result<clap::Command<'a>, NoMemory>;
 
-/// Returns the values of `first` and `second`, or the error of the first of them that failed.
+/// Returns the values of `first` and `second`, or the error of the first of them that is an error.
 fn both<A: Drop, B: Drop>(
     first: Result<A, NoMemory>,
     second: Result<B, NoMemory>,
@@ -153,7 +155,8 @@ fn both<A: Drop, B: Drop>(
     Ok((first?, second?))
 }
 
-/// Returns `line` with the option `option`, or the error of a failed allocation.
+/// Returns the command line `line` with the option `option` added, or the error of a failed
+/// allocation.
 ///
 /// The option must not be global: a global option is valid in each command.
 fn with_option<'a>(line: ClapCommand<'a>, option: Arg<'a>) -> ClapCommand<'a>
@@ -167,13 +170,15 @@ fn with_option<'a>(line: ClapCommand<'a>, option: Arg<'a>) -> ClapCommand<'a>
     Ok(line.arg(option)?)
 }
 
-/// Returns `line` with the command `command`, or the error of a failed allocation.
+/// Returns the command line `line` with the command `command` added, or the error of a failed
+/// allocation.
 ///
 /// The options of the command must not be global.
 fn with_command<'a>(line: ClapCommand<'a>, command: ClapCommand<'a>) -> ClapCommand<'a>
     requires { IfOk command (λ c. (fields_of c).has_globals ≡ false) }
     ensures app { (app : App) → (sub : App) → IfOk command.entry (λ c. app_of c ≡ sub)
-        → IfOk line.entry (λ c. app_of c ≡ app) → IfOk result (λ c. app_of c ≡ with_subcommand app sub.top) }
+        → IfOk line.entry (λ c. app_of c ≡ app)
+        → IfOk result (λ c. app_of c ≡ with_subcommand app sub.top) }
     ensures own { IfOk line.entry (λ c. (fields_of c).has_globals ≡ false)
         → IfOk result (λ c. (fields_of c).has_globals ≡ false) }
 {
@@ -181,9 +186,9 @@ fn with_command<'a>(line: ClapCommand<'a>, command: ClapCommand<'a>) -> ClapComm
     Ok(line.subcommand(command)?)
 }
 
-/// Creates the command `name` with the description `about` and without options.
+/// Creates the command `name`, with the description `about` in the help and without options.
 ///
-/// Its help ends with a line about the options before the command.
+/// The help of the command ends with a line about the options before the command.
 fn new_command<'a>(alloc: Global, name: &'a str, about: &'a str) -> ClapCommand<'a>
     ensures app { IfOk result (λ c. app_of c ≡ new_app name.entry.now) }
     ensures own { IfOk result (λ c. (fields_of c).has_globals ≡ false) }
@@ -270,9 +275,10 @@ fn junit_command<'a>(alloc: Global) -> ClapCommand<'a>
     with_option(line, run_arg(alloc))
 }
 
-/// Creates the command line of `kyua`, still without options and commands.
+/// Creates the command line of `kyua`, without options and commands.
 ///
-/// Its arguments don't include the program's own name, and a command is required.
+/// The parser requires a command. The arguments that it parses don't include the program's own
+/// name.
 fn bare_command<'a>(alloc: Global) -> ClapCommand<'a>
     ensures app { IfOk result (λ c. app_of c ≡ bare_app) }
     ensures own { IfOk result (λ c. (fields_of c).has_globals ≡ false) }
@@ -289,7 +295,7 @@ fn bare_command<'a>(alloc: Global) -> ClapCommand<'a>
 
 /// Creates the whole command line of kyua(1), with all options and commands.
 ///
-/// Its arguments don't include the program's own name.
+/// The arguments that it parses don't include the program's own name.
 ///
 /// # Errors
 ///

@@ -1,7 +1,7 @@
 use crate::{CaseOptions, ReportOptions};
 use kt_base::{Items, Kind, Text};
 
-/// A command of kyua(1), with the values of its options.
+/// A command of kyua(1), with the values of its options and arguments.
 pub enum Command {
     /// `list`: lists test cases.
     List(CaseOptions),
@@ -18,7 +18,7 @@ pub enum Command {
     Report {
         /// The options that `report` shares with `report-junit`.
         options: ReportOptions,
-        /// The result kinds whose cases are listed (`--results-filter`).
+        /// The kinds of verdicts whose cases are printed (`--results-filter`).
         kinds: Items<Kind>,
         /// `true` if the properties of each case follow its line (`--verbose`).
         verbose: bool,
@@ -49,7 +49,26 @@ impl Drop for Command {
 
 impl Command {
     ghost use Rattle.std.specs.Prelude.{◌≡◌};
-    ghost use Rattle.kt_args.specs.Common.{option_copied, results_of};
+    ghost use Rattle.kt_args.specs.Common.{adds_run, cases_of, option_copied, results_of};
+
+    /// Returns the options of `list`, `test` or `debug`, or `None` for a report.
+    pub fn cases(&self) -> Option<&CaseOptions>
+        ensures { option_copied result ≡ cases_of self.now }
+    {
+        match self {
+            Command::List(options) | Command::Test { options, .. } | Command::Debug(options) => {
+                Some(options)
+            }
+            Command::Report { .. } | Command::ReportJunit(_) => None,
+        }
+    }
+
+    /// Returns `true` if the command adds a run to its results file: `test`.
+    pub fn adds_run(&self) -> bool
+        ensures { result ≡ adds_run self.now }
+    {
+        matches!(self, Command::Test { .. })
+    }
 
     /// Returns the path of the results file that the command reads or writes.
     ///

@@ -1,8 +1,8 @@
 ghost use Rattle.std.specs.Prelude.{◌≡◌, chars};
 ghost use Rattle.clap.specs.Words.{kind_of};
 ghost use Rattle.clap.specs.declared.error.kind.ErrorKind.TheVariants.{OutOfMemory};
-ghost use Rattle.kt_args.specs.FaultWords.{new_command};
-ghost use Rattle.kt_args.specs.Reading.{RefusesArgs};
+ghost use Rattle.kt_args.specs.FaultMessages.{command_message};
+ghost use Rattle.kt_args.specs.Reading.{IsArgsFault};
 ghost use Rattle.kt_args.specs.declared.command_fault.CommandFault.TheVariants as fault;
 
 use clap::error::ErrorKind;
@@ -10,9 +10,9 @@ use kt_base::{NoMemory, OUT_OF_MEMORY, Text};
 use std::alloc::Global;
 use thiserror::Error;
 
-/// An allocation that failed while arguments were parsed.
+/// A failed allocation of the parser of arguments.
 ///
-/// Only a failed allocation, here or in `clap`, creates this value.
+/// Only a failed allocation, in this crate or in `clap`, creates this value.
 #[derive(Clone, Copy, Debug)]
 pub struct ParserOutOfMemory {
     refusal: RefusedAllocation,
@@ -24,7 +24,7 @@ struct RefusedAllocation;
 
 /// Errors returned by [`read_command`](crate::read_command) and [`read_words`](crate::read_words).
 #[derive(Debug, Drop, Error)]
-#[error("{}", self.words())]
+#[error("{}", self.message())]
 pub enum CommandFault {
     /// An allocation failed.
     NoMemory(ParserOutOfMemory),
@@ -32,7 +32,7 @@ pub enum CommandFault {
     ///
     /// The text is `clap`'s message or help.
     Usage(Text),
-    /// An element of a results filter is not `passed`, `skipped`, `xfail`, `broken` or `failed`.
+    /// An element of the results filter is not `passed`, `skipped`, `xfail`, `broken` or `failed`.
     BadKind,
     /// The run number is not a decimal number from 1 to 1,000,000.
     BadRun,
@@ -53,8 +53,8 @@ impl CommandFault {
     ///
     /// The message of `Usage` is the message or the help of `clap`.
     #[tactic(auto, unfolding(crate::proofs::Common::chars))]
-    pub fn words(&self) -> &str
-        ensures { chars result.now ≡ new_command self.now }
+    pub fn message(&self) -> &str
+        ensures { chars result.now ≡ command_message self.now }
     {
         match self {
             CommandFault::NoMemory(_) => OUT_OF_MEMORY,
@@ -64,12 +64,12 @@ impl CommandFault {
         }
     }
 
-    /// Converts the error `error` of `clap` to `Usage` with its message.
+    /// Converts `error`, an error of `clap`, to `Usage` with the message of `clap`.
     ///
     /// Returns `NoMemory` if `error` is a failed allocation, or if an allocation for the message
     /// fails.
     pub(crate) fn from_clap(alloc: Global, error: clap::Error) -> CommandFault
-        ensures { RefusesArgs (kind_of error ≡ OutOfMemory) result }
+        ensures { IsArgsFault (kind_of error ≡ OutOfMemory) result }
     {
         if error.kind() == ErrorKind::OutOfMemory {
             return CommandFault::NoMemory(ParserOutOfMemory {

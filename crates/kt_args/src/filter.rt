@@ -1,12 +1,12 @@
 ghost use Rattle.std.specs.Prelude.{◌≡◌, map, IfOk};
-ghost use Rattle.kt_args.specs.Common.{ReadsKinds, comma_elements, default_kinds, kind_of_element, kinds_of_elements};
+ghost use Rattle.kt_args.specs.Common.{ParsesKinds, comma_elements, default_kinds, kind_of_element, kinds_of_elements};
 
 use crate::CommandFault;
 use kt_base::{Items, Kind, NoMemory, named_bytes};
 use std::alloc::Global;
 
-/// The result kinds by their names in `--results-filter`.
-const KINDS: [(&str, Kind); 5] = [
+/// The names of the kinds of verdicts in the value of `--results-filter`.
+const KIND_NAMES: [(&str, Kind); 5] = [
     ("passed", Kind::Passed),
     ("skipped", Kind::Skipped),
     ("xfail", Kind::ExpectedFailure),
@@ -14,16 +14,16 @@ const KINDS: [(&str, Kind); 5] = [
     ("failed", Kind::Failed),
 ];
 
-/// Returns the result kind that `word` names, or `None` if it is not a kind's name.
+/// Returns the kind of verdict that `word` names, or `None` if it does not name a kind.
 ///
 /// `word` is an element of the value of `--results-filter`.
 fn kind_of(word: &[u8]) -> Option<Kind>
     ensures { result ≡ kind_of_element word.now }
 {
-    named_bytes(word, &KINDS)
+    named_bytes(word, &KIND_NAMES)
 }
 
-/// Splits `words` at each comma and returns the elements.
+/// Splits the results filter `words` at each comma and returns the elements.
 fn elements(alloc: Global, words: &[u8]) -> Result<Vec<&[u8]>, NoMemory>
     ensures { IfOk result (λ elements.
         map (λ element. element.now) elements.items ≡ comma_elements words.now) }
@@ -31,16 +31,16 @@ fn elements(alloc: Global, words: &[u8]) -> Result<Vec<&[u8]>, NoMemory>
     Ok(words.split(|c| *c == b',').collect(alloc)?)
 }
 
-/// Parses `words` as a results filter: one or more result kinds, separated by commas.
+/// Parses `words` as a results filter: one or more kinds of verdicts, separated by commas.
 ///
-/// Returns the kinds in their order. A kind may be given several times.
+/// Returns the kinds in the order of the filter. A kind may be given several times.
 ///
 /// # Errors
 ///
 /// - `BadKind`: an element does not name a kind. An empty filter has one empty element.
 /// - `NoMemory`: an allocation fails.
 pub fn parse_kinds(alloc: Global, words: &[u8]) -> Result<Items<Kind>, CommandFault>
-    ensures { ReadsKinds (kinds_of_elements (comma_elements words.now)) result }
+    ensures { ParsesKinds (kinds_of_elements (comma_elements words.now)) result }
 {
     let elements = elements(alloc, words)?;
     let mut kinds = Items::new(alloc);
@@ -53,7 +53,7 @@ pub fn parse_kinds(alloc: Global, words: &[u8]) -> Result<Items<Kind>, CommandFa
     Ok(kinds)
 }
 
-/// Returns the result kinds that `report` shows without a filter: all but `Passed`.
+/// Returns the kinds of verdicts that `report` prints without a filter: all but `Passed`.
 ///
 /// # Errors
 ///

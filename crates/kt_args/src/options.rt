@@ -1,16 +1,17 @@
 use kt_base::{Items, Text};
 
-/// The values of the options and arguments of `list`, `test` or `debug` (kyua(1)).
+/// The values of the options and arguments that `list`, `test` and `debug` share (kyua(1)).
 pub struct CaseOptions {
     /// The path of the configuration file (`-c`), if it is given.
     pub config: Option<Text>,
     /// The arguments `NAME=VALUE` of `-v`, in order.
     pub variables: Items<Text>,
-    /// The path of the Kyuafile (`-k`). Its directory is the root of the tree.
+    /// The path of the Kyuafile (`-k`). The directory of this file is the root of the tree.
     pub kyuafile: Text,
     /// The path of the directory in which the runner creates its work directories (`--work`).
     pub work: Text,
-    /// The arguments `FILTER`, or the argument `PROGRAM:CASE` of `debug`, in order and not parsed.
+    /// The arguments `FILTER` in order, or the argument `PROGRAM:CASE` of `debug`. They are not
+    /// parsed.
     pub filters: Items<Text>,
 }
 

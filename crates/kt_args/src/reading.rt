@@ -1,9 +1,9 @@
 ghost use Rattle.std.specs.Prelude.{◌≡◌, drop, map, chars, codes, option_map, IfOk, IfErr, IsErrAnd};
-ghost use Rattle.kt_args.specs.Common.{string_bytes, into_iter_items, all_of, first_of, found_of, rows_of, subcommand_rows_of, error_kind, OutOfMemory, HasRunNumber, Reads, RefusesArgs, command_in, command_named, is_true, junit_in, kinds_of, options_in, report_in, report_options, results_path, run_of, option_text, text_or, option_texts, Answers, ReadsRun, ReadsKinds};
+ghost use Rattle.kt_args.specs.Common.{string_bytes, into_iter_items, all_of, first_of, found_of, rows_of, subcommand_rows_of, error_kind, OutOfMemory, HasValidRun, Reads, IsArgsFault, command_in, command_named, is_true, junit_in, kinds_option, options_in, report_in, report_options, results_path, run_option, option_text, option_text_or_default, option_texts, Answers, ParsesRun, ParsesKinds};
 
-use crate::arguments::{KYUAFILE, RESULTS, WORK, kyua_command};
+use crate::arguments::{DEFAULT_KYUAFILE, DEFAULT_RESULTS_FILE, DEFAULT_WORK_DIR, kyua_command};
 use crate::filter::{default_kinds, parse_kinds};
-use crate::numbers::run_number;
+use crate::numbers::parse_run_number;
 use crate::{CaseOptions, Command, CommandFault, ReportOptions};
 use clap::ArgMatches;
 use clap::error::ErrorKind;
@@ -15,43 +15,47 @@ use std::io;
 /// The message for arguments that are not UTF-8, as `clap` prints it.
 const INVALID_UTF8: &str = "invalid UTF-8 was detected in one or more arguments";
 
-/// Returns the first value that `clap` found for the option `name`, or `None` if it found none.
-fn first_option_value<'a>(matches: &ArgMatches<'a>, name: &str) -> Option<&'a str>
-    ensures { option_map (λ word. word.now) result ≡ first_of name.now (rows_of (found_of matches.now)) }
+/// Returns the first value of the option `name` in `matches`, the values that `clap` found. Returns
+/// `None` if the option has no value.
+fn option_value<'a>(matches: &ArgMatches<'a>, name: &str) -> Option<&'a str>
+    ensures { option_map (λ word. word.now) result
+        ≡ first_of name.now (rows_of (found_of matches.now)) }
 {
     matches.get_str(name)
 }
 
-/// Returns the values that `clap` found for the option or argument `name`.
+/// Returns all values of the option or argument `name` in `matches`, in order.
 ///
-/// Returns `None` if it found none.
-fn all_values<'b, 'a>(matches: &'b ArgMatches<'a>, name: &str) -> Option<&'b [&'a str]>
+/// Returns `None` if the option or argument has no value.
+fn option_values<'b, 'a>(matches: &'b ArgMatches<'a>, name: &str) -> Option<&'b [&'a str]>
     ensures { option_map (λ words. map (λ word. word.now) words.now) result
         ≡ all_of name.now (rows_of (found_of matches.now)) }
 {
     matches.get_strs(name)
 }
 
-/// Returns a copy of the value of the option `name`, or of `instead` if the option has no value.
+/// Returns a copy of the first value of the option `name` in `matches`, or of the default `instead`
+/// if the option has no value.
 ///
-/// `instead` is the option's default, which `clap` prints in its help and fills in. That `clap`
-/// fills it in for each option is not proved, so this function applies the default too.
-fn text_or<'a>(
+/// `clap` prints the same default in its help and fills it in. That `clap` fills it in for each
+/// option is not proved, so this function applies the default too.
+fn option_text_or_default<'a>(
     alloc: Global,
     matches: &ArgMatches<'a>,
     name: &str,
     instead: &str,
 ) -> Result<Text, NoMemory>
     ensures { IfOk result (λ text.
-        text ≡ text_or instead.now name.now (rows_of (found_of matches.now))) }
+        text ≡ option_text_or_default instead.now name.now (rows_of (found_of matches.now))) }
 {
-    match first_option_value(matches, name) {
+    match option_value(matches, name) {
         None => Text::from_str(alloc, instead),
         Some(word) => Text::from_str(alloc, word),
     }
 }
 
-/// Returns a copy of the value that `clap` found for the option `name`, or `None` if it found none.
+/// Returns a copy of the first value of the option `name` in `matches`, or `None` if the option has
+/// no value.
 fn option_text<'a>(
     alloc: Global,
     matches: &ArgMatches<'a>,
@@ -59,13 +63,13 @@ fn option_text<'a>(
 ) -> Result<Option<Text>, NoMemory>
     ensures { IfOk result (λ text. text ≡ option_text name.now (rows_of (found_of matches.now))) }
 {
-    match first_option_value(matches, name) {
+    match option_value(matches, name) {
         None => Ok(None),
         Some(word) => Ok(Some(Text::from_str(alloc, word)?)),
     }
 }
 
-/// Copies the arguments `words` into texts, in order.
+/// Returns copies of the arguments `words`, in order.
 fn texts(alloc: Global, words: &[&str]) -> Result<Items<Text>, NoMemory>
     ensures { IfOk result (λ texts. texts ≡ map (λ word. chars word.now) words.now) }
 {
@@ -76,7 +80,7 @@ fn texts(alloc: Global, words: &[&str]) -> Result<Items<Text>, NoMemory>
     Ok(texts)
 }
 
-/// Returns copies of all values that `clap` found for the option or argument `name`, in order.
+/// Returns copies of all values of the option or argument `name` in `matches`, in order.
 fn option_texts<'a>(
     alloc: Global,
     matches: &ArgMatches<'a>,
@@ -84,34 +88,38 @@ fn option_texts<'a>(
 ) -> Result<Items<Text>, NoMemory>
     ensures { IfOk result (λ texts. texts ≡ option_texts name.now (rows_of (found_of matches.now))) }
 {
-    match all_values(matches, name) {
+    match option_values(matches, name) {
         None => Ok(Items::new(alloc)),
         Some(words) => texts(alloc, words),
     }
 }
 
-/// Parses the value of `--run` as a run number, or returns `None` if the option is not given.
+/// Parses the value of `--run` in `matches` as a run number. Returns `None` if the option is not
+/// given.
 ///
 /// Fails with `BadRun` if the value is not a run number.
-fn run_of<'a>(matches: &ArgMatches<'a>) -> Result<Option<u64>, CommandFault>
-    ensures { ReadsRun (run_of (first_of (codes "run") (rows_of (found_of matches.now)))) result }
+fn run_option<'a>(matches: &ArgMatches<'a>) -> Result<Option<u64>, CommandFault>
+    ensures { ParsesRun (run_option (first_of (codes "run") (rows_of (found_of matches.now))))
+        result }
 {
-    let Some(word) = first_option_value(matches, "run") else {
+    let Some(word) = option_value(matches, "run") else {
         return Ok(None);
     };
-    match run_number(word.as_bytes()) {
+    match parse_run_number(word.as_bytes()) {
         Some(number) => Ok(Some(number)),
         None => Err(CommandFault::BadRun),
     }
 }
 
-/// Parses the value of `--results-filter`, or returns the default kinds without the option.
+/// Parses the value of `--results-filter` in `matches` as kinds of verdicts. Returns the default
+/// kinds if the option is not given.
 ///
 /// Fails with `BadKind` if an element does not name a kind.
-fn kinds_of<'a>(alloc: Global, matches: &ArgMatches<'a>) -> Result<Items<Kind>, CommandFault>
-    ensures { ReadsKinds (kinds_of (first_of (codes "kinds") (rows_of (found_of matches.now)))) result }
+fn kinds_option<'a>(alloc: Global, matches: &ArgMatches<'a>) -> Result<Items<Kind>, CommandFault>
+    ensures { ParsesKinds (kinds_option (first_of (codes "kinds") (rows_of (found_of matches.now))))
+        result }
 {
-    match first_option_value(matches, "kinds") {
+    match option_value(matches, "kinds") {
         Some(words) => {
             let kinds = parse_kinds(alloc, words.as_bytes())?;
             Ok(kinds)
@@ -124,15 +132,16 @@ fn kinds_of<'a>(alloc: Global, matches: &ArgMatches<'a>) -> Result<Items<Kind>, 
 fn is_verbose<'a>(matches: &ArgMatches<'a>) -> bool
     ensures { result ≡ is_true (first_of (codes "verbose") (rows_of (found_of matches.now))) }
 {
-    match first_option_value(matches, "verbose") {
+    match option_value(matches, "verbose") {
         None => false,
         Some(word) => word == "true",
     }
 }
 
-/// Returns the values of the options of `list`, `test` or `debug`.
+/// Returns the values of the options and arguments that `list`, `test` and `debug` share.
 ///
-/// `before` has the options before the command (`-c` and `-v`), and `own` has the options after it.
+/// `before` has the values before the command's name (`-c` and `-v`). `own` has the values after
+/// this name.
 fn case_options<'a>(
     alloc: Global,
     before: &ArgMatches<'a>,
@@ -143,8 +152,8 @@ fn case_options<'a>(
 {
     let config = option_text(alloc, before, "config")?;
     let variables = option_texts(alloc, before, "variables")?;
-    let kyuafile = text_or(alloc, own, "kyuafile", KYUAFILE)?;
-    let work = text_or(alloc, own, "work", WORK)?;
+    let kyuafile = option_text_or_default(alloc, own, "kyuafile", DEFAULT_KYUAFILE)?;
+    let work = option_text_or_default(alloc, own, "work", DEFAULT_WORK_DIR)?;
     let filters = option_texts(alloc, own, "filters")?;
     Ok(CaseOptions {
         config,
@@ -155,16 +164,18 @@ fn case_options<'a>(
     })
 }
 
-/// Returns the path of the results file (`-r`), or the default path `kyua.db`.
+/// Returns the path of the results file (`-r`) in `own`, or the default path `kyua.db`.
 fn results_of<'a>(alloc: Global, own: &ArgMatches<'a>) -> Result<Text, NoMemory>
     ensures { IfOk result (λ text. text ≡ results_path (rows_of (found_of own.now))) }
 {
-    text_or(alloc, own, "results", RESULTS)
+    option_text_or_default(alloc, own, "results", DEFAULT_RESULTS_FILE)
 }
 
-/// Returns the values of the options of `report` or `report-junit`, with the run number `run`.
+/// Returns the values of the options of `report` or `report-junit`. `run` is the run number, if it
+/// is given.
 ///
-/// `before` has the options before the command (`-c` and `-v`), and `own` has the options after it.
+/// `before` has the values before the command's name (`-c` and `-v`). `own` has the values after
+/// this name.
 fn report_options<'a>(
     alloc: Global,
     before: &ArgMatches<'a>,
@@ -187,9 +198,10 @@ fn report_options<'a>(
 
 /// Returns the command `report` with the values of its options.
 ///
-/// `before` has the options before the command, and `own` has the options after it. A wrong results
-/// filter is reported before a wrong run number.
-fn read_report<'a>(
+/// `before` has the values before the command's name, and `own` has the values after this name.
+/// Fails with `BadKind` if the results filter is wrong, and otherwise with `BadRun` if the run
+/// number is wrong.
+fn parse_report_command<'a>(
     alloc: Global,
     before: &ArgMatches<'a>,
     own: &ArgMatches<'a>,
@@ -197,8 +209,8 @@ fn read_report<'a>(
     ensures { Answers (report_in (rows_of (found_of before.now)) (rows_of (found_of own.now)))
         result }
 {
-    let kinds = kinds_of(alloc, own)?;
-    let run = run_of(own)?;
+    let kinds = kinds_option(alloc, own)?;
+    let run = run_option(own)?;
     let options = report_options(alloc, before, own, run)?;
     Ok(Command::Report {
         options,
@@ -209,9 +221,9 @@ fn read_report<'a>(
 
 /// Returns the command `report-junit` with the values of its options.
 ///
-/// `before` has the options before the command, and `own` has the options after it. Fails with
-/// `BadRun` if the run number is wrong.
-fn read_junit<'a>(
+/// `before` has the values before the command's name, and `own` has the values after this name.
+/// Fails with `BadRun` if the run number is wrong.
+fn parse_junit_command<'a>(
     alloc: Global,
     before: &ArgMatches<'a>,
     own: &ArgMatches<'a>,
@@ -219,16 +231,17 @@ fn read_junit<'a>(
     ensures { Answers (junit_in (rows_of (found_of before.now)) (rows_of (found_of own.now)))
         result }
 {
-    let run = run_of(own)?;
+    let run = run_option(own)?;
     let options = report_options(alloc, before, own, run)?;
     Ok(Command::ReportJunit(options))
 }
 
-/// Returns the command `name` with the values of its options.
+/// Returns the command `name` with the values of its options and arguments.
 ///
-/// `before` has the options before the command, and `own` has the options after it. Fails with
-/// `Usage` and an empty text if `name` is not a command, but `clap` accepts no such name.
-fn read_named<'a>(
+/// `before` has the values before the command's name, and `own` has the values after this name.
+/// Fails with `BadKind` or `BadRun` if the value of an option is wrong. Fails with `Usage` and an
+/// empty text if `name` is not a command, but `clap` accepts no such name.
+fn parse_subcommand<'a>(
     alloc: Global,
     before: &ArgMatches<'a>,
     name: &str,
@@ -251,43 +264,44 @@ fn read_named<'a>(
         return Ok(Command::Debug(options));
     }
     if name == "report" {
-        return read_report(alloc, before, own);
+        return parse_report_command(alloc, before, own);
     }
     if name == "report-junit" {
-        return read_junit(alloc, before, own);
+        return parse_junit_command(alloc, before, own);
     }
     Err(CommandFault::Usage(Text::new(alloc)))
 }
 
-/// Returns the name of the command that `clap` found, with the values after this name.
+/// Returns the name of the command in `matches`, and the values of the options and arguments after
+/// this name.
 ///
-/// Returns `None` if `clap` found no command.
-fn found_subcommand<'b, 'a>(matches: &'b ArgMatches<'a>) -> Option<(&'a str, &'b ArgMatches<'a>)>
+/// Returns `None` if there is no command.
+fn get_subcommand<'b, 'a>(matches: &'b ArgMatches<'a>) -> Option<(&'a str, &'b ArgMatches<'a>)>
     ensures { option_map (λ entered. (entered.0.now, rows_of (found_of entered.1.now))) result
         ≡ subcommand_rows_of matches.now }
 {
     matches.subcommand()
 }
 
-/// Returns the command that `clap` found, with the values of its options.
+/// Returns the command in `matches`, with the values of its options and arguments.
 ///
-/// Fails with `Usage` and an empty text if `clap` found no command, but `clap` accepts no such
-/// command line.
-fn read_matches<'a>(alloc: Global, matches: &ArgMatches<'a>) -> Result<Command, CommandFault>
+/// Fails with `BadKind` or `BadRun` if the value of an option is wrong. Fails with `Usage` and an
+/// empty text if there is no command, but `clap` accepts no such command line.
+fn parse_matches<'a>(alloc: Global, matches: &ArgMatches<'a>) -> Result<Command, CommandFault>
     ensures { Answers (command_in (rows_of (found_of matches.now))
         (subcommand_rows_of matches.now)) result }
 {
-    match found_subcommand(matches) {
+    match get_subcommand(matches) {
         None => Err(CommandFault::Usage(Text::new(alloc))),
-        Some((name, own)) => read_named(alloc, matches, name, own),
+        Some((name, own)) => parse_subcommand(alloc, matches, name, own),
     }
 }
 
 /// Parses `words`, the arguments after the program's own name, as a command of kyua(1).
 ///
-/// Values are not interpreted here, not even empty ones: the command parses its variables, filters
-/// and paths when it runs. A missing option gets its default (this profile). A report without
-/// `--run` has no run number, because the last run is known only when the results file is open.
+/// The command parses its variables, filters and paths when it runs. They are not parsed here, and
+/// may be empty. A missing option gets its default (this profile). A report without `--run` has no
+/// run number, because the last run is known only when the results file is open.
 ///
 /// # Errors
 ///
@@ -300,18 +314,18 @@ fn read_matches<'a>(alloc: Global, matches: &ArgMatches<'a>) -> Result<Command, 
 /// - `NoMemory`: an allocation fails.
 pub fn read_command<'a>(alloc: Global, words: &'a [String]) -> Result<Command, CommandFault>
     ensures value { Reads (map (λ word. string_bytes word) words.entry.now) result }
-    ensures range { IfOk result HasRunNumber }
+    ensures range { IfOk result HasValidRun }
 {
     let line = kyua_command(alloc)?;
     match line.try_get_matches_from(words) {
-        Ok(matches) => read_matches(alloc, &matches),
+        Ok(matches) => parse_matches(alloc, &matches),
         Err(error) => Err(CommandFault::from_clap(alloc, error)),
     }
 }
 
 /// Creates the error for arguments that are not UTF-8: `Usage` with a message in `clap`'s form.
 fn utf8_error(alloc: Global) -> Result<CommandFault, NoMemory>
-    ensures { IfOk result (λ fault. RefusesArgs ⊥ fault) }
+    ensures { IfOk result (λ fault. IsArgsFault ⊥ fault) }
 {
     let mut command = kyua_command(alloc)?;
     let error = command.error(ErrorKind::ValueValidation, INVALID_UTF8)?;
@@ -320,7 +334,7 @@ fn utf8_error(alloc: Global) -> Result<CommandFault, NoMemory>
 
 /// Creates the error for arguments that are not UTF-8, or `NoMemory` if an allocation fails.
 fn utf8_or_memory_error(alloc: Global) -> CommandFault
-    ensures { RefusesArgs ⊥ result }
+    ensures { IsArgsFault ⊥ result }
 {
     match utf8_error(alloc) {
         Ok(fault) => fault,
@@ -328,14 +342,14 @@ fn utf8_or_memory_error(alloc: Global) -> CommandFault
     }
 }
 
-/// Converts `error`, the error of reading the arguments of the process, to a `CommandFault`.
+/// Converts `error`, an error of reading the arguments of the process, to a `CommandFault`.
 ///
-/// Returns `NoMemory` if `error` is a failed allocation, otherwise the error for arguments that are
-/// not UTF-8.
+/// Returns `NoMemory` if `error` is a failed allocation, or if an allocation here fails. Otherwise
+/// returns the error for arguments that are not UTF-8.
 fn args_error(alloc: Global, error: &io::Error) -> CommandFault
-    ensures { RefusesArgs (error_kind error.now ≡ OutOfMemory) result }
+    ensures { IsArgsFault (error_kind error.now ≡ OutOfMemory) result }
 {
-    match NoMemory::in_error(error) {
+    match NoMemory::from_io_error(error) {
         Some(refusal) => CommandFault::from(refusal),
         None => utf8_or_memory_error(alloc),
     }
@@ -347,6 +361,8 @@ fn args_error(alloc: Global, error: &io::Error) -> CommandFault
 ///
 /// # Errors
 ///
+/// `Usage` is checked first, then `BadKind`, then `BadRun`.
+///
 /// - `Usage`: an argument is not UTF-8, the arguments are not a command line of kyua(1), or
 ///   `--help` is given.
 /// - `BadKind`: an element of the results filter is not `passed`, `skipped`, `xfail`, `broken` or
@@ -357,14 +373,14 @@ pub fn read_words(alloc: Global, words: io::Result<Args>) -> Result<Command, Com
     ensures value { IfOk words (λ all.
         Reads (map (λ word. string_bytes word) (drop 1 (into_iter_items all))) result) }
     ensures refused { IfErr words (λ e.
-        IsErrAnd result (λ fault. RefusesArgs (error_kind e ≡ OutOfMemory) fault)) }
-    ensures range { IfOk result HasRunNumber }
+        IsErrAnd result (λ fault. IsArgsFault (error_kind e ≡ OutOfMemory) fault)) }
+    ensures range { IfOk result HasValidRun }
 {
     let words = match words {
         Ok(words) => words,
         Err(error) => return Err(args_error(alloc, &error)),
     };
-    let words = match collected(alloc, words) {
+    let words = match collect_args(alloc, words) {
         Ok(words) => words,
         Err(refusal) => return Err(CommandFault::from(refusal)),
     };
@@ -374,8 +390,8 @@ pub fn read_words(alloc: Global, words: io::Result<Args>) -> Result<Command, Com
     }
 }
 
-/// Collects the remaining arguments of the iterator `words` into a vector, in order.
-fn collected(alloc: Global, words: Args) -> Result<Vec<String>, NoMemory>
+/// Collects all arguments of the iterator `words` into a vector, in order.
+fn collect_args(alloc: Global, words: Args) -> Result<Vec<String>, NoMemory>
     ensures { IfOk result (λ all. all.items ≡ into_iter_items words) }
 {
     Ok(words.collect(alloc)?)

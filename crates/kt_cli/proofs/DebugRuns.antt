@@ -1,6 +1,6 @@
 -- The execution of a plan for `debug`: cases are run and printed one at a time.
 use Rattle.std.proofs.Common.{Option, Result, Ok, Err, take, ◌≡◌, ℕ, Bool, List, [], ◌∷◌, length, refl, sym, ◌∙◌, subst}
-use Rattle.kt_cli.proofs.Common.{Entry, Job, SinkFault, Totals, RunFault, NoMemory, SinkFailed, Gains, AreEntries, EndsAs, Trace, Prints, DebugEnds, debug_bytes, all_debug_bytes, Says}
+use Rattle.kt_cli.proofs.Common.{Entry, Job, SinkFault, Totals, RunFault, NoMemory, SinkFailed, PutsInOrder, AreEntries, EndsAs, Trace, Prints, DebugEnds, debug_bytes, all_debug_bytes, WritesNext}
 use Rattle.kt_sched.specs.RecordOrder.{recorded as record_order}
 use Rattle.kt_cli.proofs.Gainings.{all_entries}
 use Rattle.kt_cli.proofs.Saying.{says_both, says_nothing}
@@ -11,7 +11,7 @@ module _ {S : Type 0} (gives : S → Entry → Result (Unit {0}) SinkFault → S
   -- entries `es` were printed
   pub record Printed (es : List Entry) (s t : S) : Type 0 where
     pub same_out : name t ≡ name s
-    pub says : Says (held s) (failed s) (held t) (failed t) (all_debug_bytes es)
+    pub says : WritesNext (held s) (failed s) (held t) (failed t) (all_debug_bytes es)
 
   -- `Ended plan T es answer s t`: from printer `s` to `t`, the entries `es` were printed, and
   -- `plan` with the trace `T` ended with the result `answer`
@@ -19,7 +19,7 @@ module _ {S : Type 0} (gives : S → Entry → Result (Unit {0}) SinkFault → S
     pub printed : Printed es s t
     pub ends : DebugEnds plan T es answer
 
-  printed_all : (es : List Entry) (s t : S) → Gains gives es s t → Printed es s t
+  printed_all : (es : List Entry) (s t : S) → PutsInOrder gives es s t → Printed es s t
   printed_all [] s t g = subst (λ (u : S). Printed [] s u) (sym g) (record { same_out = refl; says = says_nothing (held s) (failed s) })
   printed_all (e ∷ es) s t g =
       let m = g.0 in
@@ -35,7 +35,7 @@ module _ {S : Type 0} (gives : S → Entry → Result (Unit {0}) SinkFault → S
     ends = (record { legal = e.legal; once = e.once; are = all_entries plan T (record_order plan 1 T) es (e.all ∙ sym e.once.all) a }, e.counts);
   }
   debug_ends plan T es (Err (NoMemory refusal)) s t a e =
-      record { printed = printed_all es s t (subst (λ (xs : List Entry). Gains gives xs s t) (sym e.entries) e.same); ends = (e.events, e.entries) }
+      record { printed = printed_all es s t (subst (λ (xs : List Entry). PutsInOrder gives xs s t) (sym e.entries) e.same); ends = (e.events, e.entries) }
   debug_ends plan T es (Err (SinkFailed fault)) s t a e =
       let never : ◌≡◌ {A = Result (Unit {0}) SinkFault} (Err fault) (Ok tt) = (each e.failed.mid t e.failed.refused (Err fault) e.failed.fails).1.0 in
       absurd cc

@@ -1,7 +1,7 @@
 -- The execution of a plan for `test`: entries are recorded and printed one at a time.
 use Rattle.std.proofs.Common.{Option, Result, Ok, Err, count_by, take, ◌==◌, ◌≤◌, ◌≡◌, ℕ, Bool, List, [], ◌∷◌, ◌++◌, length, refl, sym, ap, ◌∙◌, subst, append-nil}
 use Rattle.std.proofs.Math.Seq.{take-length}
-use Rattle.kt_cli.proofs.Common.{Entry, line_bytes, Job, SinkFault, Totals, RunFault, NoMemory, SinkFailed, Gains, AreEntries, recorded, EndsAs, Trace, StoreCall, Put, Says, Recorded, Recording, RecordEnds, CallsStore, puts, lines}
+use Rattle.kt_cli.proofs.Common.{Entry, line_bytes, Job, SinkFault, Totals, RunFault, NoMemory, SinkFailed, PutsInOrder, AreEntries, recorded, EndsAs, Trace, StoreCall, Put, WritesNext, Recorded, Recording, RecordEnds, CallsStore, puts, lines}
 use Rattle.kt_store.specs.declared.result_store.StoreSpec as keeping
 use Rattle.kt_cli.proofs.Saying.{says_both, says_nothing}
 use Rattle.kt_cli.proofs.StoreChains.{stored_none, stored_both, stored_as}
@@ -19,10 +19,10 @@ module _ {S R : Type 0} (keep : keeping.Ghosts R) (gives : S → Entry → Resul
     pub same_out : other t ≡ other s
     pub same_number : (state t).number ≡ (state s).number
     pub stored : CallsStore keep (puts (state s).number es ++ last) (state s).store (state t).store
-    pub says : Says (state s).held (state s).failed (state t).held (state t).failed (lines es)
+    pub says : WritesNext (state s).held (state s).failed (state t).held (state t).failed (lines es)
 
   -- a recorder that accepted the entries `es` has put and printed them
-  pub gains_all : (es : List Entry) (s t : S) → Gains gives es s t → Gained es [] s t
+  pub gains_all : (es : List Entry) (s t : S) → PutsInOrder gives es s t → Gained es [] s t
   gains_all [] s t g =
       subst (λ (u : S). Gained [] [] s u) (sym g) (record { same_store = refl; same_out = refl; same_number = refl; stored = stored_none keep (state s).store; says = says_nothing (state s).held (state s).failed })
   gains_all (e ∷ es) s t g =
@@ -54,7 +54,7 @@ module _ {S R : Type 0} (keep : keeping.Ghosts R) (gives : S → Entry → Resul
   }
   whole plan n T es (Err (NoMemory refusal)) s t a o e = record {
     last = [];
-    gained = gains_all es s t (subst (λ (xs : List Entry). Gains gives xs s t) (sym e.entries) e.same);
+    gained = gains_all es s t (subst (λ (xs : List Entry). PutsInOrder gives xs s t) (sym e.entries) e.same);
     ends = record { events = e.events; none = e.entries; taken = refl };
   }
   whole plan n T es (Err (SinkFailed fault)) s t a o e =
@@ -71,8 +71,8 @@ module _ {S R : Type 0} (keep : keeping.Ghosts R) (gives : S → Entry → Resul
           stored = stored_both keep (puts (state s).number es) (Put (state s).number f.refused (Err why) ∷ []) (state s).store (state f.mid).store (state t).store
               (stored_as keep (puts (state s).number es ++ []) (puts (state s).number es) (state s).store (state f.mid).store (append-nil (puts (state s).number es)) g.stored)
               (subst (λ (i : ℕ). CallsStore keep (Put i f.refused (Err why) ∷ []) (state f.mid).store (state t).store) g.same_number p.2.1.2);
-          says = subst (λ (b : Bool). Says (state s).held (state s).failed (state t).held b (lines es)) (sym p.2.2)
-              (subst (λ (o : Option (List ℕ)). Says (state s).held (state s).failed o (state f.mid).failed (lines es)) (sym p.2.3) g.says);
+          says = subst (λ (b : Bool). WritesNext (state s).held (state s).failed (state t).held b (lines es)) (sym p.2.2)
+              (subst (λ (o : Option (List ℕ)). WritesNext (state s).held (state s).failed o (state f.mid).failed (lines es)) (sym p.2.3) g.says);
         };
         ends = record { entry = f.refused; refusal = why; fault_is = p.2.1.1; one = refl; stopped = record { due = f.next; next = f.is_next; refused_is = f.refused_is; are = a; once = o; stopped = e.stopped } };
       }

@@ -1,13 +1,13 @@
 pub mod Common
 pub mod ChosenRuns
 pub mod DebugRuns
-pub mod FaultWords
+pub mod DriverTraces
+pub mod FailedCalls
+pub mod FaultMessages
 pub mod Gainings
-pub mod MemoryLaws
 pub mod NewRuns
 pub mod Numbered
 pub mod PlanRuns
-pub mod ProgramSearch
 pub mod Refusing
 pub mod Saying
 pub mod Sequencing

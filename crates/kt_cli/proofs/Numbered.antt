@@ -1,21 +1,9 @@
 -- Runs that are changed by index and by number: the number is the index plus 1.
-use Rattle.std.proofs.Common.{Some, true, slice_get, slice_set, ◌≡◌, ℕ, zero, suc, ◌+◌, List, [], ◌∷◌, ◌++◌, length, arith, refl, ap, ◌∙◌}
-use Rattle.kt_cli.proofs.Common.{nat_tests, Entry, Run, AreNumbered, insert_at, with_entry, finish, put_all, put_among}
-
--- inserting an entry into the run at an index is inserting it into the run with this number
-pub entry_placed : (n k number : ℕ) (runs : List Run) (r : Run) (e : Entry) → AreNumbered n runs → number ≡ n + k → slice_get runs k ≡ Some r → slice_set runs k (record r { entries = insert_at e r.entries }) ≡ with_entry number e runs
-entry_placed n k number [] r e h i there = absurd cc
-entry_placed n zero number (x ∷ runs) r e h i there = grind (arith, nat_tests, h.0)
-entry_placed n (suc k) number (x ∷ runs) r e h i there = grind (arith, nat_tests, h.0, entry_placed (suc n) k number runs r e h.1 (i ∙ omega arith) there)
-
--- finishing the run at an index is finishing the run with this number
-pub finish_placed : (n k number : ℕ) (runs : List Run) (r : Run) → AreNumbered n runs → number ≡ n + k → slice_get runs k ≡ Some r → slice_set runs k (record r { finished = true }) ≡ finish number runs
-finish_placed n k number [] r h i there = absurd cc
-finish_placed n zero number (x ∷ runs) r h i there = grind (arith, nat_tests, h.0)
-finish_placed n (suc k) number (x ∷ runs) r h i there = grind (arith, nat_tests, h.0, finish_placed (suc n) k number runs r h.1 (i ∙ omega arith) there)
+use Rattle.std.proofs.Common.{true, ◌≡◌, ℕ, suc, ◌+◌, List, [], ◌∷◌, ◌++◌, length, arith, refl, ap, ◌∙◌}
+use Rattle.kt_cli.proofs.Common.{nat_tests, Entry, Run, AreNumbered, insert_by_position, with_entry, finish, put_all, insert_all}
 
 -- putting an entry into the last run changes only the last run
-entry_last : (n : ℕ) (runs : List Run) (run : Run) (number : ℕ) (e : Entry) → AreNumbered n runs → run.number ≡ n + length runs → number ≡ n + length runs → with_entry number e (runs ++ run ∷ []) ≡ runs ++ (record run { entries = insert_at e run.entries }) ∷ []
+entry_last : (n : ℕ) (runs : List Run) (run : Run) (number : ℕ) (e : Entry) → AreNumbered n runs → run.number ≡ n + length runs → number ≡ n + length runs → with_entry number e (runs ++ run ∷ []) ≡ runs ++ (record run { entries = insert_by_position e run.entries }) ∷ []
 entry_last n [] run number e h r i = grind (arith, nat_tests)
 entry_last n (x ∷ runs) run number e h r i = grind (arith, nat_tests, h.0, entry_last (suc n) runs run number e h.1 (r ∙ omega arith) (i ∙ omega arith))
 
@@ -25,10 +13,10 @@ finish_last n [] run number h r i = grind (arith, nat_tests)
 finish_last n (x ∷ runs) run number h r i = grind (arith, nat_tests, h.0, finish_last (suc n) runs run number h.1 (r ∙ omega arith) (i ∙ omega arith))
 
 -- putting entries into the last run changes only the last run
-pub entries_last : (runs : List Run) (run : Run) (number : ℕ) (es : List Entry) → AreNumbered 1 runs → run.number ≡ 1 + length runs → number ≡ 1 + length runs → put_all number es (runs ++ run ∷ []) ≡ runs ++ (record run { entries = put_among run.entries es }) ∷ []
+pub entries_last : (runs : List Run) (run : Run) (number : ℕ) (es : List Entry) → AreNumbered 1 runs → run.number ≡ 1 + length runs → number ≡ 1 + length runs → put_all number es (runs ++ run ∷ []) ≡ runs ++ (record run { entries = insert_all run.entries es }) ∷ []
 entries_last runs run number [] h r i = refl
 entries_last runs run number (e ∷ es) h r i =
-    ap (λ (xs : List Run). put_all number es xs) (entry_last 1 runs run number e h r i) ∙ entries_last runs (record run { entries = insert_at e run.entries }) number es h r i
+    ap (λ (xs : List Run). put_all number es xs) (entry_last 1 runs run number e h r i) ∙ entries_last runs (record run { entries = insert_by_position e run.entries }) number es h r i
 
 -- putting entries with one more at the end is putting the entries, and then this one
 pub put_more : (number : ℕ) (es : List Entry) (e : Entry) (runs : List Run) → put_all number (es ++ e ∷ []) runs ≡ with_entry number e (put_all number es runs)

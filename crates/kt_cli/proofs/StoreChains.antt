@@ -1,25 +1,25 @@
 -- The effect of sequences of store calls.
 use Rattle.std.proofs.Common.{Ok, ◌≡◌, List, [], ◌∷◌, ◌++◌, refl, sym, subst}
-use Rattle.kt_cli.proofs.Common.{Run, StoreCall, Began, Put, Finished, Head, Outline, Outputs, Pairs, chain-append, SurvivesCrash, Serves, runs_after, crash_runs_after, changed, beside, Agree, CallsStore}
+use Rattle.kt_cli.proofs.Common.{Run, StoreCall, Began, Put, Finished, Head, Outline, Outputs, Pairs, chain-append, SurvivesCrash, Serves, runs_after, crash_runs_after, runs_after_calls, crash_runs_after_calls, Agree, CallsStore}
 use Rattle.kt_store.specs.declared.result_store.StoreSpec as keeping
 
 -- the runs after `xs` and then `ys` are those after `ys` on a store with the runs after `xs`
-pub changed-append : (xs ys : List StoreCall) (runs : List Run) → changed (xs ++ ys) runs ≡ changed ys (changed xs runs)
-changed-append [] ys runs = refl
-changed-append (x ∷ xs) ys runs = changed-append xs ys (runs_after x runs)
+pub runs_after_calls-append : (xs ys : List StoreCall) (runs : List Run) → runs_after_calls (xs ++ ys) runs ≡ runs_after_calls ys (runs_after_calls xs runs)
+runs_after_calls-append [] ys runs = refl
+runs_after_calls-append (x ∷ xs) ys runs = runs_after_calls-append xs ys (runs_after x runs)
 
 -- the crash outcomes after `xs` and then `ys` are those after `ys` on a store with the runs and the
 -- crash outcomes after `xs`
-pub beside-append : (xs ys : List StoreCall) (runs : List Run) (may : List (List Run)) → beside (xs ++ ys) runs may ≡ beside ys (changed xs runs) (beside xs runs may)
-beside-append [] ys runs may = refl
-beside-append (x ∷ xs) ys runs may = beside-append xs ys (runs_after x runs) (crash_runs_after x runs may)
+pub crash_runs_after_calls-append : (xs ys : List StoreCall) (runs : List Run) (may : List (List Run)) → crash_runs_after_calls (xs ++ ys) runs may ≡ crash_runs_after_calls ys (runs_after_calls xs runs) (crash_runs_after_calls xs runs may)
+crash_runs_after_calls-append [] ys runs may = refl
+crash_runs_after_calls-append (x ∷ xs) ys runs may = crash_runs_after_calls-append xs ys (runs_after x runs) (crash_runs_after x runs may)
 
-agree_both : (xs ys : List StoreCall) (runs : List Run) → Agree runs xs → Agree (changed xs runs) ys → Agree runs (xs ++ ys)
+agree_both : (xs ys : List StoreCall) (runs : List Run) → Agree runs xs → Agree (runs_after_calls xs runs) ys → Agree runs (xs ++ ys)
 agree_both [] ys runs a b = b
 agree_both (x ∷ xs) ys runs a b = (a.0, agree_both xs ys (runs_after x runs) a.1 b)
 
 -- if two sequences of calls agree with the runs, the second agrees with the runs after the first
-pub agree_later : (xs ys : List StoreCall) (runs : List Run) → Agree runs (xs ++ ys) → Agree (changed xs runs) ys
+pub agree_later : (xs ys : List StoreCall) (runs : List Run) → Agree runs (xs ++ ys) → Agree (runs_after_calls xs runs) ys
 agree_later [] ys runs a = a
 agree_later (x ∷ xs) ys runs a = agree_later xs ys (runs_after x runs) a.1
 
@@ -48,10 +48,10 @@ module _ {R : Type 0} (keep : keeping.Ghosts R) where
       record {
         answered = chain-append keep.answers xs ys a b d p.answered q.answered;
         kept = record {
-          stands = λ runs h. subst (λ (rs : List Run). keep.stands d rs) (sym (changed-append xs ys runs)) (y.stands (changed xs runs) (x.stands runs h));
-          earlier = λ runs h s. x.earlier runs h (y.earlier (changed xs runs) (x.stands runs h) s);
-          agree = λ runs h s. agree_both xs ys runs (x.agree runs h (y.earlier (changed xs runs) (x.stands runs h) s)) (y.agree (changed xs runs) (x.stands runs h) s);
-          crash = λ runs may h l. rw (changed-append xs ys runs, beside-append xs ys runs may) (y.crash (changed xs runs) (beside xs runs may) (x.stands runs h) (x.crash runs may h l));
+          stands = λ runs h. subst (λ (rs : List Run). keep.stands d rs) (sym (runs_after_calls-append xs ys runs)) (y.stands (runs_after_calls xs runs) (x.stands runs h));
+          earlier = λ runs h s. x.earlier runs h (y.earlier (runs_after_calls xs runs) (x.stands runs h) s);
+          agree = λ runs h s. agree_both xs ys runs (x.agree runs h (y.earlier (runs_after_calls xs runs) (x.stands runs h) s)) (y.agree (runs_after_calls xs runs) (x.stands runs h) s);
+          crash = λ runs may h l. rw (runs_after_calls-append xs ys runs, crash_runs_after_calls-append xs ys runs may) (y.crash (runs_after_calls xs runs) (crash_runs_after_calls xs runs may) (x.stands runs h) (x.crash runs may h l));
         };
       }
 

@@ -2,10 +2,10 @@
 use Rattle.std.proofs.Common.{Option, Result, Ok, Err, false, ◌≡◌, ℕ, List, [], ◌∷◌, ◌++◌, map, refl, ap, ap₂, ◌∙◌, sym, subst}
 use Rattle.kt_cli.proofs.Common.{Entry, Run, StoreFault, heading, without_outputs, DifferInOutputs, Reading, ReadsEntry, WritesStored, CallsStore}
 use Rattle.kt_report.proofs.Outlines.{same_heading}
-use Rattle.kt_report.specs.Details.{Filled, WritesOverDetails, none, more}
+use Rattle.kt_report.specs.Details.{ReadsDetails, WritesOverDetails, none, more}
 use Rattle.kt_report.specs.Layouts.{Layout}
-use Rattle.kt_report.specs.declared.report_stop.ReportStop.{ReportStop}
-use Rattle.kt_report.specs.declared.report_stop.ReportStop.TheVariants.{Details, Report}
+use Rattle.kt_report.specs.declared.write_report_error.WriteReportError.{WriteReportError}
+use Rattle.kt_report.specs.declared.write_report_error.WriteReportError.TheVariants.{Details, Report}
 use Rattle.kt_store.specs.declared.result_store.StoreSpec as keeping
 use Rattle.kt_cli.proofs.StoreChains.{stored_none, stored_both}
 use Rattle.std.proofs.lemmas.List.{map-append}
@@ -26,7 +26,7 @@ module _ {S R : Type 0} (keep : keeping.Ghosts R) (reading : Reading) (reads : S
     pub differ : map reading.without shown ≡ map reading.without due
     pub stored : CallsStore keep (map (reading.call (number s)) shown) (store s) (store t)
 
-  all_read : {s t : S} {due shown : List Entry} → Filled reads s due shown t → AllRead due shown s t
+  all_read : {s t : S} {due shown : List Entry} → ReadsDetails reads s due shown t → AllRead due shown s t
   all_read (none s) = record { same_store = refl; same_number = refl; differ = refl; stored = stored_none keep (store s) }
   all_read (more e full due shown s m t one rest) =
       let p = each s m e (Ok full) one in
@@ -45,7 +45,7 @@ module _ {S R : Type 0} (keep : keeping.Ghosts R) (reading : Reading) (reads : S
   differ_before read shown rest d = map-append reading.without shown rest ∙ ap (λ (es : List Entry). es ++ map reading.without rest) d ∙ sym (map-append reading.without read rest)
 
   -- a report over details that are read from a store makes the calls for them
-  pub report_stored : {E : Type 0} {layout : Layout} {due : List Entry} {s t : S} {was now : Option (List ℕ)} (answer : Result (Unit {0}) (ReportStop StoreFault E)) → WritesOverDetails reads layout due s was now t answer
+  pub report_stored : {E : Type 0} {layout : Layout} {due : List Entry} {s t : S} {was now : Option (List ℕ)} (answer : Result (Unit {0}) (WriteReportError StoreFault E)) → WritesOverDetails reads layout due s was now t answer
       → (name t ≡ name s) × WritesStored keep reading (number s) layout due (store s) (store t) was now answer
   report_stored (Ok done) w = let a = all_read w.ends.1 in (a.same_store, record { ends = (w.ends.0, a.differ, a.stored, w.ends.2) })
   report_stored {s = s} {t = t} (Err (Details fault)) w =

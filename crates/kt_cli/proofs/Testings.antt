@@ -1,15 +1,15 @@
 -- The execution of commands over a world and a store.
-use Rattle.std.proofs.Common.{Option, Some, Ok, Err, Bool, true, false, take, ◌==◌, if◌then◌else◌, ◌≡◌, ℕ, List, [], ◌∷◌, ◌++◌, refl, sym, ap, ◌∙◌, subst, ◌⊎◌, inl, inr}
-use Rattle.kt_cli.proofs.Common.{utf8, Kind, IsIdle, Job, StoreCall, Chain, Candidate, Command, ReportOptions, Entry, RunFault, NoMemory, SinkFailed, Totals, NoEvent, Trace, cases_of, needs_case, ExecutesDebug, all_debug_bytes, debug_exit, memory_line, run_line, CommandCalls, IsPrepared, OnlyListsCases, MakesNoCalls, Means, stopped, tested, debugged, reported, reported_junit, taken, MakesCallPrefix, selecting, preparing, EndsEarly, no_memory, cut, report_cut, text_cut, junit_cut, CommandResult, Says, Printed, WorldCall, leads_by, host_calls, TextOrUnread, JunitOrUnread, WritesReport, Reported, ReportedJunit, Scene, scene, World, launcher_of, Shows, ExecutesPlan, run_for, chain-append}
+use Rattle.std.proofs.Common.{Option, Some, Ok, Err, Bool, false, take, ◌==◌, if◌then◌else◌, ◌≡◌, ℕ, List, [], ◌∷◌, ◌++◌, refl, sym, ap, ◌∙◌, subst, inl, inr}
+use Rattle.kt_cli.proofs.Common.{utf8, Kind, IsIdle, Job, StoreCall, Chain, Candidate, Command, ReportOptions, Entry, RunFault, NoMemory, SinkFailed, Totals, Trace, cases_of, filter_rule_of, FilterRule, AnyFilters, OneCase, ExecutesDebug, all_debug_bytes, debug_exit, memory_line, run_line, CommandCalls, IsPrepared, OnlyCallsStore, OnlyListsCases, Means, stopped, tested, debugged, reported, reported_junit, taken, MakesCallPrefix, selecting, preparing, no_memory, CommandResult, WritesNext, Printed, WorldCall, WorldLeads, host_calls, WritesReport, ReportCompletes, JunitCompletes, CommandState, command_state, World, launcher_of, Emits, ExecutesPlan, run_for, chain-append}
 use Rattle.kt_base.specs.declared.child.Role.{Role}
 use Rattle.kt_metadata.specs.declared.host.Host.{Host}
-use Rattle.kt_suite.specs.Answers.{Answered}
+use Rattle.kt_suite.specs.Answers.{LeadsByCalls}
 use Rattle.kt_args.specs.declared.options.CaseOptions.{CaseOptions}
 use Rattle.kt_plan.specs.declared.cases.CommandSelection.{CommandSelection}
-use Rattle.kt_plan.specs.declared.stop.Stop.{Stop}
-use Rattle.kt_plan.specs.Selecting.{Selects, SelectsOrShort}
-use Rattle.kt_cli.specs.Inner.Meaning.{asked_only, ExecutesWithoutStore}
-use Rattle.kt_plan.specs.Planning.{Surveys, SurveysFirst, ArePlanned}
+use Rattle.kt_plan.specs.declared.selection_error.SelectionError.{SelectionError}
+use Rattle.kt_plan.specs.Selecting.{Selects, SelectsOrNoMemory}
+use Rattle.kt_cli.specs.Inner.Courses.{ExecutesWithoutStore, ExecutesWithoutWorld, world_calls_only, called_only}
+use Rattle.kt_plan.specs.Planning.{Surveys, IsSurveyPrefix, ArePlanned}
 use Rattle.kt_plan.proofs.LookLaws.{all_surveyed}
 use Rattle.kt_cli.specs.StopLines.{stop_line, stop_exit}
 use Rattle.kt_plan.specs.Reply.{Reply, Now}
@@ -20,14 +20,14 @@ use Rattle.kt_cli.proofs.Saying.{says_both}
 use Rattle.kt_cli.proofs.StoreChains.{stored_none, stored_as}
 
 -- `Printed` holds for an equal exit status
-pub printed_as : (was now : Option (List ℕ)) (f : Bool) (exit due : ℕ) (bytes : List ℕ) (own : ℕ) → Shows was now f bytes → due ≡ own → exit ≡ (if f then 2 else due) → Printed was now exit bytes own
+pub printed_as : (was now : Option (List ℕ)) (f : Bool) (exit due : ℕ) (bytes : List ℕ) (own : ℕ) → Emits was now f bytes → due ≡ own → exit ≡ (if f then 2 else due) → Printed was now exit bytes own
 printed_as was now f exit due bytes own s k e = record { failed = f; shows = s; exits = e ∙ ap (λ (x : ℕ). if f then 2 else x) k }
 
 module _ {W : Type 0} (w : World W) where
   -- `HasSelected c options old picked new`: the command `c` with `options` made the selection
   -- `picked`, and its calls led the world from `old` to `new`
   abbrev HasSelected : Command → CaseOptions → W → CommandSelection → W → Type 0
-  HasSelected c options old picked new = Answered (leads_by w.asks w.replies) old new (λ questions. SelectsOrShort (needs_case c) options questions (Ok picked))
+  HasSelected c options old picked new = LeadsByCalls (WorldLeads w.asks w.replies) old new (λ questions. SelectsOrNoMemory (filter_rule_of c) options questions (Ok picked))
 
   -- a world without running children has none after a call of its host
   pub idle_after : ((s t : W) (q : Reply) → w.replies s q t → (k : ℕ) (role : Role) → w.running t k role ≡ w.running s k role) → ((s t : W) (q : Reply) → w.replies s q t → (k : ℕ) → w.pending t k ≡ w.pending s k)
@@ -35,50 +35,50 @@ module _ {W : Type 0} (w : World W) where
   idle_after d e mid new m t j = record { runs = λ k role. d mid new m t k role ∙ j.runs k role; pends = λ k. e mid new m t k ∙ j.pends k }
 
   -- a command that started no case and made no store call meets `ExecutesWithoutStore` if its
-  -- output is that of `Means` or `EndsEarly`
-  asks_only : (c : Command) (old new : W) (was now : Option (List ℕ)) (exit : ℕ) (questions : List WorldCall) (bytes : List ℕ) (due : ℕ) → Chain (leads_by w.asks w.replies) old questions new
-      → (q : Printed was now exit bytes due) → Means (asked_only questions) c bytes due ⊎ EndsEarly (asked_only questions) q.failed c bytes due
+  -- output is that of `Means`
+  asks_only : (c : Command) (old new : W) (was now : Option (List ℕ)) (exit : ℕ) (questions : List WorldCall) (bytes : List ℕ) (due : ℕ) → Chain (WorldLeads w.asks w.replies) old questions new
+      → (q : Printed was now exit bytes due) → Means (world_calls_only questions) q.failed c bytes due
       → ExecutesWithoutStore w c old new was now exit
-  asks_only c old new was now exit questions bytes due p q m = record { seen = asked_only questions; course = record { begun = new; asked = p; ran = refl }; uncalled = refl; bytes = bytes; due = due; is = m; printed = q }
+  asks_only c old new was now exit questions bytes due p q m = record { seen = world_calls_only questions; course = record { begun = new; asked = p; ran = refl }; uncalled = refl; bytes = bytes; due = due; is = m; printed = q }
 
-  only_asked : (questions : List WorldCall) → OnlyListsCases (asked_only questions)
+  only_asked : (questions : List WorldCall) → OnlyListsCases (world_calls_only questions)
   only_asked questions = record { trace = refl; calls = refl }
 
   -- a command that a fault stopped meets `ExecutesWithoutStore`
-  pub stopped_only : (c : Command) (options : CaseOptions) (old new : W) (was now : Option (List ℕ)) (exit : ℕ) (fault : Stop) → cases_of c ≡ Some options
-      → Answered (leads_by w.asks w.replies) old new (λ questions. SelectsOrShort (needs_case c) options questions (Err fault))
+  pub stopped_only : (c : Command) (options : CaseOptions) (old new : W) (was now : Option (List ℕ)) (exit : ℕ) (fault : SelectionError) → cases_of c ≡ Some options
+      → LeadsByCalls (WorldLeads w.asks w.replies) old new (λ questions. SelectsOrNoMemory (filter_rule_of c) options questions (Err fault))
       → Printed was now exit (utf8 (stop_line fault)) (stop_exit fault) → ExecutesWithoutStore w c old new was now exit
   stopped_only c options old new was now exit fault e a p =
       asks_only c old new was now exit a.asked (utf8 (stop_line fault)) (stop_exit fault) a.chain p (elim a.holds [
-        | inl s ↦ inr (subst (λ (x : Stop). EndsEarly (asked_only a.asked) p.failed c (utf8 (stop_line x)) (stop_exit x)) (sym s.0.1) (no_memory c options e (selecting a.asked s.1) (only_asked a.asked)))
-        | inr s ↦ inl (stopped c options fault e s (only_asked a.asked))
+        | inl s ↦ subst (λ (x : SelectionError). Means (world_calls_only a.asked) p.failed c (utf8 (stop_line x)) (stop_exit x)) (sym s.0.1) (no_memory c options e (selecting a.asked s.1) (only_asked a.asked))
+        | inr s ↦ stopped c options fault e s (only_asked a.asked)
       ])
 
-  picked_is : (needed : Bool) (options : CaseOptions) (questions : List WorldCall) (picked : CommandSelection) → SelectsOrShort needed options questions (Ok picked) → Selects needed options questions (Ok picked)
-  picked_is needed options questions picked (inl s) = absurd s.0
-  picked_is needed options questions picked (inr s) = s
+  picked_is : (rule : FilterRule) (options : CaseOptions) (questions : List WorldCall) (picked : CommandSelection) → SelectsOrNoMemory rule options questions (Ok picked) → Selects rule options questions (Ok picked)
+  picked_is rule options questions picked (inl s) = absurd s.0
+  picked_is rule options questions picked (inr s) = s
 
   -- a command that only selected cases meets `ExecutesWithoutStore`
-  pub picked_only : (c : Command) (needed : Bool) (options : CaseOptions) (old new : W) (was now : Option (List ℕ)) (exit : ℕ) (picked : CommandSelection) (bytes : List ℕ) (due : ℕ)
-      → ((questions : List WorldCall) → Selects needed options questions (Ok picked) → OnlyListsCases (asked_only questions) → Means (asked_only questions) c bytes due)
-      → Answered (leads_by w.asks w.replies) old new (λ questions. SelectsOrShort needed options questions (Ok picked)) → Printed was now exit bytes due → ExecutesWithoutStore w c old new was now exit
-  picked_only c needed options old new was now exit picked bytes due means a p =
-      asks_only c old new was now exit a.asked bytes due a.chain p (inl (means a.asked (picked_is needed options a.asked picked a.holds) (only_asked a.asked)))
+  pub picked_only : (c : Command) (rule : FilterRule) (options : CaseOptions) (old new : W) (was now : Option (List ℕ)) (exit : ℕ) (picked : CommandSelection) (bytes : List ℕ) (due : ℕ)
+      → ((failed : Bool) (questions : List WorldCall) → Selects rule options questions (Ok picked) → OnlyListsCases (world_calls_only questions) → Means (world_calls_only questions) failed c bytes due)
+      → LeadsByCalls (WorldLeads w.asks w.replies) old new (λ questions. SelectsOrNoMemory rule options questions (Ok picked)) → Printed was now exit bytes due → ExecutesWithoutStore w c old new was now exit
+  picked_only c rule options old new was now exit picked bytes due means a p =
+      asks_only c old new was now exit a.asked bytes due a.chain p (means p.failed a.asked (picked_is rule options a.asked picked a.holds) (only_asked a.asked))
 
   -- the calls of a selection, followed by the first calls about its cases, are a prefix of the
   -- command's calls
-  prepared_first : (needed : Bool) (options : CaseOptions) (questions : List WorldCall) (answers : List Reply) (picked : CommandSelection) (cases : List Candidate) → SelectsOrShort needed options questions (Ok picked) → cases ≡ taken needed picked.chosen.cases
-      → SurveysFirst cases answers → MakesCallPrefix needed options (questions ++ host_calls answers)
-  prepared_first needed options questions answers picked cases a same s =
-      preparing questions picked answers (picked_is needed options questions picked a) (subst (λ (cs : List Candidate). SurveysFirst cs answers) same s)
+  prepared_first : (rule : FilterRule) (options : CaseOptions) (questions : List WorldCall) (answers : List Reply) (picked : CommandSelection) (cases : List Candidate) → SelectsOrNoMemory rule options questions (Ok picked) → cases ≡ taken rule picked.chosen.cases
+      → IsSurveyPrefix cases answers → MakesCallPrefix rule options (questions ++ host_calls answers)
+  prepared_first rule options questions answers picked cases a same s =
+      preparing questions picked answers (picked_is rule options questions picked a) (subst (λ (cs : List Candidate). IsSurveyPrefix cs answers) same s)
 
   -- a command whose allocation failed before the plan was made meets `ExecutesWithoutStore`
   pub short_only : (c : Command) (options : CaseOptions) (old mid new : W) (was now : Option (List ℕ)) (exit : ℕ) (picked : CommandSelection) (cases : List Candidate) → cases_of c ≡ Some options
-      → HasSelected c options old picked mid → cases ≡ taken (needs_case c) picked.chosen.cases → Answered w.replies mid new (λ answers. SurveysFirst cases answers)
+      → HasSelected c options old picked mid → cases ≡ taken (filter_rule_of c) picked.chosen.cases → LeadsByCalls w.replies mid new (λ answers. IsSurveyPrefix cases answers)
       → Printed was now exit (utf8 memory_line) 2 → ExecutesWithoutStore w c old new was now exit
   short_only c options old mid new was now exit picked cases e a same b p =
-      asks_only c old new was now exit (a.asked ++ host_calls b.asked) (utf8 memory_line) 2 (chain-append (leads_by w.asks w.replies) a.asked (host_calls b.asked) old mid new a.chain (chain_of_host w.asks w.replies b.asked mid new b.chain)) p
-      (inr (no_memory c options e (prepared_first (needs_case c) options a.asked b.asked picked cases a.holds same b.holds) (only_asked (a.asked ++ host_calls b.asked))))
+      asks_only c old new was now exit (a.asked ++ host_calls b.asked) (utf8 memory_line) 2 (chain-append (WorldLeads w.asks w.replies) a.asked (host_calls b.asked) old mid new a.chain (chain_of_host w.asks w.replies b.asked mid new b.chain)) p
+      (no_memory c options e (prepared_first (filter_rule_of c) options a.asked b.asked picked cases a.holds same b.holds) (only_asked (a.asked ++ host_calls b.asked)))
 
   -- `Prepares picked cases plan answers`: `plan` is that of `cases` of the selection `picked`, by
   -- the `answers` of the host about their requirements
@@ -86,59 +86,59 @@ module _ {W : Type 0} (w : World W) where
   Prepares picked cases plan answers = (host : Host) × Surveys cases answers host × ArePlanned picked.settings.config host 0 cases plan
 
   -- the calls for the selection, those for requirements and the last ones are together one sequence
-  asks_all : (before : List WorldCall) (answers last : List Reply) (old mid asked begun : W) → Chain (leads_by w.asks w.replies) old before mid
-      → Chain w.replies mid answers asked → Chain w.replies asked last begun → Chain (leads_by w.asks w.replies) old (before ++ (host_calls answers ++ host_calls last)) begun
+  asks_all : (before : List WorldCall) (answers last : List Reply) (old mid asked begun : W) → Chain (WorldLeads w.asks w.replies) old before mid
+      → Chain w.replies mid answers asked → Chain w.replies asked last begun → Chain (WorldLeads w.asks w.replies) old (before ++ (host_calls answers ++ host_calls last)) begun
   asks_all before answers last old mid asked begun p q r =
-      chain-append (leads_by w.asks w.replies) before (host_calls answers ++ host_calls last) old mid begun p
-      (chain-append (leads_by w.asks w.replies) (host_calls answers) (host_calls last) mid asked begun
+      chain-append (WorldLeads w.asks w.replies) before (host_calls answers ++ host_calls last) old mid begun p
+      (chain-append (WorldLeads w.asks w.replies) (host_calls answers) (host_calls last) mid asked begun
       (chain_of_host w.asks w.replies answers mid asked q) (chain_of_host w.asks w.replies last asked begun r))
 
-  prepared : (needed : Bool) (options : CaseOptions) (before : List WorldCall) (answers last : List Reply) (picked : CommandSelection) (cases : List Candidate)
-      (plan : List Job) (trace : Trace) (calls : List StoreCall) → SelectsOrShort needed options before (Ok picked) → Prepares picked cases plan answers
-      → IsPrepared needed options (record { questions = before ++ (host_calls answers ++ host_calls last); plan = plan; trace = trace; calls = calls }) picked cases last
-  prepared needed options before answers last picked cases plan trace calls s p =
-      record { before = before; selects = picked_is needed options before picked s; answers = answers; host = p.0; surveys = p.1; asked = refl; planned = p.2 }
+  prepared : (rule : FilterRule) (options : CaseOptions) (before : List WorldCall) (answers last : List Reply) (picked : CommandSelection) (cases : List Candidate)
+      (plan : List Job) (trace : Trace) (calls : List StoreCall) → SelectsOrNoMemory rule options before (Ok picked) → Prepares picked cases plan answers
+      → IsPrepared rule options (record { questions = before ++ (host_calls answers ++ host_calls last); plan = plan; trace = trace; calls = calls }) picked cases last
+  prepared rule options before answers last picked cases plan trace calls s p =
+      record { before = before; selects = picked_is rule options before picked s; answers = answers; host = p.0; surveys = p.1; asked = refl; planned = p.2 }
 
   -- a `debug` whose case ran meets `ExecutesWithoutStore`
   pub debug_only : (options : CaseOptions) (old mid begun new : W) (was now : Option (List ℕ)) (exit : ℕ) (picked : CommandSelection) (first : Candidate) (others cases some : List Candidate) (plan : List Job) (failed : Bool) (totals : Totals) (due : ℕ)
       → HasSelected (command.Debug options) options old picked mid → cases ≡ picked.chosen.cases → cases ≡ first ∷ others → some ≡ take 1 cases
-      → Answered w.replies mid begun (Prepares picked some plan)
+      → LeadsByCalls w.replies mid begun (Prepares picked some plan)
       → ExecutesDebug (launcher_of w) plan begun new was now failed (Ok totals) → due ≡ (if totals.bad == 0 then 0 else 1) → exit ≡ (if failed then 2 else due)
       → ExecutesWithoutStore w (command.Debug options) old new was now exit
   debug_only options old mid begun new was now exit picked first others cases some plan failed totals due a x n s b d k e =
-      let one : Answered w.replies mid begun (Prepares picked (first ∷ []) plan) = subst (λ (xs : List Candidate). Answered w.replies mid begun (Prepares picked xs plan)) (s ∙ ap (λ (xs : List Candidate). take 1 xs) n) b in
+      let one : LeadsByCalls w.replies mid begun (Prepares picked (first ∷ []) plan) = subst (λ (xs : List Candidate). LeadsByCalls w.replies mid begun (Prepares picked xs plan)) (s ∙ ap (λ (xs : List Candidate). take 1 xs) n) b in
       record {
         seen = record { questions = a.asked ++ (host_calls one.asked ++ []); plan = plan; trace = d.trace; calls = [] };
         course = record { begun = begun; asked = asks_all a.asked one.asked [] old mid begun begun a.chain one.chain refl; ran = d.leads };
         uncalled = refl;
         bytes = all_debug_bytes d.entries;
         due = debug_exit d.entries;
-        is = inl (debugged options picked first others d.entries (sym x ∙ n)
-            (prepared true options a.asked one.asked [] picked (first ∷ []) plan d.trace [] a.holds one.holds) d.ends.0 refl);
+        is = debugged options picked first others d.entries (sym x ∙ n)
+            (prepared OneCase options a.asked one.asked [] picked (first ∷ []) plan d.trace [] a.holds one.holds) d.ends.0 refl;
         printed = record { failed = failed; shows = d.says.more; exits = e ∙ ap (λ (y : ℕ). if failed then 2 else y) (k ∙ ap (λ (y : ℕ). if y == 0 then 0 else 1) d.ends.1.bad) };
       }
 
   -- a `debug` whose allocation failed before its case was started meets `ExecutesWithoutStore`
   pub debug_short : (options : CaseOptions) (old mid begun new : W) (was between now : Option (List ℕ)) (exit : ℕ) (picked : CommandSelection) (some : List Candidate) (plan : List Job) (f g : Bool) (fault : RunFault)
-      → Answered (leads_by w.asks w.replies) old mid (λ questions. SelectsOrShort true options questions (Ok picked))
-      → some ≡ take 1 picked.chosen.cases → Answered w.replies mid begun (Prepares picked some plan) → ExecutesDebug (launcher_of w) plan begun new was between f (Err fault) → Says between f now g (utf8 (run_line fault)) → exit ≡ (if g then 2 else 2)
+      → LeadsByCalls (WorldLeads w.asks w.replies) old mid (λ questions. SelectsOrNoMemory OneCase options questions (Ok picked))
+      → some ≡ take 1 picked.chosen.cases → LeadsByCalls w.replies mid begun (Prepares picked some plan) → ExecutesDebug (launcher_of w) plan begun new was between f (Err fault) → WritesNext between f now g (utf8 (run_line fault)) → exit ≡ (if g then 2 else 2)
       → ExecutesWithoutStore w (command.Debug options) old new was now exit
   debug_short options old mid begun new was between now exit picked some plan f g (SinkFailed why) a same b d s e = absurd d.ends
   debug_short options old mid begun new was between now exit picked some plan f g (NoMemory refusal) a same b d s e =
       let q = d.ends in
       record {
         seen = record { questions = a.asked ++ host_calls b.asked; plan = plan; trace = d.trace; calls = [] };
-        course = record { begun = begun; asked = chain-append (leads_by w.asks w.replies) a.asked (host_calls b.asked) old mid begun a.chain (chain_of_host w.asks w.replies b.asked mid begun b.chain); ran = d.leads };
+        course = record { begun = begun; asked = chain-append (WorldLeads w.asks w.replies) a.asked (host_calls b.asked) old mid begun a.chain (chain_of_host w.asks w.replies b.asked mid begun b.chain); ran = d.leads };
         uncalled = refl;
         bytes = utf8 memory_line;
         due = 2;
-        is = inr (no_memory (command.Debug options) options refl (prepared_first true options a.asked b.asked picked some a.holds same (all_surveyed some b.asked b.holds.0 b.holds.1)) (record { trace = q.0; calls = refl }));
-        printed = record { failed = g; shows = (says_both was between now false f g [] (utf8 memory_line) (subst (λ (es : List Entry). Says was false between f (all_debug_bytes es)) q.1 d.says) s).more; exits = e };
+        is = no_memory (command.Debug options) options refl (prepared_first OneCase options a.asked b.asked picked some a.holds same (all_surveyed some b.asked b.holds.0 b.holds.1)) (record { trace = q.0; calls = refl });
+        printed = record { failed = g; shows = (says_both was between now false f g [] (utf8 memory_line) (subst (λ (es : List Entry). WritesNext was false between f (all_debug_bytes es)) q.1 d.says) s).more; exits = e };
       }
 
   module _ {R : Type 0} (keep : keeping.Ghosts R) where
     -- a command that makes no store calls meets `CommandResult`
-    pub did_asked : (c : Command) (old new : W) (store : R) (was now : Option (List ℕ)) (exit : ℕ) → ExecutesWithoutStore w c old new was now exit → CommandResult w keep c (scene old store was) (scene new store now) exit
+    pub did_asked : (c : Command) (old new : W) (store : R) (was now : Option (List ℕ)) (exit : ℕ) → ExecutesWithoutStore w c old new was now exit → CommandResult w keep c (command_state old store was) (command_state new store now) exit
     did_asked c old new store was now exit t = record {
       seen = t.seen;
       course = t.course;
@@ -150,57 +150,56 @@ module _ {W : Type 0} (w : World W) where
     }
 
     -- a `test` whose plan was executed meets `CommandResult`
-    pub did_test : (old new : Scene W R) (options : CaseOptions) (file : List ℕ) (mid asked begun : W) (picked : CommandSelection) (cases : List Candidate) (plan : List Job) (moment exit : ℕ)
+    pub did_test : (old new : CommandState W R) (options : CaseOptions) (file : List ℕ) (mid asked begun : W) (picked : CommandSelection) (cases : List Candidate) (plan : List Job) (moment exit : ℕ)
         → HasSelected (command.Test options file) options old.world picked mid → cases ≡ picked.chosen.cases
-        → Answered w.replies mid asked (Prepares picked cases plan) → w.replies asked (Now moment) begun
-        → ExecutesPlan (launcher_of w) keep (run_for plan options picked moment) (scene begun old.store old.held) new exit → CommandResult w keep (command.Test options file) old new exit
+        → LeadsByCalls w.replies mid asked (Prepares picked cases plan) → w.replies asked (Now moment) begun
+        → ExecutesPlan (launcher_of w) keep (run_for plan options picked moment) (command_state begun old.store old.held) new exit → CommandResult w keep (command.Test options file) old new exit
     did_test old new options file mid asked begun picked cases plan moment exit a same parts t r =
-        let b : Answered w.replies mid asked (Prepares picked picked.chosen.cases plan) = subst (λ (xs : List Candidate). Answered w.replies mid asked (Prepares picked xs plan)) same parts in
+        let b : LeadsByCalls w.replies mid asked (Prepares picked picked.chosen.cases plan) = subst (λ (xs : List Candidate). LeadsByCalls w.replies mid asked (Prepares picked xs plan)) same parts in
         let seen : CommandCalls = record { questions = a.asked ++ (host_calls b.asked ++ host_calls (Now moment ∷ [])); plan = plan; trace = r.trace; calls = r.calls } in
-        let ready = prepared false options a.asked b.asked (Now moment ∷ []) picked picked.chosen.cases plan r.trace r.calls a.holds b.holds in
+        let ready = prepared AnyFilters options a.asked b.asked (Now moment ∷ []) picked picked.chosen.cases plan r.trace r.calls a.holds b.holds in
         record {
           seen = seen;
           course = record { begun = begun; asked = asks_all a.asked b.asked (Now moment ∷ []) old.world mid asked begun a.chain b.chain (begun, t, refl); ran = r.leads };
           stored = r.stored;
           bytes = r.bytes;
           due = r.due;
-          is = elim r.is [ inl x ↦ inl (tested options file picked moment r.bytes r.due ready x) | inr x ↦ inr (cut options file picked moment r.bytes r.due ready x) ];
+          is = tested options file picked moment r.bytes r.due ready r.is;
           printed = r.printed;
         }
 
-    -- `called_only calls`: the calls of a command that only calls the store
-    abbrev called_only : List StoreCall → CommandCalls
-    called_only calls = record { questions = []; plan = []; trace = NoEvent; calls = calls }
+    -- a command that calls only the store meets `CommandResult`
+    pub did_called : (c : Command) (world : W) (store after : R) (was now : Option (List ℕ)) (exit : ℕ) → ExecutesWithoutWorld keep c store after was now exit → CommandResult w keep c (command_state world store was) (command_state world after now) exit
+    did_called c world store after was now exit d = record {
+      seen = called_only d.calls;
+      course = record { begun = world; asked = refl; ran = refl };
+      stored = d.stored;
+      bytes = d.bytes;
+      due = d.due;
+      is = d.is;
+      printed = d.printed;
+    }
 
-    none_asked : {calls : List StoreCall} → MakesNoCalls (called_only calls)
-    none_asked = record { questions = refl; trace = refl }
+none_asked : {calls : List StoreCall} → OnlyCallsStore (called_only calls)
+none_asked = record { questions = refl; trace = refl }
 
-    module _ (c : Command) (world : W) (store after : R) (was now : Option (List ℕ)) (exit : ℕ) (options : ReportOptions) where
-      -- a report that meets `WritesReport` meets `CommandResult`
-      reports : {M : List StoreCall → List ℕ → ℕ → Type 0} {C : Bool → List StoreCall → List ℕ → ℕ → Type 0} (k : Command) → c ≡ k → (d : WritesReport keep store after was now exit M C)
-          → (M d.calls d.bytes d.due → Means (called_only d.calls) k d.bytes d.due) → (C d.printed.failed d.calls d.bytes d.due → EndsEarly (called_only d.calls) d.printed.failed k d.bytes d.due)
-          → CommandResult w keep c (scene world store was) (scene world after now) exit
-      reports k e d means short = subst (λ (x : Command). CommandResult w keep x (scene world store was) (scene world after now) exit) (sym e) (record {
-        seen = called_only d.calls;
-        course = record { begun = world; asked = refl; ran = refl };
-        stored = d.stored;
-        bytes = d.bytes;
-        due = d.due;
-        is = elim d.is [ inl x ↦ inl (means x) | inr x ↦ inr (short x) ];
-        printed = d.printed;
-      })
+module _ {R : Type 0} (keep : keeping.Ghosts R) (c : Command) (store after : R) (was now : Option (List ℕ)) (exit : ℕ) (options : ReportOptions) where
+  -- a report that meets `WritesReport` meets `ExecutesWithoutWorld`
+  reports : {M : Bool → List StoreCall → List ℕ → ℕ → Type 0} (k : Command) → c ≡ k → (d : WritesReport keep store after was now exit M)
+      → (M d.printed.failed d.calls d.bytes d.due → Means (called_only d.calls) d.printed.failed k d.bytes d.due) → ExecutesWithoutWorld keep c store after was now exit
+  reports k e d means = subst (λ (x : Command). ExecutesWithoutWorld keep x store after was now exit) (sym e) (record {
+    calls = d.calls;
+    stored = d.stored;
+    bytes = d.bytes;
+    due = d.due;
+    is = means d.is;
+    printed = d.printed;
+  })
 
-      text_or_unread : (kinds : List Kind) (verbose failed : Bool) (calls : List StoreCall) (bytes : List ℕ) (due : ℕ) → TextOrUnread options.run kinds verbose failed calls bytes due
-          → EndsEarly (called_only calls) failed (command.Report options kinds verbose) bytes due
-      text_or_unread kinds verbose failed calls bytes due (inl u) = report_cut options kinds verbose bytes due none_asked u
-      text_or_unread kinds true failed calls bytes due (inr u) = text_cut options kinds bytes due none_asked u.1
-      text_or_unread kinds false failed calls bytes due (inr u) = absurd (cc)
+  pub did_report : (kinds : List Kind) (verbose : Bool) → c ≡ command.Report options kinds verbose
+      → WritesReport keep store after was now exit (λ failed. ReportCompletes options.run kinds failed verbose) → ExecutesWithoutWorld keep c store after was now exit
+  did_report kinds verbose e d = reports (command.Report options kinds verbose) e d (reported options kinds verbose d.bytes d.due none_asked)
 
-      pub did_report : (kinds : List Kind) (verbose : Bool) → c ≡ command.Report options kinds verbose
-          → WritesReport keep store after was now exit (Reported options.run kinds verbose) (TextOrUnread options.run kinds verbose) → CommandResult w keep c (scene world store was) (scene world after now) exit
-      did_report kinds verbose e d =
-          reports (command.Report options kinds verbose) e d (reported options kinds verbose d.bytes d.due none_asked) (text_or_unread kinds verbose d.printed.failed d.calls d.bytes d.due)
-
-      pub did_junit : c ≡ command.ReportJunit options
-          → WritesReport keep store after was now exit (ReportedJunit options.run) (JunitOrUnread options.run) → CommandResult w keep c (scene world store was) (scene world after now) exit
-      did_junit e d = reports (command.ReportJunit options) e d (reported_junit options d.bytes d.due none_asked) (junit_cut options d.bytes d.due none_asked)
+  pub did_junit : c ≡ command.ReportJunit options
+      → WritesReport keep store after was now exit (JunitCompletes options.run) → ExecutesWithoutWorld keep c store after was now exit
+  did_junit e d = reports (command.ReportJunit options) e d (reported_junit options d.bytes d.due none_asked)

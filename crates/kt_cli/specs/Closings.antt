@@ -1,22 +1,22 @@
 -- The exit status and the output of a command when its results file is closed.
 use Rattle.std.specs.Prelude.{ℕ, Bool, true, false, List, ◌≡◌, ◌==◌, Option, Result, Ok, Err}
 use Rattle.kt_cli.specs.Types.{StoreFault, utf8}
-use Rattle.kt_cli.specs.FaultLines.{refusal_line}
+use Rattle.kt_cli.specs.FaultLines.{store_fault_line}
 use Rattle.kt_cli.specs.Pages.{Printed}
 use Rattle.kt_cli.specs.Refused.{failure_exit}
 
 -- `CloseFailed failed fault old new due exit`: a command with the exit status `due` failed with
--- `fault` to close its results file. If `failed` is `true`, `due` was 2 already, nothing is
--- printed, and `exit` is `due`. Else the error line of `fault` is printed, and `exit` is 2. `old`
--- and `new` are the contents of the writer before and after.
+-- `fault` to close its results file. `failed` is whether `due` is 2 already: then nothing is
+-- printed, and `exit` is `due`. Otherwise the error line of `fault` is printed, and `exit` is 2.
+-- `old` and `new` are the contents of the writer before and after.
 abbrev pub CloseFailed : Bool → StoreFault → Option (List ℕ) → Option (List ℕ) → ℕ → ℕ → Type 0
 CloseFailed true fault old new due exit = (new ≡ old) × (exit ≡ due)
-CloseFailed false fault old new due exit = Printed old new exit (utf8 (refusal_line fault)) failure_exit
+CloseFailed false fault old new due exit = Printed old new exit (utf8 (store_fault_line fault)) failure_exit
 
 -- `ClosesResults closed old new due exit`: `exit` is the exit status of a command that had the
 -- status `due` before its results file was closed with the result `closed`. After a successful
--- close, `exit` is `due`, and nothing is printed. `old` and `new` are the contents of the writer
--- before and after.
+-- close, `exit` is `due`, and nothing is printed. After a failed close, `CloseFailed` holds. `old`
+-- and `new` are the contents of the writer before and after.
 abbrev pub ClosesResults : Result (Unit {0}) StoreFault → Option (List ℕ) → Option (List ℕ) → ℕ → ℕ → Type 0
 ClosesResults (Ok done) old new due exit = (new ≡ old) × (exit ≡ due)
 ClosesResults (Err fault) old new due exit = CloseFailed (due == failure_exit) fault old new due exit

@@ -1,7 +1,7 @@
 -- The error lines of commands.
 use Rattle.std.specs.Prelude.{ℕ, List, ◌++◌, codes}
 use Rattle.kt_cli.specs.Types.{StoreFault}
-use Rattle.kt_store.specs.Ask.{fault_words}
+use Rattle.kt_store.specs.Ask.{fault_message}
 
 -- `fault_line words`: the error line with the message `words`, in characters.
 abbrev pub fault_line : List ℕ → List ℕ
@@ -11,6 +11,6 @@ fault_line words = codes "kyua: E: " ++ words ++ codes "\n"
 abbrev pub memory_line : List ℕ
 memory_line = fault_line (codes "out of memory")
 
--- `refusal_line fault`: the error line of a command whose store call failed with `fault`.
-abbrev pub refusal_line : StoreFault → List ℕ
-refusal_line fault = fault_line (fault_words fault)
+-- `store_fault_line fault`: the error line of a command whose store call failed with `fault`.
+abbrev pub store_fault_line : StoreFault → List ℕ
+store_fault_line fault = fault_line (fault_message fault)

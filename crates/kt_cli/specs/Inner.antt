@@ -1,10 +1,7 @@
 -- Definitions that only private functions cite.
+pub mod Courses
 pub mod Debugging
 pub mod FaultLines
-pub mod HostAnswers
-pub mod HostFiles
-pub mod Meaning
-pub mod MemoryRuns
 pub mod Pages
 pub mod Recording
 pub mod Recordings

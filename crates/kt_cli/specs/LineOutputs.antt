@@ -13,14 +13,14 @@ unwritten l = l.held
 abbrev pub has_failed : {W : Type 0} → LineOutput W → Bool
 has_failed l = l.failed
 
--- `unflushed l`: the fault of the flush of the inner writer of `l`, or `None` if no flush failed.
-abbrev pub unflushed : {W : Type 0} → LineOutput W → Option FlushFault
-unflushed l = l.unflushed
+-- `flush_fault l`: the fault of the flush of the inner writer of `l`, or `None` if no flush failed.
+abbrev pub flush_fault : {W : Type 0} → LineOutput W → Option FlushFault
+flush_fault l = l.flush_fault
 
 -- `is_broken l`: `true` if a write or a flush of the inner writer of `l` has failed. Then `l`
 -- writes nothing more.
 abbrev pub is_broken : {W : Type 0} → LineOutput W → Bool
-is_broken l = has_failed l || is_some (unflushed l)
+is_broken l = has_failed l || is_some (flush_fault l)
 
 -- `given_bytes contents l`: all bytes that were given to `l`: those in the inner writer, followed
 -- by the unwritten bytes. `contents` returns the content of the inner writer, `None` if it is
@@ -29,18 +29,18 @@ abbrev pub given_bytes : {W : Type 0} → (W → Option (List ℕ)) → LineOutp
 given_bytes contents l = append_known (contents l.out) (unwritten l)
 
 -- The state of a buffered writer: all bytes that were given to the writer, and the unwritten ones
--- among them. `failed` is whether a write of the inner writer failed, and `unflushed` is the fault
+-- among them. `failed` is whether a write of the inner writer failed, and `flush_fault` is the fault
 -- of its flush.
 pub record LineState : Type 0 where
   pub given : Option (List ℕ)
   pub unwritten : List ℕ
   pub failed : Bool
-  pub unflushed : Option FlushFault
+  pub flush_fault : Option FlushFault
 
 -- `line_state contents l`: the state of the writer `l`. `contents` returns the content of the inner
 -- writer, `None` if it is unknown.
 abbrev pub line_state : {W : Type 0} → (W → Option (List ℕ)) → LineOutput W → LineState
-line_state contents l = record { given = given_bytes contents l; unwritten = unwritten l; failed = has_failed l; unflushed = unflushed l }
+line_state contents l = record { given = given_bytes contents l; unwritten = unwritten l; failed = has_failed l; flush_fault = flush_fault l }
 
 -- `FlushResult failed flush unwritten fails`: `fails` is whether a flush failed. After the flush,
 -- `failed` is whether a write has failed, `flush` is the fault of the inner writer's flush, and

@@ -3,26 +3,27 @@ use Rattle.std.specs.Prelude.{ℕ, ◌⊎◌, ◌≡◌, List, Result, Ok, Err}
 use Rattle.sqlite_disk.specs.declared.Disk as disk
 use Rattle.sqlite_store.specs.declared.store.FileStore.{FileStore}
 use Rattle.sqlite_wal.specs.Recovery.{Image}
-use Rattle.kt_cli.specs.Types.{Access, DriverFault, IsStoreFault, StoreFault, ProcessEnv}
+use Rattle.kt_cli.specs.Types.{Access, OsFault, IsDatabaseFault, StoreFault, ProcessEnv}
 use Rattle.kt_store.specs.Files.{Ends, Finds}
 use Rattle.kt_store.specs.declared.store_fault.StoreFault.TheVariants.{UnknownSchema}
-use Rattle.kt_cli.specs.Around.{IsFound}
+use Rattle.kt_os.specs.Around.{IsProcessEnv}
 
--- A call of a platform with its result (`answer`): open a results file, close it, or read the
--- working directory and environment of the process.
+-- `HostCall S`: a call of a platform whose stores have the type `S`, with its result (`answer`).
+-- `Opened` opens the results file at the path `file` with `access`, and `Closed` closes `results`.
+-- `Found` reads the working directory and the environment of the process.
 pub data HostCall (S : Type 0) : Type 0 where
   Opened : (file : List ℕ) (access : Access) (answer : Result S StoreFault) → HostCall S
   Closed : (results : S) (answer : Result (Unit {0}) StoreFault) → HostCall S
-  Found : (answer : Result ProcessEnv DriverFault) → HostCall S
+  Found : (answer : Result ProcessEnv OsFault) → HostCall S
 
 -- `IsHostOfFiles path image call`: the result of `call` is that of a platform that stores runs in
 -- files. The results file at `path` has the content `image`, and a store that is opened at `path`
--- has the runs of this file. After a close, the database file alone has the runs. An open fails
--- only with out of memory, a failed database or an unknown schema. A close fails only with one of
--- the first two. The working directory and the environment meet `IsFound`.
+-- has the runs of this file. After a close, the database file has the runs without its log. An open
+-- fails only with out of memory, a failed database or an unknown schema. A close fails only with
+-- one of the first two. The working directory and the environment meet `IsProcessEnv`.
 abbrev pub IsHostOfFiles : {D : Type 0} {g : disk.Ghosts D} → List ℕ → Image → HostCall (FileStore D g) → Type 0
 IsHostOfFiles path image (Opened file access (Ok results)) = file ≡ path → Finds image results
-IsHostOfFiles path image (Opened file access (Err fault)) = IsStoreFault fault ⊎ (fault ≡ UnknownSchema)
+IsHostOfFiles path image (Opened file access (Err fault)) = IsDatabaseFault fault ⊎ (fault ≡ UnknownSchema)
 IsHostOfFiles path image (Closed results (Ok done)) = Ends results
-IsHostOfFiles path image (Closed results (Err fault)) = IsStoreFault fault
-IsHostOfFiles path image (Found answer) = IsFound answer
+IsHostOfFiles path image (Closed results (Err fault)) = IsDatabaseFault fault
+IsHostOfFiles path image (Found answer) = IsProcessEnv answer

@@ -2,7 +2,7 @@
 use Rattle.std.specs.Prelude.{ℕ, List, ◌==◌, ◌≡◌, ◌≤◌, Some, count_by, length, take, slice_get}
 use Rattle.kt_cli.specs.Types.{Entry, Job, Trace}
 use Rattle.kt_sched.specs.EntryOf.{IsEntryOf, AreEntries}
-use Rattle.kt_sched.specs.RecordOrder.{Due, dues, recorded}
+use Rattle.kt_sched.specs.RecordOrder.{ScheduledPut, scheduled_puts, recorded}
 use Rattle.kt_sched.specs.Run.{NamesEachOnce}
 use Rattle.kt_sched.specs.ScheduleRules.{Legal, Stopped}
 
@@ -18,8 +18,8 @@ pub record AllRecorded (plan : List Job) (n : ℕ) (T : Trace) (entries : List E
 -- recorded in record order, each case at most once. The put of the next entry, `refused`, failed,
 -- and no body was started afterwards.
 pub record IsStopped (plan : List Job) (n : ℕ) (T : Trace) (entries : List Entry) (refused : Entry) : Type 0 where
-  pub due : Due
-  pub next : slice_get (dues plan n T) (length entries) ≡ Some due
+  pub due : ScheduledPut
+  pub next : slice_get (scheduled_puts plan n T) (length entries) ≡ Some due
   pub refused_is : IsEntryOf plan T due.position refused
   pub are : AreEntries plan T (take (length entries) (recorded plan n T)) entries
   pub once : (i : ℕ) → count_by (λ p. p == i) (recorded plan n T) ≤ 1

@@ -1,18 +1,18 @@
 -- The effect of a sequence of store calls on the represented runs.
 use Rattle.std.specs.Prelude.{ℕ, List, [], ◌∷◌, ◌++◌, ⊤, Ok, Err}
 use Rattle.kt_cli.specs.Types.{Agrees, Began, Chain, Entry, Finished, Head, Outline, Outputs, Pairs, Put, Run, StoreCall, runs_after, with_entry}
-use Rattle.kt_store.specs.Runs.{new_run, insert_at, finish}
+use Rattle.kt_store.specs.Runs.{new_run, insert_by_position, finish}
 use Rattle.kt_store.specs.declared.result_store.StoreSpec as keeping
 
--- `put_among there entries`: the list `there` with each of `entries` inserted in the order of
+-- `insert_all there entries`: the entries `there` with each of `entries` inserted in the order of
 -- positions.
-abbrev pub put_among : List Entry → List Entry → List Entry
-put_among there [] = there
-put_among there (e ∷ es) = put_among (insert_at e there) es
+abbrev pub insert_all : List Entry → List Entry → List Entry
+insert_all there [] = there
+insert_all there (e ∷ es) = insert_all (insert_by_position e there) es
 
--- `by_position entries`: `entries` sorted by position.
-abbrev pub by_position : List Entry → List Entry
-by_position entries = put_among [] entries
+-- `entries_by_position entries`: `entries` sorted by position.
+abbrev pub entries_by_position : List Entry → List Entry
+entries_by_position entries = insert_all [] entries
 
 -- `puts number entries`: the calls that put each of `entries` into run `number`, all successful.
 abbrev pub puts : ℕ → List Entry → List StoreCall
@@ -36,16 +36,16 @@ crash_runs_after (Outputs number position answer) runs may = may
 
 -- ---- calls in sequence
 
--- `changed calls runs`: the runs of a store with `runs` after `calls`, in order.
-abbrev pub changed : List StoreCall → List Run → List Run
-changed [] runs = runs
-changed (call ∷ calls) runs = changed calls (runs_after call runs)
+-- `runs_after_calls calls runs`: the runs of a store with `runs` after `calls`, in order.
+abbrev pub runs_after_calls : List StoreCall → List Run → List Run
+runs_after_calls [] runs = runs
+runs_after_calls (call ∷ calls) runs = runs_after_calls calls (runs_after call runs)
 
--- `beside calls runs may`: the lists of runs, other than the current one, that a crash may leave
+-- `crash_runs_after_calls calls runs may`: the lists of runs, other than the current one, that a crash may leave
 -- after `calls` on a store with `runs`. `may` are those that a crash might leave before the calls.
-abbrev pub beside : List StoreCall → List Run → List (List Run) → List (List Run)
-beside [] runs may = may
-beside (call ∷ calls) runs may = beside calls (runs_after call runs) (crash_runs_after call runs may)
+abbrev pub crash_runs_after_calls : List StoreCall → List Run → List (List Run) → List (List Run)
+crash_runs_after_calls [] runs may = may
+crash_runs_after_calls (call ∷ calls) runs may = crash_runs_after_calls calls (runs_after call runs) (crash_runs_after call runs may)
 
 -- `Agree runs calls`: on a store with `runs`, the result of each of `calls` is correct for the runs
 -- after the calls before it.
@@ -58,12 +58,12 @@ module _ {R : Type 0} (r : keeping.Ghosts R) where
   -- from state `old` to `new`. If `old` represents runs, `new` represents the changed runs. If
   -- `new` is sound, `old` was sound, and each result agrees with the runs. If a crash in `old` left
   -- `runs` or one of `may`, a crash in `new` leaves the changed runs or one of
-  -- `beside calls runs may`.
+  -- `crash_runs_after_calls calls runs may`.
   pub record ChangesRuns (calls : List StoreCall) (old new : R) : Type 0 where
-    pub stands : (runs : List Run) → r.stands old runs → r.stands new (changed calls runs)
+    pub stands : (runs : List Run) → r.stands old runs → r.stands new (runs_after_calls calls runs)
     pub earlier : (runs : List Run) → r.stands old runs → r.sound new → r.sound old
     pub agree : (runs : List Run) → r.stands old runs → r.sound new → Agree runs calls
-    pub crash : (runs : List Run) (may : List (List Run)) → r.stands old runs → r.leaves old (runs ∷ may) → r.leaves new (changed calls runs ∷ beside calls runs may)
+    pub crash : (runs : List Run) (may : List (List Run)) → r.stands old runs → r.leaves old (runs ∷ may) → r.leaves new (runs_after_calls calls runs ∷ crash_runs_after_calls calls runs may)
 
   -- `CallsStore r calls old new`: `calls` with their results lead a store with the specification
   -- `r` from state `old` to `new`, with the effect `ChangesRuns`.

@@ -1,9 +1,6 @@
--- The store calls, the output and the exit status of `test`, once its plan is made.
-use Rattle.std.specs.Prelude.{ℕ, Bool, true, false, List, [], ◌∷◌, ◌++◌, ◌≡◌, ◌==◌, ◌&&◌, Result, Ok, Err, length, if◌then◌else◌}
-use Rattle.kt_cli.specs.Types.{Began, CaseOptions, Entry, Finished, Job, NoEvent, CommandSelection, Put, StoreCall, StoreFault, Trace, utf8}
-use Rattle.kt_cli.specs.FaultLines.{memory_line, refusal_line}
-use Rattle.kt_cli.specs.Recordings.{AllRecorded, IsStopped}
-use Rattle.kt_cli.specs.Stores.{puts}
+-- The output and the exit status of `test`, once its plan is made.
+use Rattle.std.specs.Prelude.{ℕ, Bool, true, false, List, [], ◌∷◌, ◌++◌, ◌==◌, ◌&&◌, Result, length, if◌then◌else◌}
+use Rattle.kt_cli.specs.Types.{Began, CaseOptions, Entry, Job, CommandSelection, StoreCall, StoreFault, utf8}
 use Rattle.kt_cli.specs.Totals.{lines, totals_text, good_count, bad_count}
 use Rattle.kt_cli.specs.Warnings.{warnings}
 
@@ -50,24 +47,6 @@ abbrev pub run_for : List Job → CaseOptions → CommandSelection → ℕ → P
 run_for plan options picked moment =
     record { plan = plan; width = picked.settings.config.parallelism; words = options.filters; unmatched = picked.chosen.unmatched; moment = moment }
 
--- `begins planned answer`: the store call that begins the run `planned`, with its result `answer`.
-abbrev pub begins : PlannedRun → Result ℕ StoreFault → StoreCall
-begins planned answer = Began (length planned.plan) planned.moment answer
-
--- `Tested planned T calls bytes exit`: the run `planned` with the trace `T` was completed. `calls`
--- begin the run, put each entry in record order, and finish the run. `bytes` is the output, and
--- `exit` the exit status.
-pub data Tested (planned : PlannedRun) (T : Trace) : List StoreCall → List ℕ → ℕ → Type 0 where
-  recorded : (number : ℕ) (entries : List Entry) → AllRecorded planned.plan planned.width T entries
-      → Tested planned T (begins planned (Ok number) ∷ (puts number entries ++ Finished number (Ok tt) ∷ [])) (results entries planned.words planned.unmatched) (results_exit entries planned.unmatched)
-
--- `TestEndsEarly planned T calls bytes exit`: a failed allocation or a failed store call ended the
--- run `planned` early, after the trace `T` and the store calls `calls`. `bytes` ends with the error
--- line of this fault, and `exit` is 2.
-pub data TestEndsEarly (planned : PlannedRun) (T : Trace) : List StoreCall → List ℕ → ℕ → Type 0 where
-  not_begun : (fault : StoreFault) → T ≡ NoEvent → TestEndsEarly planned T (begins planned (Err fault) ∷ []) (utf8 (refusal_line fault)) 2
-  not_run : (number : ℕ) → T ≡ NoEvent → TestEndsEarly planned T (begins planned (Ok number) ∷ []) (utf8 memory_line) 2
-  not_put : (number : ℕ) (entries : List Entry) (refused : Entry) (fault : StoreFault) → IsStopped planned.plan planned.width T entries refused
-      → TestEndsEarly planned T (begins planned (Ok number) ∷ (puts number entries ++ Put number refused (Err fault) ∷ [])) (lines entries ++ utf8 (refusal_line fault)) 2
-  not_finished : (number : ℕ) (entries : List Entry) (fault : StoreFault) → AllRecorded planned.plan planned.width T entries
-      → TestEndsEarly planned T (begins planned (Ok number) ∷ (puts number entries ++ Finished number (Err fault) ∷ [])) (lines entries ++ utf8 (refusal_line fault)) 2
+-- `begin_call planned answer`: the store call that begins the run `planned`, with its result `answer`.
+abbrev pub begin_call : PlannedRun → Result ℕ StoreFault → StoreCall
+begin_call planned answer = Began (length planned.plan) planned.moment answer

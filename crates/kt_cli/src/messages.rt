@@ -1,24 +1,24 @@
 //! The error messages and warnings of commands.
 
 ghost use Rattle.std.specs.Prelude.{◌≡◌, chars, is_err, slice_get};
-ghost use Rattle.kt_cli.specs.Common.{Shows, utf8, ClosesResults, fault_line, memory_line, refusal_line, run_line, Says, Printed, driver_line, command_text, command_exit, failure_exit, Refused, stop_exit, stop_line, warning_at, warnings};
+ghost use Rattle.kt_cli.specs.Common.{Emits, utf8, ClosesResults, fault_line, memory_line, store_fault_line, run_line, WritesNext, Printed, driver_line, command_text, command_exit, failure_exit, Refused, stop_exit, stop_line, warning_at, warnings};
 
 use crate::Exit;
-use crate::output::exit::{FAILED, ended};
+use crate::output::exit::{FAILURE, ended};
 use kt_args::{CaseOptions, CommandFault};
 use kt_base::{NoMemory, OUT_OF_MEMORY, OutputFault, Text, emit, emit_all};
 use kt_child::DriverFault;
-use kt_plan::{Chosen, Stop};
+use kt_plan::{CaseSelection, SelectionError};
 use kt_sched::RunFault;
 use kt_store::StoreFault;
 use std::io::Write;
 
 /// The exit status of a command with wrong arguments (kyua(1)).
-const WRONG_ARGUMENTS: u8 = 3;
+const USAGE_STATUS: u8 = 3;
 
 /// Writes an error line with the message `words`: `kyua: E: MESSAGE` (this profile).
-fn write_fault<O: Write>(words: &str, out: &mut O) -> Result<(), OutputFault>
-    ensures { Shows (O.contents out.old) (O.contents out.new) (is_err result)
+fn write_error_line<O: Write>(words: &str, out: &mut O) -> Result<(), OutputFault>
+    ensures { Emits (O.contents out.old) (O.contents out.new) (is_err result)
         (utf8 (fault_line (chars words.now))) }
 {
     emit_all(&[b"kyua: E: ", words.as_bytes(), b"\n"], out)
@@ -33,10 +33,10 @@ fn write_fault<O: Write>(words: &str, out: &mut O) -> Result<(), OutputFault>
 ///
 /// - `OutputFault`: a write fails. A proper prefix of the line was written.
 #[tactic(auto, unfolding(crate::proofs::Common::chars))]
-pub fn write_memory<O: Write>(_refusal: NoMemory, out: &mut O) -> Result<(), OutputFault>
-    ensures { Shows (O.contents out.old) (O.contents out.new) (is_err result) (utf8 memory_line) }
+pub fn write_memory_error<O: Write>(_refusal: NoMemory, out: &mut O) -> Result<(), OutputFault>
+    ensures { Emits (O.contents out.old) (O.contents out.new) (is_err result) (utf8 memory_line) }
 {
-    write_fault(OUT_OF_MEMORY, out)
+    write_error_line(OUT_OF_MEMORY, out)
 }
 
 /// Writes the error line of a run that failed with `fault`. If `written`, the result of the earlier
@@ -51,11 +51,11 @@ pub fn write_run_fault<O: Write>(
     fault: RunFault,
     out: &mut O,
 ) -> Result<(), OutputFault>
-    ensures { Says (O.contents out.old) (is_err written) (O.contents out.new) (is_err result)
+    ensures { WritesNext (O.contents out.old) (is_err written) (O.contents out.new) (is_err result)
         (utf8 (run_line fault)) }
 {
     written?;
-    write_fault(fault.words(), out)
+    write_error_line(fault.message(), out)
 }
 
 /// Writes the error line of a failed call of the results store.
@@ -63,16 +63,16 @@ pub fn write_run_fault<O: Write>(
 /// # Errors
 ///
 /// - `OutputFault`: a write fails. A proper prefix of the line was written.
-pub fn write_refusal<O: Write>(fault: StoreFault, out: &mut O) -> Result<(), OutputFault>
-    ensures { Shows (O.contents out.old) (O.contents out.new) (is_err result)
-        (utf8 (refusal_line fault)) }
+pub fn write_store_error<O: Write>(fault: StoreFault, out: &mut O) -> Result<(), OutputFault>
+    ensures { Emits (O.contents out.old) (O.contents out.new) (is_err result)
+        (utf8 (store_fault_line fault)) }
 {
-    write_fault(fault.words(), out)
+    write_error_line(fault.message(), out)
 }
 
-/// Writes the error line of the fault that stopped a command (this profile).
-fn write_stop<O: Write>(stop: &Stop, out: &mut O) -> Result<(), OutputFault>
-    ensures { Shows (O.contents out.old) (O.contents out.new) (is_err result)
+/// Writes the error line of `stop`, the fault that stopped a command (this profile).
+fn write_selection_error<O: Write>(stop: &SelectionError, out: &mut O) -> Result<(), OutputFault>
+    ensures { Emits (O.contents out.old) (O.contents out.new) (is_err result)
         (utf8 (stop_line stop.now)) }
 {
     emit(b"kyua: E: ", out)?;
@@ -81,62 +81,67 @@ fn write_stop<O: Write>(stop: &Stop, out: &mut O) -> Result<(), OutputFault>
 }
 
 /// Returns the exit status of a command that `stop` stopped: 3 if the arguments are wrong, else 2.
-fn stop_status(stop: &Stop) -> u8
+fn selection_error_status(stop: &SelectionError) -> u8
     ensures { result ≡ stop_exit stop.now }
 {
     match stop {
-        Stop::Variable(_, _) | Stop::Filter(_, _) | Stop::NeedsCase => 3,
+        SelectionError::Variable(_, _) | SelectionError::Filter(_, _) | SelectionError::NeedsCase =>
+            3,
         _ => 2,
     }
 }
 
 /// Prints the fault that stopped a command, and returns the exit status: 3 if the arguments are
 /// wrong, else 2. The status is also 2 if the write fails.
-pub fn stopped<O: Write>(fault: Stop, out: &mut O) -> Exit
+pub fn stopped<O: Write>(fault: SelectionError, out: &mut O) -> Exit
     ensures { Printed (O.contents out.old) (O.contents out.new) result.status
         (utf8 (stop_line fault)) (stop_exit fault) }
 {
-    ended(write_stop(&fault, out), stop_status(&fault))
+    ended(
+        write_selection_error(&fault, out),
+        selection_error_status(&fault),
+    )
 }
 
-/// Prints why the driver could not be created, and returns exit status 2.
+/// Prints the error line of a driver that could not be created, and returns exit status 2.
 pub fn print_driver_fault<O: Write>(fault: DriverFault, out: &mut O) -> Exit
     ensures { Printed (O.contents out.old) (O.contents out.new) result.status
         (utf8 (driver_line fault)) failure_exit }
 {
-    ended(write_fault(fault.words(), out), FAILED)
+    ended(write_error_line(fault.message(), out), FAILURE)
 }
 
-/// Prints a fault of the results store, and returns exit status 2.
+/// Prints the error line of a failed call of the results store, and returns exit status 2.
 pub fn print_store_fault<O: Write>(fault: StoreFault, out: &mut O) -> Exit
     ensures { Printed (O.contents out.old) (O.contents out.new) result.status
-        (utf8 (refusal_line fault)) failure_exit }
+        (utf8 (store_fault_line fault)) failure_exit }
 {
-    ended(write_refusal(fault, out), FAILED)
+    ended(write_store_error(fault, out), FAILURE)
 }
 
-/// Returns the exit status of a command that ended with `exit`, after its results file was closed
-/// with the result `closed`.
+/// Prints the fault of a failed close of the results file, and returns the command's exit status.
 ///
-/// If the close failed, prints the fault and returns 2. The runs are then in the file and its log.
-/// If the status is 2 already, prints nothing.
-pub fn with_closed<O: Write>(exit: Exit, closed: Result<(), StoreFault>, out: &mut O) -> Exit
-    ensures { ClosesResults closed (O.contents out.old) (O.contents out.new) exit.status result.status }
+/// `exit` is how the command ended, and `closed` is the result of the close. The status is 2 if the
+/// close failed, otherwise that of `exit`. Nothing is printed if the status of `exit` is already 2.
+/// After a failed close, the runs are in the file and its log.
+pub fn print_close_fault<O: Write>(exit: Exit, closed: Result<(), StoreFault>, out: &mut O) -> Exit
+    ensures { ClosesResults closed (O.contents out.old) (O.contents out.new) exit.status
+        result.status }
 {
     match closed {
-        Err(fault) if exit.status != FAILED => print_store_fault(fault, out),
+        Err(fault) if exit.status != FAILURE => print_store_fault(fault, out),
         _ => exit,
     }
 }
 
-/// Writes why the arguments are rejected: the message of `clap`, or an error line.
+/// Writes the reason why the arguments are rejected: the message of `clap`, or an error line.
 fn write_command_fault<O: Write>(fault: &CommandFault, out: &mut O) -> Result<(), OutputFault>
-    ensures { Shows (O.contents out.old) (O.contents out.new) (is_err result)
+    ensures { Emits (O.contents out.old) (O.contents out.new) (is_err result)
         (utf8 (command_text fault.now)) }
 {
     match fault {
         CommandFault::Usage(text) => emit(text.as_bytes(), out),
-        _ => write_fault(fault.words(), out),
+        _ => write_error_line(fault.message(), out),
     }
 }
 
@@ -145,12 +150,13 @@ fn status_of(fault: &CommandFault) -> u8
     ensures { result ≡ command_exit fault.now }
 {
     match fault {
-        CommandFault::NoMemory(_) => FAILED,
-        _ => WRONG_ARGUMENTS,
+        CommandFault::NoMemory(_) => FAILURE,
+        _ => USAGE_STATUS,
     }
 }
 
-/// Prints why the arguments are rejected, and returns exit status 3, or 2 if memory ran out.
+/// Prints the reason why the arguments are rejected, and returns exit status 3, or 2 if memory ran
+/// out.
 ///
 /// A failed write does not change the status.
 pub fn print_command_fault<O: Write>(fault: &CommandFault, out: &mut O) -> Exit
@@ -170,7 +176,7 @@ fn write_warning_at<O: Write>(
     position: usize,
     out: &mut O,
 ) -> Result<(), OutputFault>
-    ensures { Shows (O.contents out.old) (O.contents out.new) (is_err result)
+    ensures { Emits (O.contents out.old) (O.contents out.new) (is_err result)
         (utf8 (warning_at (slice_get words.now position))) }
 {
     match words.get(position) {
@@ -194,10 +200,10 @@ fn write_warning_at<O: Write>(
 /// - `OutputFault`: a write fails. A proper prefix of the warnings was written.
 pub fn write_warnings<O: Write>(
     options: &CaseOptions,
-    chosen: &Chosen,
+    chosen: &CaseSelection,
     out: &mut O,
 ) -> Result<(), OutputFault>
-    ensures { Shows (O.contents out.old) (O.contents out.new) (is_err result)
+    ensures { Emits (O.contents out.old) (O.contents out.new) (is_err result)
         (utf8 (warnings options.now.filters chosen.now.unmatched)) }
 {
     let words = options.filters.as_slice();

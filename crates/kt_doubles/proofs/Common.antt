@@ -1,5 +1,20 @@
 -- Re-exports the names that most proofs of this crate cite. Declares nothing.
+pub use Rattle.std.proofs.lemmas.Bool.Decides.{nat_tests}
+pub use Rattle.std.proofs.lemmas.List.{set-get_or}
+pub use Rattle.std.specs.List.{find}
+pub use Rattle.std.specs.Option.{option_copied, option_map}
 pub use Rattle.kt_base.specs.declared.child.Role.{Role}
+pub use Rattle.kt_base.specs.declared.entry.Entry.{Entry}
+pub use Rattle.kt_base.specs.declared.entry.Run.{Run}
 pub use Rattle.kt_sched.specs.Plan.{IsFit, IsPlan}
 pub use Rattle.kt_sched.specs.declared.job.Job.{Job}
-pub use Rattle.kt_doubles.specs.Children.{owed, shown}
+pub use Rattle.kt_store.specs.Heads.{entry_at, head_of, outline_entry, outputs_of}
+pub use Rattle.kt_store.specs.Runs.{AreNumbered, finish, finish_refusal_of, insert_by_position, put_refusal_of, run_at, with_entry}
+pub use Rattle.kt_store.specs.Serving.{Agrees, Serves, runs_after}
+pub use Rattle.kt_store.specs.StoreCalls.{Began, Finished, Head, Outputs, Put, StoreCall}
+pub use Rattle.kt_store.specs.declared.result_store.CaseOutputs.{CaseOutputs}
+pub use Rattle.kt_store.specs.declared.result_store.RunHead.{RunHead}
+pub use Rattle.kt_store.specs.declared.store_fault.StoreFault.{StoreFault}
+pub use Rattle.kt_store.specs.declared.store_fault.StoreFault.TheVariants.{NoRun}
+pub use Rattle.kt_doubles.specs.Children.{is_cleanup_pending, shown}
+pub use Rattle.kt_doubles.specs.MemoryRuns.{FindsPlace, LeavesInMemory, ServesInMemory, closing_refusal, entry_refusal, memory_runs, insert_index}

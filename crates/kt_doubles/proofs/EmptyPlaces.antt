@@ -1,6 +1,6 @@
 -- Launchers without children, and positions past the last.
 use Rattle.std.proofs.Common.{Some, None, slice_index_or, replicate, ◌≡◌, ◌<◌, ℕ, zero, suc, List, [], length, refl, ap, arith, inl, inr}
-use Rattle.kt_doubles.proofs.Common.{Role, shown, owed}
+use Rattle.kt_doubles.proofs.Common.{Role, shown, is_cleanup_pending}
 use Rattle.std.proofs.lemmas.Bool.{cases_lt}
 use Rattle.std.proofs.lemmas.List.{get_or_past}
 use Rattle.kt_sched.specs.Children.{Child, IsIdle}
@@ -16,7 +16,7 @@ nowhere places b h i r child e = elim (cases_lt i 2048) [
 ]
 
 -- A launcher without running children and pending cleanups is idle.
-pub idle : (places : List ChildSlot) → ((k : ℕ) → slice_index_or places k Free ≡ Free) → IsIdle (shown places) (owed places)
+pub idle : (places : List ChildSlot) → ((k : ℕ) → slice_index_or places k Free ≡ Free) → IsIdle (shown places) (is_cleanup_pending places)
 idle places h = record { runs = λ k r. ap (λ (p : ChildSlot). child_in p r) (h k); pends = λ k. ap is_pending_slot (h k) }
 
 -- Each element of `replicate n x` is `x`.

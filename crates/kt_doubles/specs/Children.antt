@@ -4,9 +4,10 @@ use Rattle.kt_base.specs.declared.child.Role.{Role}
 use Rattle.kt_base.specs.declared.child.Role.TheVariants.{Body, Cleanup}
 use Rattle.kt_sched.specs.Children.{Child}
 use Rattle.kt_doubles.specs.declared.children.ChildSlot.{ChildSlot}
-use Rattle.kt_doubles.specs.declared.children.ChildSlot.TheVariants.{Free, Running, Owed, Cleaning}
+use Rattle.kt_doubles.specs.declared.children.ChildSlot.TheVariants.{Free, Running, CleanupPending, Cleaning}
 
--- `child_in place role`: the running child in `role` of a case with the state `place`, or `None`.
+-- `child_in place role`: the running child in the role `role` of a case with the state `place`, or
+-- `None`.
 abbrev pub child_in : ChildSlot → Role → Option Child
 child_in (Running interface cleanup) Body = Some (record { interface = interface; cleanup = cleanup })
 child_in (Cleaning interface cleanup) Cleanup = Some (record { interface = interface; cleanup = cleanup })
@@ -14,14 +15,14 @@ child_in place role = None
 
 -- `is_pending_slot place`: a case with the state `place` has a pending cleanup.
 abbrev pub is_pending_slot : ChildSlot → Bool
-is_pending_slot Owed = true
+is_pending_slot CleanupPending = true
 is_pending_slot place = false
 
--- `shown places k role`: the running child in `role` of the case at position `k` of `places`, or
--- `None`.
+-- `shown places k role`: the running child in the role `role` of the case at position `k` of
+-- `places`, or `None`.
 abbrev pub shown : List ChildSlot → ℕ → Role → Option Child
 shown places k role = child_in (slice_index_or places k Free) role
 
--- `owed places k`: the case at position `k` of `places` has a pending cleanup.
-abbrev pub owed : List ChildSlot → ℕ → Bool
-owed places k = is_pending_slot (slice_index_or places k Free)
+-- `is_cleanup_pending places k`: the case at position `k` of `places` has a pending cleanup.
+abbrev pub is_cleanup_pending : List ChildSlot → ℕ → Bool
+is_cleanup_pending places k = is_pending_slot (slice_index_or places k Free)

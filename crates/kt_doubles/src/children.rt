@@ -16,11 +16,13 @@ pub const MAX_POSITIONS: u32 = 2_048;
 pub enum ChildSlot {
     /// No child runs, and no cleanup is pending.
     Free,
-    /// The body runs. The fields are its interface, and `true` if the case declares a cleanup.
+    /// The body runs. The fields are the interface of its program, and `true` if the case declares
+    /// a cleanup.
     Running(Interface, bool),
     /// The body has ended, and its cleanup is pending.
-    Owed,
-    /// The cleanup runs. The fields are its interface, and `true` if the case declares a cleanup.
+    CleanupPending,
+    /// The cleanup runs. The fields are the interface of its program, and `true` if the case
+    /// declares a cleanup.
     Cleaning(Interface, bool),
 }
 
@@ -37,7 +39,7 @@ pub fn free_slots() -> ChildSlots
     [ChildSlot::Free; 2048]
 }
 
-/// Stores `place` as the state of the case at position `at`.
+/// Sets the state of the case at position `at` of `places` to `place`.
 pub fn write(places: &mut ChildSlots, at: u32, place: ChildSlot)
     requires { at < 2048 }
     ensures { (k : ℕ) → slice_index_or places.new k TheFree
@@ -46,7 +48,8 @@ pub fn write(places: &mut ChildSlots, at: u32, place: ChildSlot)
     places[at as usize] = place;
 }
 
-/// Returns the running child of the case at position `at`, or `None`.
+/// Returns the running child of the case at position `at` of `places`, or `None` if the case has no
+/// running child.
 fn child_at(places: &ChildSlots, at: u32) -> Option<SlotChild>
     requires { at < 2048 }
     ensures none { result ≡ None → (role : Role) → shown places.now at role ≡ None }
@@ -54,14 +57,14 @@ fn child_at(places: &ChildSlots, at: u32) -> Option<SlotChild>
         ≡ Some (record { interface = c.1; cleanup = c.2 })) }
 {
     match places[at as usize] {
-        ChildSlot::Free | ChildSlot::Owed => None,
+        ChildSlot::Free | ChildSlot::CleanupPending => None,
         ChildSlot::Running(interface, cleanup) => Some((Role::Body, interface, cleanup)),
         ChildSlot::Cleaning(interface, cleanup) => Some((Role::Cleanup, interface, cleanup)),
     }
 }
 
-/// Returns the running child at position `named`, or else the first running child, each with its
-/// position. The caller guarantees that a child is running.
+/// Returns the running child at position `named` of `places`, or else the first running child, each
+/// with its position. The caller guarantees that a child is running.
 pub fn running_child(places: &ChildSlots, named: u32) -> (u32, SlotChild)
     requires { (i : ℕ) × (role : Role) × (child : Child)
         × (shown places.now i role ≡ Some child) }

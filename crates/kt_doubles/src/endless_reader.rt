@@ -1,16 +1,16 @@
 use std::io;
 use std::io::{ErrorKind, Read};
 
-/// A `Read` that never reaches an end, and whose reads fail after the first `reads` of them.
+/// A `Read` without an end. After `reads` reads, each further read fails.
 #[derive(Drop)]
 pub struct EndlessReader {
     /// The maximum number of bytes that a read returns.
     pub piece: usize,
-    /// The number of remaining reads before the first that fails.
+    /// The number of reads that succeed from now on, before the first that fails.
     pub reads: u64,
     /// `true` if reads fail with `Interrupted`, `false` if they fail with `Other`.
     pub interrupted: bool,
-    /// The number of bytes that were returned.
+    /// The number of bytes that the reads returned.
     pub given: usize,
     /// The number of reads that failed.
     pub failed: u64,

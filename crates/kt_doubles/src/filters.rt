@@ -1,7 +1,7 @@
 use kt_base::Text;
 use kt_examples::{
-    Example, ExampleFault, ExampleLine, ExampleOutput, Result, both, due, halves, numbered,
-    push_made, text_of,
+    Example, ExampleFault, ExampleLine, ExampleOutput, Result, due, expand_numbered, push_or_fail,
+    split_required, unescape_text, zip_results,
 };
 use kt_suite::{Filter, FilterFault, Item, check_disjoint, select};
 use std::alloc::Global;
@@ -9,26 +9,32 @@ use std::alloc::Global;
 /// The state of an example: its cases and its filters.
 #[derive(Drop)]
 struct FilterExample {
+    /// The cases, in the order of their lines.
     items: Vec<Item>,
+    /// The filters, in the order of their lines.
     filters: Vec<Filter>,
 }
 
-/// Parses a case from `PATH CASE`, split at the first space.
-fn item_of(alloc: Global, raw: &str) -> Result<Item> {
-    let (path, case_name) = halves(raw, " ", "a case stands after a path")?;
-    let (path, case_name) = both(text_of(alloc, path), text_of(alloc, case_name))?;
+/// Parses a case from `raw`, which is `PATH CASE`, split at the first space.
+fn parse_item(alloc: Global, raw: &str) -> Result<Item> {
+    let (path, case_name) = split_required(raw, " ", "a case stands after a path")?;
+    let (path, case_name) = zip_results(
+        unescape_text(alloc, path),
+        unescape_text(alloc, case_name),
+    )?;
     Ok(Item { path, case_name })
 }
 
-/// Parses a filter. Fails if the filter is rejected.
-fn filter_of(alloc: Global, raw: &str) -> Result<Filter> {
-    let filter = Filter::parse(alloc, &text_of(alloc, raw)?).ok();
+/// Parses `raw` as a filter. Fails if `Filter::parse` rejects `raw`.
+fn parse_filter(alloc: Global, raw: &str) -> Result<Filter> {
+    let filter = Filter::parse(alloc, &unescape_text(alloc, raw)?).ok();
     due(filter, "a filter that is refused is asked for by `read`")
 }
 
-/// Parses a filter, and appends its parts, as `d/b, case main`, or the error's message.
-fn push_read(out: &mut ExampleOutput, raw: &str) -> Result<()> {
-    match Filter::parse(out.alloc, &text_of(out.alloc, raw)?) {
+/// Parses `raw` as a filter, and appends the parts of the filter, as `d/b, case main`, or the
+/// error's message.
+fn push_parsed_filter(out: &mut ExampleOutput, raw: &str) -> Result<()> {
+    match Filter::parse(out.alloc, &unescape_text(out.alloc, raw)?) {
         Ok(filter) => {
             out.push(filter.program.as_str());
             if let Some(case_name) = &filter.case_name {
@@ -40,8 +46,9 @@ fn push_read(out: &mut ExampleOutput, raw: &str) -> Result<()> {
     Ok(())
 }
 
-/// Appends `word` and then the positions, each after a space, or ` none` without positions.
-fn push_places(out: &mut ExampleOutput, word: &str, places: &[usize]) {
+/// Appends `word`, followed by each of the positions `places` after a space, or by ` none` without
+/// positions.
+fn push_position_list(out: &mut ExampleOutput, word: &str, places: &[usize]) {
     out.push(word);
     for place in places {
         write!(out, " {place}");
@@ -51,7 +58,7 @@ fn push_places(out: &mut ExampleOutput, word: &str, places: &[usize]) {
     }
 }
 
-/// Checks that filters are disjoint, and appends `disjoint` or the error with its position.
+/// Checks that `filters` are disjoint, and appends `disjoint` or the error with its position.
 fn push_disjoint(out: &mut ExampleOutput, filters: &[Filter]) {
     match check_disjoint(filters) {
         Ok(()) => out.push("disjoint"),
@@ -62,31 +69,31 @@ fn push_disjoint(out: &mut ExampleOutput, filters: &[Filter]) {
 }
 
 impl FilterExample {
-    /// Adds a filter or a case to the example.
+    /// Adds the filter or the case in `raw` to the example, as the keyword `word` selects.
     fn add(&mut self, alloc: Global, word: &str, raw: &str) -> Result<()> {
         match word {
-            "filter" | "filters" => push_made(&mut self.filters, filter_of(alloc, raw)),
-            _ => push_made(&mut self.items, item_of(alloc, raw)),
+            "filter" | "filters" => push_or_fail(&mut self.filters, parse_filter(alloc, raw)),
+            _ => push_or_fail(&mut self.items, parse_item(alloc, raw)),
         }
     }
 
-    /// Executes a line, which adds filters or cases or is a query, and appends the output of a
+    /// Executes `line`, which adds filters or cases or is a query, and appends the output of a
     /// query.
     fn take(&mut self, out: &mut ExampleOutput, line: &ExampleLine<'_>) -> Result<()> {
         match line.word {
             "filter" | "item" => self.add(out.alloc, line.word, line.text),
             "filters" | "items" => {
-                for text in numbered(out.alloc, line.text)?.as_slice() {
+                for text in expand_numbered(out.alloc, line.text)?.as_slice() {
                     self.add(out.alloc, line.word, text.as_str())?;
                 }
                 Ok(())
             }
-            _ => self.push_told(out, line),
+            _ => self.push_query_output(out, line),
         }
     }
 
-    /// Appends `yes` or `no` for each filter, which is compared with a case or with a program.
-    /// Without `case_name`, `yes` means that the filter may match a case of the program.
+    /// Appends `yes` for each filter that matches the case `case_name` of the program at `path`,
+    /// else `no`. Without `case_name`, `yes` means that the filter may match a case of the program.
     fn push_matches(&self, out: &mut ExampleOutput, path: &Text, case_name: Option<&Text>) {
         let mut separator = "";
         for filter in self.filters.as_slice() {
@@ -101,40 +108,41 @@ impl FilterExample {
 
     /// Appends the positions of the selected cases and of the filters that match no case. The
     /// output is `cases 0 2, unmatched none`, or `2 cases, 0 unmatched` if `brief` is set.
-    fn push_selected(&self, out: &mut ExampleOutput, brief: bool) {
+    fn push_selection(&self, out: &mut ExampleOutput, brief: bool) {
         match select(out.alloc, &self.items, &self.filters) {
             Ok(found) if brief => {
                 let (cases, unmatched) = (found.cases.len(), found.unmatched.len());
                 write!(out, "{cases} cases, {unmatched} unmatched");
             }
             Ok(found) => {
-                push_places(out, "cases", &found.cases);
-                push_places(out, ", unmatched", &found.unmatched);
+                push_position_list(out, "cases", &found.cases);
+                push_position_list(out, ", unmatched", &found.unmatched);
             }
             Err(fault) => write!(out, "{fault}"),
         }
     }
 
-    /// Executes the query in a line, and appends its output as a new line.
-    fn push_told(&self, out: &mut ExampleOutput, line: &ExampleLine<'_>) -> Result<()> {
+    /// Executes the query in `line`, and appends its output as a new line.
+    fn push_query_output(&self, out: &mut ExampleOutput, line: &ExampleLine<'_>) -> Result<()> {
         out.separate("\n");
         match line.word {
-            "read" => return push_read(out, line.text),
+            "read" => return push_parsed_filter(out, line.text),
             "matches" => {
-                let item = item_of(out.alloc, line.text)?;
+                let item = parse_item(out.alloc, line.text)?;
                 self.push_matches(out, &item.path, Some(&item.case_name));
             }
-            "may-match" => self.push_matches(out, &text_of(out.alloc, line.text)?, None),
+            "may-match" => self.push_matches(out, &unescape_text(out.alloc, line.text)?, None),
             "disjoint" => push_disjoint(out, &self.filters),
-            "select" => self.push_selected(out, false),
-            "count" => self.push_selected(out, true),
+            "select" => self.push_selection(out, false),
+            "count" => self.push_selection(out, true),
             _ => return Err(ExampleFault::InvalidExample("no such word")),
         }
         Ok(())
     }
 }
 
-/// Executes the lines of an example about filters in order, and appends a line for each query.
+/// Executes the lines of `row`, an example about filters, in order, and appends a line for each
+/// query.
 ///
 /// # Errors
 ///

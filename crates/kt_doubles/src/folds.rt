@@ -1,10 +1,11 @@
 use kt_examples::ExampleOutput;
 
 /// The maximum number of lines of a folded block, plus 1.
-const MAX_BLOCK_LINES: usize = 12;
+const BLOCK_LINES_END: usize = 12;
 
-/// Returns the number of consecutive copies of the block of `length` lines at index `at`.
-fn times_at(lines: &[&str], at: usize, length: usize) -> usize {
+/// Returns the number of consecutive copies of the block of `length` lines at index `at` of
+/// `lines`.
+fn count_copies(lines: &[&str], at: usize, length: usize) -> usize {
     let (_, rest) = lines.split_at(at.min(lines.len()));
     let (first, _) = rest.split_at(length.min(rest.len()));
     rest.chunks(length.max(1))
@@ -12,12 +13,12 @@ fn times_at(lines: &[&str], at: usize, length: usize) -> usize {
         .count()
 }
 
-/// Returns the length of the shortest block at index `at` that repeats, and the number of its
-/// copies. A single line must occur at least twice, a longer block three times. Without such a
-/// block, the result is 1 line and 1 copy.
-fn block_at(lines: &[&str], at: usize) -> (usize, usize) {
-    for length in 1..MAX_BLOCK_LINES {
-        let times = times_at(lines, at, length);
+/// Returns the length of the shortest block at index `at` of `lines` that repeats, and the number
+/// of its copies. A single line must occur at least twice, a longer block three times. Without such
+/// a block, the result is 1 line and 1 copy.
+fn find_block(lines: &[&str], at: usize) -> (usize, usize) {
+    for length in 1..BLOCK_LINES_END {
+        let times = count_copies(lines, at, length);
         if times > 2 || (length == 1 && times == 2) {
             return (length, times);
         }
@@ -25,7 +26,7 @@ fn block_at(lines: &[&str], at: usize) -> (usize, usize) {
     (1, 1)
 }
 
-/// Appends the lines of a block, and the number of its copies if there are several.
+/// Appends the lines `block` of a block, and the number `times` of its copies if there are several.
 fn push_block(out: &mut ExampleOutput, block: &[&str], times: usize) {
     let mut separator = if block.len() > 1 { "(" } else { "" };
     for line in block {
@@ -38,15 +39,15 @@ fn push_block(out: &mut ExampleOutput, block: &[&str], times: usize) {
     }
 }
 
-/// Appends lines with commas between them, and consecutive copies of a block only once:
-/// `poll 0 x100`, or `(poll 0, pause) x99`.
-pub fn push_repeated(out: &mut ExampleOutput, lines: &[&str]) {
+/// Appends `lines` with commas between them, and consecutive copies of a block only once: `poll 0
+/// x100`, or `(poll 0, pause) x99`.
+pub fn push_folded(out: &mut ExampleOutput, lines: &[&str]) {
     let mut at: usize = 0;
     for _ in 0..lines.len() {
         if at >= lines.len() {
             break;
         }
-        let (length, times) = block_at(lines, at);
+        let (length, times) = find_block(lines, at);
         if at > 0 {
             out.push(", ");
         }

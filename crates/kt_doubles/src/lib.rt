@@ -1,14 +1,16 @@
-//! Test doubles of a launcher, a system and a sink, and the examples that need them.
+//! Test doubles of a launcher, a system, a sink and a store, and the examples that need them.
 #![tactic(auto)]
 
 mod children;
 mod endless_reader;
+mod entry_copies;
+mod example_store;
+mod failing_calls;
 mod filters;
 mod folds;
+mod mem_runs;
 mod memory_sink;
 mod plans;
-mod refusals;
-mod run_calls;
 mod scene;
 mod scene_reading;
 mod schedules;
@@ -17,11 +19,12 @@ mod scripted_system;
 mod store_calls;
 mod systems;
 
+pub use example_store::{ExampleStore, SplitReadStore};
+pub use failing_calls::FailingCalls;
 use kt_examples::{Example, ExampleOutput, Result};
-pub use refusals::FailingCalls;
-pub use run_calls::{PartwiseStore, RunCalls};
+pub use mem_runs::MemRuns;
 pub use scene::{Scene, fail_allocation};
-pub use scene_reading::{failure, scene_of, shortage};
+pub use scene_reading::{parse_scene, provoke_store_error, shortage};
 pub use scripted_system::ScriptedSystem;
 pub use store_calls::{push_call, push_runs, state_text};
 pub use systems::push_calls;
@@ -30,15 +33,19 @@ pub use systems::push_calls;
 ///
 /// # Errors
 ///
-/// - `InvalidExample`: neither this crate nor kt_examples has such a subject, or `row` doesn't have the
-///   format of its subject.
+/// - `InvalidExample`: neither this crate nor kt_examples has such a subject, or `row` doesn't have
+///   the format of its subject.
 /// - `NoMemory`: an allocation failed. A failed append to `out` is returned by `ExampleOutput::end`
 ///   instead.
-pub fn push_answer(out: &mut ExampleOutput, subject: &str, row: &Example<'_>) -> Result<()> {
+pub fn push_example_output(
+    out: &mut ExampleOutput,
+    subject: &str,
+    row: &Example<'_>,
+) -> Result<()> {
     match subject {
         "filters" => filters::answer(out, row),
         "schedules" => schedules::answer(out, row),
         "systems" => systems::answer(out, row),
-        _ => kt_examples::push_answer(out, subject, row),
+        _ => kt_examples::push_example_output(out, subject, row),
     }
 }

@@ -44,10 +44,10 @@ pub struct Scene {
     pub files: Vec<SceneFile>,
     /// The contents of every other file, or `None` if other files are missing.
     pub others: Option<Vec<u8>>,
-    /// The range of calls of the system that fail: the number of the first, counted from 0, and
-    /// that of the last plus 1.
+    /// The range of calls of the system that fail: the number of the first, counted from 0, and the
+    /// number of the last plus 1.
     pub failing: (u32, u32),
-    /// The failed allocation that is the error of these calls, or `None` for another error.
+    /// The failed allocation that these calls return as their error, or `None` for another error.
     pub shortage: Option<NoMemory>,
     /// The fault of reading a file in parts.
     pub part_fault: PartFault,
@@ -86,7 +86,7 @@ impl Scene {
     /// Returns the contents of the file at `path`, or `None` if the file is missing.
     pub fn bytes_at(&self, path: &str) -> Option<&[u8]> {
         for file in self.files.as_slice() {
-            if is_path_of(file.path.as_str(), path) {
+            if matches_path(file.path.as_str(), path) {
                 return Some(file.bytes.as_slice());
             }
         }
@@ -96,12 +96,12 @@ impl Scene {
     /// Returns `true` if the scene has `path` with the keyword `word`.
     pub fn has(&self, word: &str, path: &str) -> bool {
         let mut paths = self.paths.as_slice().iter();
-        paths.any(|(known, pattern)| known.as_str() == word && is_path_of(pattern.as_str(), path))
+        paths.any(|(known, pattern)| known.as_str() == word && matches_path(pattern.as_str(), path))
     }
 }
 
 /// Returns `true` if `path` is `pattern`, in which the first `*` represents any text without `/`.
-fn is_path_of(pattern: &str, path: &str) -> bool {
+fn matches_path(pattern: &str, path: &str) -> bool {
     let Some((front, back)) = pattern.split_once('*') else {
         return pattern == path;
     };

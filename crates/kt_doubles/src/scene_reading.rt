@@ -5,14 +5,14 @@ use crate::{Scene, fail_allocation};
 use kt_base::{NoMemory, Outcome, Text};
 use kt_child::Polled;
 use kt_examples::{
-    Example, ExampleFault, ExampleLine, HEADER, Result, append, asked, both, count, due, ending_of,
-    halves, numbers_of, push_made, text_of,
+    Example, ExampleFault, ExampleLine, HEADER, Result, append, convert_error, count, due,
+    parse_numbers, parse_outcome, push_or_fail, split_required, unescape_text, zip_results,
 };
-use kt_store::{FailedStatement, Results, StoreFault};
+use kt_store::{DatabaseFailure, Results, StoreFault};
 use sqlite::Connection;
 use std::alloc::Global;
 
-/// Returns the error of a real allocation that failed.
+/// Provokes a failed allocation, and returns its error.
 ///
 /// # Errors
 ///
@@ -21,13 +21,13 @@ pub fn shortage(alloc: Global) -> Result<NoMemory> {
     due(fail_allocation(alloc).err(), "this machine has all memory")
 }
 
-/// Returns the error of a real statement that failed, in a database that lacks the results tables.
+/// Provokes a failed statement in a database that lacks the results tables, and returns its error.
 ///
 /// # Errors
 ///
 /// - `InvalidExample`: no statement failed.
 /// - `NoMemory`: the allocation of the database failed.
-pub fn failure(alloc: Global) -> Result<FailedStatement> {
+pub fn provoke_store_error(alloc: Global) -> Result<DatabaseFailure> {
     let mut conn = Connection::open_in_memory(alloc)?;
     let _ = conn.execute("CREATE TABLE other (id INTEGER)", &[]);
     match Results::attach(alloc, conn) {
@@ -37,14 +37,14 @@ pub fn failure(alloc: Global) -> Result<FailedStatement> {
     }
 }
 
-/// Parses the script of a child: an outcome, or `running xN, ` and an outcome. The outcome is an
-/// exit or a signal.
+/// Parses `text` as the script of a child: an outcome, or `running xN, ` and an outcome. The
+/// outcome is an exit or a signal.
 fn child_script(text: &str) -> Result<ChildScript> {
     let (running, ending) = match text.strip_prefix("running x") {
         None => ("0", text),
-        Some(rest) => halves(rest, ", ", "a life is `running xN, ` and an ending")?,
+        Some(rest) => split_required(rest, ", ", "a life is `running xN, ` and an ending")?,
     };
-    let ending = match ending_of(ending)? {
+    let ending = match parse_outcome(ending)? {
         Outcome::Exited(code) => Polled::Exited(code),
         Outcome::Signaled(signal, core) => Polled::Signaled(signal, core),
         _ => return Err(ExampleFault::InvalidExample("a child exits or is ended by a signal")),
@@ -55,27 +55,28 @@ fn child_script(text: &str) -> Result<ChildScript> {
     })
 }
 
-/// Adds a file to a scene. Its contents are `beginning` and then `raw` with its escapes decoded.
-fn take_file(scene: &mut Scene, path: &str, beginning: &str, raw: &str) -> Result<()> {
-    let path = text_of(scene.alloc, path)?.into_string();
+/// Adds the file at `path` to `scene`. The contents of the file are `beginning`, followed by `raw`
+/// with its escapes decoded.
+fn add_file(scene: &mut Scene, path: &str, beginning: &str, raw: &str) -> Result<()> {
+    let path = unescape_text(scene.alloc, path)?.into_string();
     let mut bytes = beginning.as_bytes().to_vec(scene.alloc)?;
     append(scene.alloc, &mut bytes, raw)?;
-    asked(scene.files.push(SceneFile { path, bytes }))
+    convert_error(scene.files.push(SceneFile { path, bytes }))
 }
 
-/// Appends `raw` with its escapes decoded, and a newline, to the last file of a scene.
+/// Appends `raw` with its escapes decoded, and a newline, to the last file of `scene`.
 fn add_line(scene: &mut Scene, raw: &str) -> Result<()> {
     let alloc = scene.alloc;
     let file = due(scene.files.last_mut(), "a line without a file")?;
     append(alloc, &mut file.bytes, raw)?;
-    asked(file.bytes.push(b'\n'))
+    convert_error(file.bytes.push(b'\n'))
 }
 
-/// Adds the path in a line to a scene, with the line's keyword.
+/// Adds the path in `line` to `scene`, with the keyword of the line.
 fn add_path(scene: &mut Scene, line: &ExampleLine<'_>) -> Result<()> {
-    let word = asked(String::from_str(scene.alloc, line.word));
-    let path = text_of(scene.alloc, line.text).map(Text::into_string);
-    push_made(&mut scene.paths, both(word, path))
+    let word = convert_error(String::from_str(scene.alloc, line.word));
+    let path = unescape_text(scene.alloc, line.text).map(Text::into_string);
+    push_or_fail(&mut scene.paths, zip_results(word, path))
 }
 
 /// Parses the range of the calls that fail, counted from 0: `N` for one call, or `N M` for the
@@ -89,33 +90,33 @@ pub fn parse_call_range(text: &str) -> Result<(u32, u32)> {
     Ok((count(first)?, count(last)?.saturating_add(1)))
 }
 
-/// Adds the file, the script of a child, the path or the calls that a line describes to a scene.
+/// Adds the file, the script of a child, the path or the calls that `line` describes to `scene`.
 /// Other lines are ignored.
 fn take(scene: &mut Scene, line: &ExampleLine<'_>) -> Result<()> {
     let text = line.text;
     let (path, rest) = text.split_once(' ').unwrap_or((text, ""));
     match line.word {
-        "life" => push_made(&mut scene.lives, child_script(text)),
-        "holds" | "config" => take_file(scene, path, "", rest),
-        "lists" => take_file(scene, path, HEADER, rest),
-        "Kyuafile" => take_file(scene, "Kyuafile", "", text),
-        "file" => take_file(scene, text, "", ""),
+        "life" => push_or_fail(&mut scene.lives, child_script(text)),
+        "holds" | "config" => add_file(scene, path, "", rest),
+        "lists" => add_file(scene, path, HEADER, rest),
+        "Kyuafile" => add_file(scene, "Kyuafile", "", text),
+        "file" => add_file(scene, text, "", ""),
         "|" => add_line(scene, text),
         "program" | "locked" | "dear" | "found-file" | "found-program" => add_path(scene, line),
-        word => add_calls(scene, word, text),
+        word => add_clock_or_faults(scene, word, text),
     }
 }
 
-/// Adds the timestamps or the failing calls that a line describes to a scene. Other lines are
-/// ignored.
-fn add_calls(scene: &mut Scene, word: &str, text: &str) -> Result<()> {
+/// Adds the timestamps or the failing calls in a line of the keyword `word` and the text `text` to
+/// `scene`. Other lines are ignored.
+fn add_clock_or_faults(scene: &mut Scene, word: &str, text: &str) -> Result<()> {
     let alloc = scene.alloc;
     match word {
         "clock" | "moments" => {
-            scene.moments = numbers_of(alloc, text)?;
+            scene.moments = parse_numbers(alloc, text)?;
             scene.step = u64::from(word == "clock");
         }
-        "now" => scene.clock = numbers_of(alloc, text)?,
+        "now" => scene.clock = parse_numbers(alloc, text)?,
         "fails" => scene.failing = parse_call_range(text)?,
         "refuses" => {
             scene.failing = parse_call_range(text)?;
@@ -129,14 +130,15 @@ fn add_calls(scene: &mut Scene, word: &str, text: &str) -> Result<()> {
     Ok(())
 }
 
-/// Parses the lines of an example into a scene, and ignores lines that don't describe a system or
-/// host files.
+/// Parses the lines of the example `row` into a scene, and ignores lines that don't describe a
+/// system or host files.
 ///
 /// # Errors
 ///
-/// - `InvalidExample`: the text after one of the keywords is invalid, or a line `|` precedes all files.
+/// - `InvalidExample`: the text after one of the keywords is invalid, or a line `|` precedes all
+///   files.
 /// - `NoMemory`: an allocation failed.
-pub fn scene_of(alloc: Global, row: &Example<'_>) -> Result<Scene> {
+pub fn parse_scene(alloc: Global, row: &Example<'_>) -> Result<Scene> {
     let mut scene = Scene::new(alloc);
     scene.others = row.bytes(alloc, "others")?;
     for line in row.entries.as_slice() {

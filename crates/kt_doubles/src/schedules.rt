@@ -1,11 +1,14 @@
 use crate::memory_sink::MemorySink;
-use crate::plans::plan_of;
+use crate::plans::create_plan;
 use crate::scripted_launcher::ScriptedLauncher;
 use kt_base::{Entry, Variables};
-use kt_examples::{Example, ExampleOutput, Result, both, number_to, numbers_of, push_entries};
+use kt_examples::{
+    Example, ExampleOutput, Result, parse_number_up_to, parse_numbers, push_entries, zip_results,
+};
 use kt_sched::{MAX_WIDTH, RunFault, Totals, run_cases};
 
-/// Appends the calls of the launcher, and a line with the positions of the entries in put order.
+/// Appends the calls of the launcher in `log`, and a line with the positions of `entries` in the
+/// order of their puts.
 fn push_calls_and_puts(out: &mut ExampleOutput, log: &str, entries: &[Entry]) {
     for call in log.lines() {
         out.separate(", ");
@@ -17,9 +20,9 @@ fn push_calls_and_puts(out: &mut ExampleOutput, log: &str, entries: &[Entry]) {
     }
 }
 
-/// Returns the numbers of start calls for bodies and for cleanups, and the maximum number of
-/// children at once. A start that fails counts as a child that never ends.
-fn counts(log: &str) -> (usize, usize, usize) {
+/// Returns the numbers of start calls in `log` for bodies and for cleanups, and the maximum number
+/// of children at once. A failed start counts as a start of a child that never ends.
+fn count_starts(log: &str) -> (usize, usize, usize) {
     let (mut bodies, mut cleanups, mut ended, mut most) = (0usize, 0usize, 0usize, 0usize);
     for call in log.lines() {
         if call.starts_with("end ") {
@@ -34,9 +37,10 @@ fn counts(log: &str) -> (usize, usize, usize) {
     (bodies, cleanups, most)
 }
 
-/// Appends a summary of a run: `20 bodies, 10 cleanups, at most 4 at once; 20 entries by position`.
+/// Appends a summary of a run with the calls `log` and the entries `entries`: `20 bodies, 10
+/// cleanups, at most 4 at once; 20 entries by position`.
 fn push_run_summary(out: &mut ExampleOutput, log: &str, entries: &[Entry]) {
-    let (bodies, cleanups, most) = counts(log);
+    let (bodies, cleanups, most) = count_starts(log);
     write!(out, "{bodies} bodies, {cleanups} cleanups, ");
     write!(out, "at most {most} at once; {} entries ", entries.len());
     let are_by_position = entries.is_sorted_by(|one, next| one.position < next.position);
@@ -47,8 +51,8 @@ fn push_run_summary(out: &mut ExampleOutput, log: &str, entries: &[Entry]) {
     });
 }
 
-/// Appends the totals of a run, as `3 good, 1 bad of 4`, or its error. The line `moments` of an
-/// example adds the entries with their times.
+/// Appends `end`, the result of a run, as `3 good, 1 bad of 4`, or its error. The line `moments` of
+/// the example `row` adds `entries` with their times.
 fn push_run_result(
     out: &mut ExampleOutput,
     row: &Example<'_>,
@@ -65,8 +69,8 @@ fn push_run_result(
     }
 }
 
-/// Executes a plan over a scripted launcher and a sink in memory, and appends the calls and totals.
-/// The line `brief` replaces the calls and puts by a summary.
+/// Executes the plan of the example `row` over a scripted launcher and a sink in memory, and
+/// appends the calls and totals. The line `brief` replaces the calls and puts by a summary.
 ///
 /// # Errors
 ///
@@ -74,17 +78,17 @@ fn push_run_result(
 /// - `NoMemory`: an allocation failed.
 pub fn answer(out: &mut ExampleOutput, row: &Example<'_>) -> Result<()> {
     let alloc = out.alloc;
-    let width = number_to(row.text("width"), MAX_WIDTH)?;
+    let width = parse_number_up_to(row.text("width"), MAX_WIDTH)?;
     let failing = row.number("failing", 0)? as usize;
     let letters = row.required_bytes(alloc, "plan", "no plan");
-    let ends = numbers_of(alloc, row.text("ends").unwrap_or(""));
-    let moments = numbers_of(alloc, row.text("moments").unwrap_or(""));
-    let (letters, (ends, moments)) = both(letters, both(ends, moments))?;
-    let plan = plan_of(alloc, "p", &letters, 300, &Variables::new(alloc))?;
+    let ends = parse_numbers(alloc, row.text("ends").unwrap_or(""));
+    let moments = parse_numbers(alloc, row.text("moments").unwrap_or(""));
+    let (letters, (ends, moments)) = zip_results(letters, zip_results(ends, moments))?;
+    let plan = create_plan(alloc, "p", &letters, 300, &Variables::new(alloc))?;
     let mut launcher = ScriptedLauncher::new(alloc, &letters, &ends, &moments);
     let mut sink = MemorySink::new(alloc, failing);
     let end = run_cases(alloc, plan, width, &mut launcher, &mut sink);
-    let (log, entries) = (launcher.log.so_far()?, sink.entries.as_slice());
+    let (log, entries) = (launcher.log.text_so_far()?, sink.entries.as_slice());
     if row.text("brief").is_some() {
         push_run_summary(out, log, entries);
     } else {

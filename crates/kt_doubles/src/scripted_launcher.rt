@@ -1,10 +1,10 @@
 ghost use Rattle.std.specs.Prelude.{◌≡◌, ℕ, None, false};
 ghost use Rattle.kt_base.specs.declared.child.Role.{Role};
 ghost use Rattle.kt_sched.specs.Children.{IsEvidence, IsIdle};
-ghost use Rattle.kt_doubles.specs.Children.{shown, owed};
+ghost use Rattle.kt_doubles.specs.Children.{shown, is_cleanup_pending};
 
 use crate::children::{ChildSlot, ChildSlots, MAX_POSITIONS, free_slots, running_child, write};
-use crate::plans::is_refused;
+use crate::plans::is_start_refused;
 use kt_base::{Bytes, Interface, LATEST_MOMENT_MILLIS, Outcome, Output, Refused, Role};
 use kt_claim::{Claim, Evidence, Tap};
 use kt_examples::ExampleOutput;
@@ -29,9 +29,9 @@ pub struct ScriptedLauncher<'a> {
     pub places: ChildSlots,
 }
 
-/// Returns the evidence of a child that passed: that of the interface for a body, and `Plain` for a
-/// cleanup.
-fn evidence_of(interface: Interface, role: Role) -> Evidence
+/// Returns the evidence of a child in `role` that passed: that of `interface` for a body, and
+/// `Plain` for a cleanup.
+fn passing_evidence(interface: Interface, role: Role) -> Evidence
     ensures { IsEvidence interface role result }
 {
     match role {
@@ -44,7 +44,8 @@ fn evidence_of(interface: Interface, role: Role) -> Evidence
     }
 }
 
-/// Returns the next timestamp, and removes it unless it is the last. Returns 0 without timestamps.
+/// Returns the first timestamp of `moments`, and removes it unless it is the last. Returns 0
+/// without timestamps.
 fn next_moment(moments: &mut &[u64]) -> u64 {
     match moments.split_first() {
         None => 0,
@@ -57,7 +58,8 @@ fn next_moment(moments: &mut &[u64]) -> u64 {
     }
 }
 
-/// Removes and returns the next position whose child ends, or returns `MAX_POSITIONS` if none remains.
+/// Removes and returns the first position of `ends`, whose child ends next. Returns `MAX_POSITIONS`
+/// if no position remains or it exceeds 2^32 - 1.
 fn next_end(ends: &mut &[u64]) -> u32 {
     match ends.split_first() {
         None => MAX_POSITIONS,
@@ -68,8 +70,9 @@ fn next_end(ends: &mut &[u64]) -> u32 {
     }
 }
 
-/// Appends a line for a call to the log: `word`, and the role and the position of the child.
-fn note(log: &mut ExampleOutput, word: &str, position: u32, role: Role) {
+/// Appends a line for a call to `log`: `word`, and the role `role` and the position `position` of
+/// the child.
+fn log_call(log: &mut ExampleOutput, word: &str, position: u32, role: Role) {
     let role = match role {
         Role::Body => "",
         Role::Cleanup => "cleanup ",
@@ -87,7 +90,7 @@ impl<'a> ScriptedLauncher<'a> {
         ends: &'a [u64],
         moments: &'a [u64],
     ) -> ScriptedLauncher<'a>
-        ensures { IsIdle (shown result.places) (owed result.places) }
+        ensures { IsIdle (shown result.places) (is_cleanup_pending result.places) }
     {
         ScriptedLauncher {
             letters,
@@ -102,7 +105,7 @@ impl<'a> ScriptedLauncher<'a> {
 impl Launcher for ScriptedLauncher<'_> {
     ghost running = { λ s. shown s.places };
 
-    ghost pending = { λ s. owed s.places };
+    ghost pending = { λ s. is_cleanup_pending s.places };
 
     ghost starts = { λ s job role a t. Unit {0} };
 
@@ -110,11 +113,11 @@ impl Launcher for ScriptedLauncher<'_> {
 
     fn start(&mut self, job: &Job, role: Role) -> StartAnswer {
         let moment = next_moment(&mut self.moments);
-        note(&mut self.log, "start", job.position, role);
+        log_call(&mut self.log, "start", job.position, role);
         if job.position >= MAX_POSITIONS {
             return StartAnswer::Refused(Refused::Spawn);
         }
-        if is_refused(self.letters, job.position, role) {
+        if is_start_refused(self.letters, job.position, role) {
             write(&mut self.places, job.position, ChildSlot::Free);
             return StartAnswer::Refused(Refused::Output);
         }
@@ -129,10 +132,10 @@ impl Launcher for ScriptedLauncher<'_> {
     fn wait(&mut self) -> Ended {
         let next = next_end(&mut self.ends);
         let (position, (role, interface, cleanup)) = running_child(&self.places, next);
-        note(&mut self.log, "end", position, role);
+        log_call(&mut self.log, "end", position, role);
         let moment = next_moment(&mut self.moments);
         let left = match role {
-            Role::Body if cleanup => ChildSlot::Owed,
+            Role::Body if cleanup => ChildSlot::CleanupPending,
             _ => ChildSlot::Free,
         };
         write(&mut self.places, position, left);
@@ -140,7 +143,7 @@ impl Launcher for ScriptedLauncher<'_> {
             position,
             role,
             outcome: Outcome::Exited(0),
-            evidence: evidence_of(interface, role),
+            evidence: passing_evidence(interface, role),
             output: Output {
                 out: Bytes::new(self.log.alloc),
                 err: Bytes::new(self.log.alloc),

@@ -1,4 +1,4 @@
-ghost use Rattle.kt_child.specs.Ending.Reads.{IsReadWithin};
+ghost use Rattle.kt_os.specs.System.Reads.{IsReadWithin};
 
 use crate::Scene;
 use crate::scene::{ChildScript, PartFault};
@@ -11,14 +11,14 @@ use kt_examples::ExampleOutput;
 /// error.
 #[derive(Drop)]
 pub struct ScriptedSystem<'a> {
-    /// The script.
+    /// The script that the system follows.
     scene: &'a Scene,
-    /// The number of calls so far that the scene can make fail.
+    /// The number of calls so far, without those of `set_limit`, which can't fail.
     calls: u32,
     /// The children in the order of their starts, each with the number of polls that found it
     /// running.
     children: Vec<(Child, u32)>,
-    /// The number of the scene's timestamps that were returned.
+    /// The number of the scene's timestamps that `now` has returned.
     told: usize,
     /// The last timestamp that was returned, in milliseconds since 1970 in UTC.
     moment: u64,
@@ -29,16 +29,18 @@ pub struct ScriptedSystem<'a> {
     pub spawned: ExampleOutput,
 }
 
-/// Returns the script of the child with index `number` in the order of starts.
+/// Returns the script in `lives` of the child with index `number` in the order of starts. Later
+/// children have the last script.
 fn child_script(lives: &[ChildScript], number: usize) -> ChildScript {
     let ending = Polled::Exited(0);
     let life = lives.get(number).or(lives.last());
     life.copied().unwrap_or(ChildScript { running: 0, ending })
 }
 
-/// Returns the result of a poll of a child, and counts the poll if the child is running. A child
-/// that wasn't started has exited with 99.
-fn status_of(lives: &[ChildScript], children: &mut [(Child, u32)], child: Child) -> Polled {
+/// Returns the result of a poll of `child`, and counts the poll in `children` if the child is
+/// running. `lives` are the scripts of the children. A child that wasn't started has exited with
+/// 99.
+fn poll_child(lives: &[ChildScript], children: &mut [(Child, u32)], child: Child) -> Polled {
     for (number, (known, told)) in children.iter_mut().enumerate() {
         if *known == child {
             let life = child_script(lives, number);
@@ -52,8 +54,8 @@ fn status_of(lives: &[ChildScript], children: &mut [(Child, u32)], child: Child)
     Polled::Exited(99)
 }
 
-/// Returns at most `limit` bytes of a scripted file, from the byte at index `from` on. Reads with
-/// `from` above 0 have the scene's `PartFault`.
+/// Returns at most `limit` bytes of the file at `path` in `scene`, from the byte at index `from`
+/// on. A read with `from` above 0 has the scene's fault of partial reads.
 fn read(scene: &Scene, path: &Text, from: u64, limit: u64) -> Result<FileRead, OsFault>
     ensures { IsReadWithin limit result }
 {
@@ -76,7 +78,7 @@ fn read(scene: &Scene, path: &Text, from: u64, limit: u64) -> Result<FileRead, O
     }
 }
 
-/// Appends texts, each after a space.
+/// Appends `texts` to `line`, each after a space.
 fn push_texts(line: &mut ExampleOutput, texts: &[Text]) {
     for text in texts {
         write!(line, " {}", text.as_str());
@@ -113,13 +115,14 @@ impl<'a> ScriptedSystem<'a> {
         }
     }
 
-    /// Logs a call with its path, and fails if the scene makes this call fail.
+    /// Logs the call `word` with its path `path`, and fails if the scene makes this call fail.
     fn ask(&mut self, word: &str, path: &Text) -> Result<(), OsFault> {
         write!(self.log, "{word} {}", path.as_str());
         self.log_call_end()
     }
 
-    /// Appends `word` and a child to the log: its attempt number, after `cleanup` for a cleanup.
+    /// Appends `word` and the child `child` to the log: its attempt number, after `cleanup` for a
+    /// cleanup.
     fn push_child(&mut self, word: &str, child: Child) {
         let role = match child.role {
             Role::Body => "",
@@ -128,7 +131,7 @@ impl<'a> ScriptedSystem<'a> {
         write!(self.log, "{word} {role}{}", child.attempt);
     }
 
-    /// Logs a call with its child, and fails if the scene makes this call fail.
+    /// Logs the call `word` with its child `child`, and fails if the scene makes this call fail.
     fn log_child_call(&mut self, word: &str, child: Child) -> Result<(), OsFault> {
         self.push_child(word, child);
         self.log_call_end()
@@ -193,7 +196,7 @@ impl Os for ScriptedSystem<'_> {
     }
 
     fn poll(&mut self, child: Child) -> Result<Polled, OsFault> {
-        let status = status_of(self.scene.lives.as_slice(), &mut self.children, child);
+        let status = poll_child(self.scene.lives.as_slice(), &mut self.children, child);
         self.log_child_call("poll", child)?;
         Ok(status)
     }

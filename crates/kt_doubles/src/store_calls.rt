@@ -1,24 +1,24 @@
 //! Calls on a results store, and the output of each call.
 
-use crate::RunCalls;
+use crate::ExampleStore;
 use kt_base::LATEST_MOMENT_MILLIS;
 use kt_examples::{
-    ExampleFault, ExampleLine, ExampleOutput, Result, count, number, number_in, push_entries,
-    retried, storable_entry,
+    ExampleFault, ExampleLine, ExampleOutput, Result, count, number, number_in,
+    parse_storable_entry, push_entries, retry_once,
 };
 use kt_store::{RunHead, StoreFault};
 
 /// Appends `done`, or the name of the error of a call.
-fn push_done(out: &mut ExampleOutput, done: Result<(), StoreFault>) {
+fn push_done_or_error(out: &mut ExampleOutput, done: Result<(), StoreFault>) {
     match done {
         Ok(()) => out.push("done"),
         Err(fault) => out.name(&fault),
     }
 }
 
-/// Parses `TOTAL MOMENT`, begins `times` runs, and appends the number of the last run or the error.
-/// The default of MOMENT is 0, in milliseconds since 1970 in UTC.
-fn begin<R: RunCalls>(
+/// Parses `text`, which is `TOTAL MOMENT`, begins `times` runs in `results`, and appends the number
+/// of the last run or the error. The default of MOMENT is 0, in milliseconds since 1970 in UTC.
+fn begin<R: ExampleStore>(
     out: &mut ExampleOutput,
     results: &mut R,
     text: &str,
@@ -30,7 +30,7 @@ fn begin<R: RunCalls>(
     let mut last = Ok(0);
     for _ in 0..times {
         if last.is_ok() {
-            last = retried!(StoreFault, results.begin(total, moment));
+            last = retry_once!(StoreFault, results.begin(total, moment));
         }
     }
     match last {
@@ -40,9 +40,10 @@ fn begin<R: RunCalls>(
     Ok(())
 }
 
-/// Parses `RUN POSITION VERDICT`, and puts `times` entries from this position on. Appends `done` or
-/// the error of the first put that fails.
-fn put<R: RunCalls>(
+/// Parses `text`, which is `RUN POSITION VERDICT`, and puts `times` entries from this position on
+/// into `results`. The lines `content` describe the entries. Appends `done` or the error of the
+/// first put that fails.
+fn put<R: ExampleStore>(
     out: &mut ExampleOutput,
     results: &mut R,
     text: &str,
@@ -56,16 +57,16 @@ fn put<R: RunCalls>(
     let mut done = Ok(());
     for _ in 0..times {
         if done.is_ok() {
-            let entry = storable_entry(out.alloc, content, verdict, place)?;
-            done = retried!(StoreFault, results.put(run, &entry));
+            let entry = parse_storable_entry(out.alloc, content, verdict, place)?;
+            done = retry_once!(StoreFault, results.put(run, &entry));
             place = place.saturating_add(1);
         }
     }
-    push_done(out, done);
+    push_done_or_error(out, done);
     Ok(())
 }
 
-/// Returns `finished` or `unfinished`, the state of a run.
+/// Returns `finished` or `unfinished`, the state of the run with the head `head`.
 pub fn state_text(head: &RunHead) -> &'static str {
     if head.finished {
         "finished"
@@ -74,8 +75,9 @@ pub fn state_text(head: &RunHead) -> &'static str {
     }
 }
 
-/// Appends a run with the number of its entries, as `run 1 at 500: 2 of 3, unfinished`.
-fn push_run<R: RunCalls>(out: &mut ExampleOutput, results: &mut R, head: &RunHead) {
+/// Appends the run of `results` with the head `head`, and the number of its entries, as `run 1 at
+/// 500: 2 of 3, unfinished`.
+fn push_run<R: ExampleStore>(out: &mut ExampleOutput, results: &mut R, head: &RunHead) {
     match results.entries(head.number) {
         Ok(entries) => {
             let (count, state) = (entries.len(), state_text(head));
@@ -86,8 +88,8 @@ fn push_run<R: RunCalls>(out: &mut ExampleOutput, results: &mut R, head: &RunHea
     }
 }
 
-/// Appends the runs of a store, one per line, or their number if `is_brief` is set.
-pub fn push_runs<R: RunCalls>(out: &mut ExampleOutput, results: &mut R, is_brief: bool) {
+/// Appends the runs of `results`, one per line, or their number if `is_brief` is set.
+pub fn push_runs<R: ExampleStore>(out: &mut ExampleOutput, results: &mut R, is_brief: bool) {
     let heads = match results.runs() {
         Ok(heads) => heads,
         Err(fault) => return out.name(&fault),
@@ -103,8 +105,14 @@ pub fn push_runs<R: RunCalls>(out: &mut ExampleOutput, results: &mut R, is_brief
     }
 }
 
-/// Appends the part of a run's entries that `word` selects, or their number if `word` is `count`.
-fn push_run_entries<R: RunCalls>(out: &mut ExampleOutput, results: &mut R, word: &str, run: u64) {
+/// Appends the part of the entries of the run `run` that `word` selects, or their number if `word`
+/// is `count`. The entries are read from `results`.
+fn push_run_entries<R: ExampleStore>(
+    out: &mut ExampleOutput,
+    results: &mut R,
+    word: &str,
+    run: u64,
+) {
     match results.entries(run) {
         Ok(found) if word == "count" => write!(out, "{} entries", found.len()),
         Ok(found) => push_entries(out, word, found.as_slice()),
@@ -112,7 +120,7 @@ fn push_run_entries<R: RunCalls>(out: &mut ExampleOutput, results: &mut R, word:
     }
 }
 
-/// Executes the call of a line on a results store, and appends its output. The lines `content`
+/// Executes the call of `line` on the store `results`, and appends its output. The lines `content`
 /// below it have the number of repetitions and describe the entry of a put. An error of the store
 /// is part of the output.
 ///
@@ -120,7 +128,7 @@ fn push_run_entries<R: RunCalls>(out: &mut ExampleOutput, results: &mut R, word:
 ///
 /// - `InvalidExample`: the line isn't a call on a store, or an argument is invalid.
 /// - `NoMemory`: an allocation outside the store failed.
-pub fn push_call<R: RunCalls>(
+pub fn push_call<R: ExampleStore>(
     out: &mut ExampleOutput,
     results: &mut R,
     line: &ExampleLine<'_>,
@@ -132,7 +140,7 @@ pub fn push_call<R: RunCalls>(
         "put" => return put(out, results, line.text, content, times),
         "finish" => {
             let run = number(line.text)?;
-            push_done(out, retried!(StoreFault, results.finish(run)));
+            push_done_or_error(out, retry_once!(StoreFault, results.finish(run)));
         }
         "runs" => push_runs(out, results, false),
         "count-runs" => push_runs(out, results, true),

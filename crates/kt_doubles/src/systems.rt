@@ -3,20 +3,21 @@
 ghost use Rattle.kt_sched.specs.Plan.{IsPlan, IsWidth};
 
 use crate::endless_reader::EndlessReader;
-use crate::folds::push_repeated;
+use crate::folds::push_folded;
 use crate::memory_sink::MemorySink;
-use crate::plans::plan_of;
-use crate::scene_reading::{parse_call_range, scene_of};
+use crate::plans::create_plan;
+use crate::scene_reading::{parse_call_range, parse_scene};
 use crate::{Scene, ScriptedSystem};
 use kt_atflist::{ListBytes, Listing};
 use kt_base::{Entry, Interface, Items, Kind, Text, Variables};
-use kt_child::{Driver, DriverFault, FileRead, Os, read_front, read_start, run_driver};
+use kt_child::{Driver, DriverFault, FileRead, Os, run_driver};
 use kt_examples::{
-    Example, ExampleFault, ExampleOutput, Result, both, number, number_to, pairs_of, push_entries,
-    push_verdict, unescaped,
+    Example, ExampleFault, ExampleOutput, Result, number, parse_number_up_to, parse_pairs,
+    push_entries, push_verdict, unescape, zip_results,
 };
 use kt_metadata::Props;
-use kt_sched::{Job, MAX_TIMEOUT, MAX_WIDTH, RunFault, SinkFault};
+use kt_os::{read_and_peek, read_up_to};
+use kt_sched::{Job, MAX_TIMEOUT_SECONDS, MAX_WIDTH, RunFault, SinkFault};
 use kt_suite::Program;
 use std::alloc::Global;
 
@@ -35,9 +36,10 @@ struct DriverRun<O: Drop> {
     fault: Option<&'static str>,
 }
 
-/// Returns the part of a log line that `shown` selects, or `None`. `words` selects the first word,
-/// `watching` the line of a poll, a kill or a pause, and any other value the whole line.
-fn call_of<'a>(shown: &str, line: &'a str) -> Option<&'a str> {
+/// Returns the part of the log line `line` that `shown` selects, or `None`. `words` selects the
+/// first word, `watching` the line of a poll, a kill or a pause, and any other value the whole
+/// line.
+fn select_call<'a>(shown: &str, line: &'a str) -> Option<&'a str> {
     let (word, _) = line.split_once(' ').unwrap_or((line, ""));
     match shown {
         "words" => Some(word),
@@ -46,7 +48,7 @@ fn call_of<'a>(shown: &str, line: &'a str) -> Option<&'a str> {
     }
 }
 
-/// Appends the calls of a log, with repetitions folded. `shown` is `calls` for whole lines, `words`
+/// Appends the calls in `log`, with repetitions folded. `shown` is `calls` for whole lines, `words`
 /// for their first words, or `watching` for polls, kills and pauses.
 ///
 /// # Errors
@@ -55,16 +57,16 @@ fn call_of<'a>(shown: &str, line: &'a str) -> Option<&'a str> {
 pub fn push_calls(out: &mut ExampleOutput, shown: &str, log: &str) -> Result<()> {
     let mut lines = Vec::new(out.alloc);
     for line in log.lines() {
-        if let Some(call) = call_of(shown, line) {
+        if let Some(call) = select_call(shown, line) {
             lines.push(call)?;
         }
     }
-    push_repeated(out, &lines);
+    push_folded(out, &lines);
     Ok(())
 }
 
-/// Appends the numbers of passed cases and of all cases, as `2 of 3 passed`, and the verdict of the
-/// first case that did not pass, if any.
+/// Appends the numbers of passed entries and of all `entries`, as `2 of 3 passed`. The verdict of
+/// the first entry that did not pass follows, if any.
 fn push_totals(out: &mut ExampleOutput, entries: &[Entry]) {
     let (mut passed, mut other) = (0usize, None);
     for entry in entries {
@@ -80,9 +82,9 @@ fn push_totals(out: &mut ExampleOutput, entries: &[Entry]) {
     }
 }
 
-/// Appends the number of kills, and the number of directories that were made but not removed, as
-/// `1 killed, 0 left`. A failed kill or removal counts as done. Directories with the name `work`
-/// don't count, because they are inside other directories.
+/// Appends the number of kills in `log`, and the number of directories that were made but not
+/// removed, as `1 killed, 0 left`. A failed kill or removal counts as done. Directories with the
+/// name `work` don't count, because they are inside other directories.
 fn push_leftovers(out: &mut ExampleOutput, log: &str) {
     let (mut killed, mut left) = (0usize, 0usize);
     for line in log.lines() {
@@ -97,17 +99,17 @@ fn push_leftovers(out: &mut ExampleOutput, log: &str) {
     write!(out, "{killed} killed, {left} left");
 }
 
-/// Appends the part of a run that the keyword `word` selects.
+/// Appends the part of `run` that the keyword `word` selects.
 ///
 /// `calls`, `words` and `watching` select calls, `spawns` the started programs, and `spawned` their
-/// number. `left` selects the numbers of kills and of remaining directories, and `totals` the number
-/// of passed cases. Any other keyword selects a part of the entries.
+/// number. `left` selects the numbers of kills and of remaining directories, and `totals` the
+/// number of passed cases. Any other keyword selects a part of the entries.
 fn push_run_part(
     out: &mut ExampleOutput,
     word: &str,
     run: &DriverRun<ScriptedSystem<'_>>,
 ) -> Result<()> {
-    let (log, spawned) = (run.os.log.so_far()?, run.os.spawned.so_far()?);
+    let (log, spawned) = (run.os.log.text_so_far()?, run.os.spawned.text_so_far()?);
     match word {
         "calls" | "words" | "watching" => return push_calls(out, word, log),
         "spawns" => out.push(spawned.trim()),
@@ -119,14 +121,16 @@ fn push_run_part(
     Ok(())
 }
 
-/// Copies two strings into `Text` values.
-fn texts_of(alloc: Global, first: &str, second: &str) -> Result<(Text, Text)> {
+/// Copies the strings `first` and `second` into `Text` values.
+fn copy_texts(alloc: Global, first: &str, second: &str) -> Result<(Text, Text)> {
     let first = Text::from_str(alloc, first)?;
     Ok((first, Text::from_str(alloc, second)?))
 }
 
-/// Executes a plan by a new driver over `os`. Returns the system, the entries and the error.
-fn drive<O: Os + Drop>(
+/// Executes `plan` with the width `width` by a new driver over `os`, and puts the entries into
+/// `sink`. The driver creates its directories below `base`, and `source` is the directory of the
+/// root Kyuafile. Returns the system, the recorded entries, and the error that ended the run early.
+fn run_driver_over<O: Os + Drop>(
     alloc: Global,
     os: O,
     plan: Items<Job>,
@@ -159,27 +163,27 @@ fn drive<O: Os + Drop>(
     }
 }
 
-/// Executes the plan of an example over a scripted system.
+/// Executes the plan of the example `row` over a scripted system that follows `scene`.
 fn run_plan<'a>(row: &Example<'_>, scene: &'a Scene) -> Result<DriverRun<ScriptedSystem<'a>>> {
     let alloc = scene.alloc;
-    let width = number_to(row.text("width"), MAX_WIDTH)?;
-    let limit = number_to(row.text("limit"), MAX_TIMEOUT)?;
+    let width = parse_number_up_to(row.text("width"), MAX_WIDTH)?;
+    let limit = parse_number_up_to(row.text("limit"), MAX_TIMEOUT_SECONDS)?;
     let failing = row.number("failing", 0)? as usize;
-    let variables = pairs_of(alloc, row.entries.as_slice(), "variable");
-    let letters = unescaped(alloc, row.text("plan").unwrap_or(""));
-    let (letters, variables) = both(letters, variables)?;
+    let variables = parse_pairs(alloc, row.entries.as_slice(), "variable");
+    let letters = unescape(alloc, row.text("plan").unwrap_or(""));
+    let (letters, variables) = zip_results(letters, variables)?;
     let base = row.text("base").unwrap_or("");
     let source = row.text("source").unwrap_or("/t");
-    let (base, source) = texts_of(alloc, base, source)?;
+    let (base, source) = copy_texts(alloc, base, source)?;
     let program = row.text("program").unwrap_or("d/p");
-    let plan = plan_of(alloc, program, &letters, limit, &variables)?;
+    let plan = create_plan(alloc, program, &letters, limit, &variables)?;
     let sink = MemorySink::new(alloc, failing);
     let os = ScriptedSystem::new(scene);
-    Ok(drive(alloc, os, plan, width, &base, source, sink))
+    Ok(run_driver_over(alloc, os, plan, width, &base, source, sink))
 }
 
-/// Executes the plan of an example once. Appends the parts that `show WORDS` selects, by default
-/// the entries, and the error that ended the run early.
+/// Executes the plan of the example `row` once, over a system that follows `scene`. Appends the
+/// parts that `show WORDS` selects, by default the entries, and the error that ended the run early.
 fn push_run(out: &mut ExampleOutput, row: &Example<'_>, scene: &Scene) -> Result<()> {
     let run = run_plan(row, scene)?;
     for word in row.text("show").unwrap_or("entries").split_whitespace() {
@@ -192,7 +196,8 @@ fn push_run(out: &mut ExampleOutput, row: &Example<'_>, scene: &Scene) -> Result
     Ok(())
 }
 
-/// Executes the plan of an example once for each line `fails CALLS`, or once without such a line.
+/// Executes the plan of the example `row` once for each line `fails CALLS`, or once without such a
+/// line, and appends each result. The systems follow `scene`.
 fn plan(out: &mut ExampleOutput, row: &Example<'_>, mut scene: Scene) -> Result<()> {
     if row.text("fails").is_none() {
         return push_run(out, row, &scene);
@@ -206,8 +211,9 @@ fn plan(out: &mut ExampleOutput, row: &Example<'_>, mut scene: Scene) -> Result<
     Ok(())
 }
 
-/// Lists the cases of a program by a new driver over `os`. Returns the system and the listing, or
-/// `None` if the driver can't be created.
+/// Lists the cases of `program` with the variables `variables`, by a new driver over `os`. The
+/// driver creates its directories below `base`, and `source` is the directory of the root Kyuafile.
+/// Returns the system and the listing, or `None` if the driver can't be created.
 fn list_over_system<O: Os + Drop>(
     alloc: Global,
     os: O,
@@ -225,8 +231,8 @@ fn list_over_system<O: Os + Drop>(
     }
 }
 
-/// Appends the result of a listing. It is the outcome with the length of the list or the error, or
-/// the cause of a failed start.
+/// Appends `listing`: the outcome with the length of the list or the error of reading it, or the
+/// cause of a failed start. Without a listing, appends `no driver`.
 fn push_listing(out: &mut ExampleOutput, listing: &Option<Listing>) {
     match listing {
         None => out.push("no driver"),
@@ -239,8 +245,8 @@ fn push_listing(out: &mut ExampleOutput, listing: &Option<Listing>) {
 }
 
 /// Creates an ATF test program with the path `d/p`.
-fn program_of(alloc: Global) -> Result<Program> {
-    let (path, suite) = texts_of(alloc, "d/p", "s")?;
+fn create_program(alloc: Global) -> Result<Program> {
+    let (path, suite) = copy_texts(alloc, "d/p", "s")?;
     Ok(Program {
         interface: Interface::Atf,
         path,
@@ -249,49 +255,51 @@ fn program_of(alloc: Global) -> Result<Program> {
     })
 }
 
-/// Lists the cases of a program over a scripted system. The example has the directory below which
-/// the driver works (`base PATH`), and the suite's variables (`variable NAME=VALUE`).
-fn listed<'a>(
+/// Lists the cases of a program over a scripted system that follows `scene`. The example `row` has
+/// the directory below which the driver creates its directories (`base PATH`), and the suite's
+/// variables (`variable NAME=VALUE`).
+fn list_program<'a>(
     row: &Example<'_>,
     scene: &'a Scene,
 ) -> Result<(ScriptedSystem<'a>, Option<Listing>)> {
     let alloc = scene.alloc;
-    let variables = pairs_of(alloc, row.entries.as_slice(), "variable");
-    let (program, variables) = both(program_of(alloc), variables)?;
-    let (base, source) = texts_of(alloc, row.text("base").unwrap_or(""), "/t")?;
+    let variables = parse_pairs(alloc, row.entries.as_slice(), "variable");
+    let (program, variables) = zip_results(create_program(alloc), variables)?;
+    let (base, source) = copy_texts(alloc, row.text("base").unwrap_or(""), "/t")?;
     let os = ScriptedSystem::new(scene);
     Ok(list_over_system(alloc, os, &base, source, &program, &variables))
 }
 
-/// Lists the cases of a program, and appends the first words of the calls and the result. With
-/// `show spawns`, also appends the programs that were started.
+/// Lists the cases of a program over a system that follows `scene`, and appends the first words of
+/// the calls and the result. With `show spawns` in the example `row`, also appends the programs
+/// that were started.
 fn list(out: &mut ExampleOutput, row: &Example<'_>, scene: &Scene) -> Result<()> {
-    let (os, listing) = listed(row, scene)?;
-    push_calls(out, "words", os.log.so_far()?)?;
+    let (os, listing) = list_program(row, scene)?;
+    push_calls(out, "words", os.log.text_so_far()?)?;
     if row.text("show") == Some("spawns") {
-        out.line(os.spawned.so_far()?.trim());
+        out.line(os.spawned.text_so_far()?.trim());
     }
     out.separate("\n");
     push_listing(out, &listing);
     Ok(())
 }
 
-/// Returns the number of bytes that are read of an endless file, and `true` if more bytes are known
-/// to follow. With `limit`, `read_front` reads the file as an output. Without it, `read_start`
-/// reads the file as a Kyuafile. Returns `None` if the read fails.
+/// Returns the number of bytes that are read of `file`, an endless file, and `true` if more bytes
+/// are known to follow. With `limit`, `read_and_peek` reads the file as an output. Without it,
+/// `read_up_to` reads the file as a Kyuafile. Returns `None` if the read fails.
 fn front(alloc: Global, file: &mut EndlessReader, limit: Option<u64>) -> Option<(usize, bool)> {
     let Some(limit) = limit else {
-        let bytes = read_start(alloc, file, SCRIPT_READ_BYTES).ok()?;
+        let bytes = read_up_to(alloc, file, SCRIPT_READ_BYTES).ok()?;
         return Some((bytes.len(), false));
     };
-    match read_front(alloc, file, limit) {
+    match read_and_peek(alloc, file, limit) {
         Ok(FileRead::Part(bytes, follows)) => Some((bytes.len(), follows)),
         _ => None,
     }
 }
 
-/// Reads an endless file, and appends the result. With the line `limit BYTES`, the file is read as
-/// an output, and otherwise as a Kyuafile.
+/// Reads an endless file, as the example `row` describes, and appends the result. With the line
+/// `limit BYTES`, the file is read as an output, and otherwise as a Kyuafile.
 fn read(out: &mut ExampleOutput, row: &Example<'_>) -> Result<()> {
     let mut file = EndlessReader {
         piece: row.number("piece", 1)? as usize,
@@ -313,14 +321,15 @@ fn read(out: &mut ExampleOutput, row: &Example<'_>) -> Result<()> {
     Ok(())
 }
 
-/// Executes an example of a scripted system. Its first line is `plan LETTERS`, `list` or `reader`.
+/// Executes `row`, an example of a scripted system. Its first line is `plan LETTERS`, `list` or
+/// `reader`.
 ///
 /// # Errors
 ///
 /// - `InvalidExample`: a line is missing or invalid.
 /// - `NoMemory`: an allocation failed.
 pub fn answer(out: &mut ExampleOutput, row: &Example<'_>) -> Result<()> {
-    let scene = scene_of(out.alloc, row)?;
+    let scene = parse_scene(out.alloc, row)?;
     match row.first()?.word {
         "plan" => plan(out, row, scene),
         "list" => list(out, row, &scene),

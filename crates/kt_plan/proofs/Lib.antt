@@ -12,5 +12,5 @@ pub mod PlansFit
 pub mod QuestionChains
 pub mod SelectLaws
 pub mod Settling
-pub mod StopWords
+pub mod SelectionMessages
 pub mod Wanting

@@ -1,6 +1,6 @@
 -- Lemmas on the cases of programs, and on the calls for them.
 use Rattle.std.proofs.Common.{Some, None, ◌≡◌, ◌≢◌, List, [], ◌∷◌, ◌++◌, sym, subst, append_assoc, append-nil, length}
-use Rattle.kt_plan.proofs.Common.{Atf, Values, Answered, Filter, Program, Candidate, ListsFirst, before_list, after_list, candidates_of, variables_for, IsWanted, ListsCases, listed, OffersOne, listing, unlisted, single, Offers, one_and, OffersFirst, no_further, asks, passes, Reply, Lists}
+use Rattle.kt_plan.proofs.Common.{Atf, Values, LeadsByCalls, Filter, Program, Candidate, IsListPrefix, before_list, after_list, candidates_of, variables_for, IsSelectable, ListsAtfCases, listed, ListsProgramCases, listing, unlisted, single, ListsAllCases, one_and, IsAllListsPrefix, no_further, asks, passes, Reply, Lists}
 use Rattle.kt_plan.proofs.Chains.{answered-as, answered-once, answered-then, asked_nothing}
 use Rattle.kt_plan.specs.Types.{CaseDef, Listing, Variable}
 use Rattle.kt_atflist.specs.Cases.{AreCases}
@@ -9,80 +9,80 @@ use Rattle.std.proofs.lemmas.List.{nil_from_length}
 
 -- If an allocation fails after a program listed its cases, this listing is the only call so far.
 pub list_asked : {W : Type 0} (replies : W → Reply → W → Type 0) (config : Values) (program : Program) (variables : List Variable) (old new : W) (answer : Listing) → variables ≡ variables_for config program.suite
-    → replies old (Lists program variables answer) new → Answered replies old new (λ answers. ListsFirst config program answers)
+    → replies old (Lists program variables answer) new → LeadsByCalls replies old new (λ answers. IsListPrefix config program answers)
 list_asked replies config program variables old new answer e h =
     answered-once (Lists program (variables_for config program.suite) answer) (subst (λ (vs : List Variable). replies old (Lists program vs answer) new) e h) (after_list answer)
 
 -- The listing of an ATF program gives its cases.
 pub lists_cases : {W : Type 0} (replies : W → Reply → W → Type 0) (config : Values) (program : Program) (variables : List Variable) (old new : W) (answer : Listing) (cases : List CaseDef)
     → variables ≡ variables_for config program.suite → replies old (Lists program variables answer) new
-    → AreCases program.props Atf (Some answer) cases → Answered replies old new (λ answers. ListsCases config program answers cases)
+    → AreCases program.props Atf (Some answer) cases → LeadsByCalls replies old new (λ answers. ListsAtfCases config program answers cases)
 lists_cases replies config program variables old new answer cases e h a =
     answered-once (Lists program (variables_for config program.suite) answer) (subst (λ (vs : List Variable). replies old (Lists program vs answer) new) e h) (listed answer cases a)
 
 module _ {W : Type 0} (replies : W → Reply → W → Type 0) (config : Values) (filters : List Filter) where
-  -- An ATF program that `IsWanted` has the cases that it lists.
-  pub offers_listed : (program : Program) (old new : W) (cases : List CaseDef) → program.interface ≡ Atf → IsWanted filters program → Answered replies old new (λ answers. ListsCases config program answers cases)
-      → Answered replies old new (λ answers. OffersOne config filters program answers (candidates_of program cases))
+  -- An ATF program that `IsSelectable` has the cases that it lists.
+  pub offers_listed : (program : Program) (old new : W) (cases : List CaseDef) → program.interface ≡ Atf → IsSelectable filters program → LeadsByCalls replies old new (λ answers. ListsAtfCases config program answers cases)
+      → LeadsByCalls replies old new (λ answers. ListsProgramCases config filters program answers (candidates_of program cases))
   offers_listed program old new cases e w a = answered-as a (λ answers h. listing answers cases e w h)
 
-  -- An ATF program that is not `IsWanted` has no cases and no calls.
-  pub offers_none : (program : Program) (world : W) (cases : List CaseDef) → program.interface ≡ Atf → (IsWanted filters program → ⊥) → cases ≡ []
-      → Answered replies world world (λ answers. OffersOne config filters program answers (candidates_of program cases))
-  offers_none program world cases e n c = asked_nothing replies world _ (subst (λ (cs : List CaseDef). OffersOne config filters program [] (candidates_of program cs)) (sym c) (unlisted e n))
+  -- An ATF program that is not `IsSelectable` has no cases and no calls.
+  pub offers_none : (program : Program) (world : W) (cases : List CaseDef) → program.interface ≡ Atf → (IsSelectable filters program → ⊥) → cases ≡ []
+      → LeadsByCalls replies world world (λ answers. ListsProgramCases config filters program answers (candidates_of program cases))
+  offers_none program world cases e n c = asked_nothing replies world _ (subst (λ (cs : List CaseDef). ListsProgramCases config filters program [] (candidates_of program cs)) (sym c) (unlisted e n))
 
   -- A program that is not an ATF program has its cases without a call.
   pub offers_single : (program : Program) (world : W) (cases : List CaseDef) → program.interface ≢ Atf → AreCases program.props program.interface None cases
-      → Answered replies world world (λ answers. OffersOne config filters program answers (candidates_of program cases))
+      → LeadsByCalls replies world world (λ answers. ListsProgramCases config filters program answers (candidates_of program cases))
   offers_single program world cases n a = asked_nothing replies world _ (single cases n a)
 
   -- All calls for a program, followed by a prefix of the calls for the programs after it, are a
   -- prefix of the calls for all these programs.
-  first_of_one : (program : Program) (rest : List Program) (own more : List Reply) (found : List Candidate) → OffersOne config filters program own found → OffersFirst config filters rest more
-      → OffersFirst config filters (program ∷ rest) (own ++ more)
+  first_of_one : (program : Program) (rest : List Program) (own more : List Reply) (found : List Candidate) → ListsProgramCases config filters program own found → IsAllListsPrefix config filters rest more
+      → IsAllListsPrefix config filters (program ∷ rest) (own ++ more)
   first_of_one program rest _ more _ (listing _ _ e w (listed answer cases a)) h = asks program rest answer more e w h
   first_of_one program rest _ more _ (unlisted e n) h = passes program rest more (λ _. n) h
   first_of_one program rest _ more _ (single cases n a) h = passes program rest more (λ e _. n e) h
 
   -- A prefix of the calls for one program is a prefix of the calls for it and the programs after
   -- it.
-  first_before : (program : Program) (rest : List Program) (answers : List Reply) → OffersFirst config filters (program ∷ []) answers → OffersFirst config filters (program ∷ rest) answers
+  first_before : (program : Program) (rest : List Program) (answers : List Reply) → IsAllListsPrefix config filters (program ∷ []) answers → IsAllListsPrefix config filters (program ∷ rest) answers
   first_before program rest _ (no_further _) = no_further (program ∷ rest)
   first_before program rest _ (asks _ _ answer _ e w (no_further _)) = asks program rest answer [] e w (no_further rest)
   first_before program rest _ (passes _ _ _ n (no_further _)) = no_further (program ∷ rest)
 
   -- All calls for some programs are also a prefix of these calls.
-  pub all_first : (programs : List Program) (answers : List Reply) (found : List Candidate) → Offers config filters programs answers found → OffersFirst config filters programs answers
+  pub all_first : (programs : List Program) (answers : List Reply) (found : List Candidate) → ListsAllCases config filters programs answers found → IsAllListsPrefix config filters programs answers
   all_first _ _ _ none = no_further []
   all_first _ _ _ (one_and program programs answers more own others o h) = first_of_one program programs answers more own o (all_first programs more others h)
 
-  -- A prefix of the calls for the listing of a program that `IsWanted` is a prefix of the calls for
+  -- A prefix of the calls for the listing of a program that `IsSelectable` is a prefix of the calls for
   -- the program.
-  pub first_listed : (program : Program) (old new : W) → program.interface ≡ Atf → IsWanted filters program → Answered replies old new (λ answers. ListsFirst config program answers)
-      → Answered replies old new (λ answers. OffersFirst config filters (program ∷ []) answers)
+  pub first_listed : (program : Program) (old new : W) → program.interface ≡ Atf → IsSelectable filters program → LeadsByCalls replies old new (λ answers. IsListPrefix config program answers)
+      → LeadsByCalls replies old new (λ answers. IsAllListsPrefix config filters (program ∷ []) answers)
   first_listed program old new e w a = answered-as a by
     where
-      by : (answers : List Reply) → ListsFirst config program answers → OffersFirst config filters (program ∷ []) answers
+      by : (answers : List Reply) → IsListPrefix config program answers → IsAllListsPrefix config filters (program ∷ []) answers
       by _ before_list = no_further (program ∷ [])
       by _ (after_list answer) = asks program [] answer [] e w (no_further [])
 
   -- The calls that give the cases of a program are a prefix of the calls for it.
-  pub first_offered : (program : Program) (old new : W) (found : List Candidate) → Answered replies old new (λ answers. OffersOne config filters program answers found)
-      → Answered replies old new (λ answers. OffersFirst config filters (program ∷ []) answers)
+  pub first_offered : (program : Program) (old new : W) (found : List Candidate) → LeadsByCalls replies old new (λ answers. ListsProgramCases config filters program answers found)
+      → LeadsByCalls replies old new (λ answers. IsAllListsPrefix config filters (program ∷ []) answers)
   first_offered program old new found a = answered-as a (λ answers h. rw append-nil at (first_of_one program [] answers [] found h (no_further [])))
 
   -- `Offering programs old rest new found`: the calls so far led the world from the state `old` to
   -- the state `new`, and gave the candidates `found`. With calls for the remaining programs `rest`,
   -- they are all calls for the programs `programs`.
   abbrev pub Offering : List Program → W → List Program → W → List Candidate → Type 0
-  Offering programs old rest new found = Answered replies old new (λ answers.
-      ((more : List Reply) (others : List Candidate) → Offers config filters rest more others → Offers config filters programs (answers ++ more) (found ++ others))
-      × ((more : List Reply) → OffersFirst config filters rest more → OffersFirst config filters programs (answers ++ more)))
+  Offering programs old rest new found = LeadsByCalls replies old new (λ answers.
+      ((more : List Reply) (others : List Candidate) → ListsAllCases config filters rest more others → ListsAllCases config filters programs (answers ++ more) (found ++ others))
+      × ((more : List Reply) → IsAllListsPrefix config filters rest more → IsAllListsPrefix config filters programs (answers ++ more)))
 
   module _ (programs : List Program) (old : W) where
     -- The cases of the next program extend the cases so far.
     pub offers_next : (rest after : List Program) (program : Program) (mid new : W) (found grown : List Candidate) (cases : List CaseDef) → rest ≡ program ∷ after → Offering programs old rest mid found
-        → Answered replies mid new (λ answers. OffersOne config filters program answers (candidates_of program cases)) → grown ≡ found ++ candidates_of program cases → Offering programs old after new grown
+        → LeadsByCalls replies mid new (λ answers. ListsProgramCases config filters program answers (candidates_of program cases)) → grown ≡ found ++ candidates_of program cases → Offering programs old after new grown
     offers_next rest after program mid new found grown cases e o a g = let own = candidates_of program cases in answered-then o a (λ answers asked f h. (
       λ more others k. rw (append_assoc, g, append_assoc) (f.0 (asked ++ more) (own ++ others) (rw e (one_and program after asked more own others h k))),
       λ more k. rw append_assoc (f.1 (asked ++ more) (rw e (first_of_one program after asked more own h k))),
@@ -90,10 +90,10 @@ module _ {W : Type 0} (replies : W → Reply → W → Type 0) (config : Values)
 
     -- The calls before a failed allocation are a prefix of the calls for all programs.
     pub offers_stopped : (rest after : List Program) (program : Program) (mid new : W) (found : List Candidate) → rest ≡ program ∷ after → Offering programs old rest mid found
-        → Answered replies mid new (λ answers. OffersFirst config filters (program ∷ []) answers) → Answered replies old new (λ answers. OffersFirst config filters programs answers)
+        → LeadsByCalls replies mid new (λ answers. IsAllListsPrefix config filters (program ∷ []) answers) → LeadsByCalls replies old new (λ answers. IsAllListsPrefix config filters programs answers)
     offers_stopped rest after program mid new found e o a =
         answered-then o a (λ answers asked f h. f.1 asked (rw e (first_before program after asked h)))
 
     -- If no program remains, the cases so far are all cases.
-    pub offers_all : (rest : List Program) (new : W) (found : List Candidate) → length rest ≡ 0 → Offering programs old rest new found → Answered replies old new (λ answers. Offers config filters programs answers found)
+    pub offers_all : (rest : List Program) (new : W) (found : List Candidate) → length rest ≡ 0 → Offering programs old rest new found → LeadsByCalls replies old new (λ answers. ListsAllCases config filters programs answers found)
     offers_all rest new found e o = answered-as o (λ answers f. rw (append-nil, append-nil) at (f.0 [] [] (rw (nil_from_length rest e) none)))

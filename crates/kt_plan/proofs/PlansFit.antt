@@ -1,6 +1,6 @@
 -- A plan of any cases meets the scheduler's precondition.
 use Rattle.std.proofs.Common.{Some, slice_get, ◌&&◌, ◌≡◌, ◌∙◌, ℕ, zero, suc, Bool, true, List, arith, refl, subst, sym}
-use Rattle.kt_plan.proofs.Common.{Atf, Tap, Plain, Values, Host, Job, IsFit, IsPlan, Candidate, ArePlanned, no_job, planned, IsJobOf, is_atf, meta_in}
+use Rattle.kt_plan.proofs.Common.{Atf, Tap, Plain, Values, Host, Job, IsFit, IsPlan, Candidate, ArePlanned, no_job, planned, IsJobOf, is_atf, candidate_meta}
 use Rattle.kt_base.specs.declared.child.Interface.{Interface}
 use Rattle.kt_metadata.specs.Effective.{texts_of}
 use Rattle.kt_metadata.proofs.Timeouts.{IsTimeout, timeout-within}
@@ -21,7 +21,7 @@ module _ (config : Values) (host : Host) where
       record {
         timed = t.0;
         limited = t.1;
-        cleanup = λ e. is.interface ∙ atf_alone candidate.interface (meta_in candidate).has_cleanup (sym is.cleanup ∙ e);
+        cleanup = λ e. is.interface ∙ atf_alone candidate.interface (candidate_meta candidate).has_cleanup (sym is.cleanup ∙ e);
       }
 
   -- Each job of a plan meets the scheduler's precondition.

@@ -1,13 +1,13 @@
 -- The second step of a command: the cases of the programs, and their selection by filters.
 use Rattle.std.specs.Prelude.{ℕ, ◌≡◌, ◌≢◌, ◌≤◌, ◌<◌, ◌⊎◌, List, [], ◌∷◌, ◌++◌, Some, None, Result, Ok, Err, length, map, filter, unwrap_or}
 use Rattle.std.specs.List.{Contains}
-use Rattle.kt_plan.specs.Types.{Asked, Atf, Candidate, CaseDef, Chosen, Filter, Item, Listing, Program, Settings, Stop, SuiteFault, Values, Variable}
+use Rattle.kt_plan.specs.Types.{Asked, Atf, Candidate, CaseDef, CaseSelection, Filter, Item, Listing, Program, Settings, SelectionError, SuiteFault, Values, Variable}
 use Rattle.kt_config.specs.Values.{variables_of}
 use Rattle.kt_atflist.specs.Cases.{AreCases}
 use Rattle.kt_suite.specs.Matching.{MayMatch}
 use Rattle.kt_suite.specs.Selecting.{item_limit, is_selected, unmatched_positions}
-use Rattle.kt_plan.specs.declared.stop.Stop.TheVariants as stop
-use Rattle.kt_plan.specs.Listings.{Loads, LoadsFirst}
+use Rattle.kt_plan.specs.declared.selection_error.SelectionError.TheVariants as stop
+use Rattle.kt_plan.specs.Listings.{Loads, IsLoadPrefix}
 use Rattle.kt_plan.specs.Reply.{Reply, Lists}
 
 -- `variables_for config suite`: the variables that the configuration `config` sets for the test
@@ -15,8 +15,8 @@ use Rattle.kt_plan.specs.Reply.{Reply, Lists}
 abbrev pub variables_for : Values → List ℕ → List Variable
 variables_for config suite = unwrap_or (variables_of suite config.suites) []
 
--- `candidate_of program case`: the candidate for the test case `case` of the program `program`: the
--- case with the interface, the path and the test suite of its program.
+-- `candidate_of program case`: the candidate for the test case `case` of the program `program`. It
+-- has the case, and the interface, the path and the test suite of the program.
 abbrev pub candidate_of : Program → CaseDef → Candidate
 candidate_of program case = record { interface = program.interface; path = program.path; suite = program.suite; case = case }
 
@@ -25,49 +25,49 @@ candidate_of program case = record { interface = program.interface; path = progr
 abbrev pub candidates_of : Program → List CaseDef → List Candidate
 candidates_of program cases = map (candidate_of program) cases
 
--- `IsWanted filters program`: the cases of the program `program` are needed: there is no filter, or
--- one of `filters` may match a case of the program.
-abbrev pub IsWanted : List Filter → Program → Type 0
-IsWanted filters program = (filters ≡ []) ⊎ ((one : Filter) × Contains filters one × MayMatch one program.path)
+-- `IsSelectable filters program`: `filters` may select a case of the program `program`. There is no
+-- filter, or one of them may match a case of the program.
+abbrev pub IsSelectable : List Filter → Program → Type 0
+IsSelectable filters program = (filters ≡ []) ⊎ ((one : Filter) × Contains filters one × MayMatch one program.path)
 
--- `ListsCases config program replies cases`: the only call in `replies` runs the ATF program
--- `program`, which lists the test cases `cases`. The call passes the variables that the
--- configuration `config` sets for the program's test suite.
-pub data ListsCases (config : Values) (program : Program) : List Reply → List CaseDef → Type 0 where
+-- `ListsAtfCases config program replies cases`: `replies` is one call, which runs the ATF program
+-- `program` for its list. `cases` are the program's test cases by this list. The program gets the
+-- variables that the configuration `config` sets for its test suite.
+pub data ListsAtfCases (config : Values) (program : Program) : List Reply → List CaseDef → Type 0 where
   listed : (listing : Listing) (cases : List CaseDef) → AreCases program.props Atf (Some listing) cases
-      → ListsCases config program (Lists program (variables_for config program.suite) listing ∷ []) cases
+      → ListsAtfCases config program (Lists program (variables_for config program.suite) listing ∷ []) cases
 
--- `OffersOne config filters program answers found`: `found` are the candidates of the program
--- `program`, by the calls `answers` with the configuration `config`. An ATF program lists its cases
--- if one of `filters` may match one, and otherwise has none here. Another program has the case
--- `main`.
-pub data OffersOne (config : Values) (filters : List Filter) (program : Program) : List Reply → List Candidate → Type 0 where
-  listing : (answers : List Reply) (cases : List CaseDef) → program.interface ≡ Atf → IsWanted filters program → ListsCases config program answers cases
-      → OffersOne config filters program answers (candidates_of program cases)
-  unlisted : program.interface ≡ Atf → (IsWanted filters program → ⊥) → OffersOne config filters program [] []
+-- `ListsProgramCases config filters program answers found`: `found` are the candidates of the program
+-- `program`. `answers` are the calls for its list, and `config` is the configuration. An ATF
+-- program lists its cases if one of `filters` may match a case, and otherwise has no cases here.
+-- Another program has the case `main`.
+pub data ListsProgramCases (config : Values) (filters : List Filter) (program : Program) : List Reply → List Candidate → Type 0 where
+  listing : (answers : List Reply) (cases : List CaseDef) → program.interface ≡ Atf → IsSelectable filters program → ListsAtfCases config program answers cases
+      → ListsProgramCases config filters program answers (candidates_of program cases)
+  unlisted : program.interface ≡ Atf → (IsSelectable filters program → ⊥) → ListsProgramCases config filters program [] []
   single : (cases : List CaseDef) → program.interface ≢ Atf → AreCases program.props program.interface None cases
-      → OffersOne config filters program [] (candidates_of program cases)
+      → ListsProgramCases config filters program [] (candidates_of program cases)
 
--- `Offers config filters programs answers found`: `found` are the candidates of the programs
--- `programs`, in order, by the calls `answers` with the configuration `config` and the filters
--- `filters`.
-pub data Offers (config : Values) (filters : List Filter) : List Program → List Reply → List Candidate → Type 0 where
-  none : Offers config filters [] [] []
-  one_and : (program : Program) (programs : List Program) (answers more : List Reply) (own others : List Candidate) → OffersOne config filters program answers own
-      → Offers config filters programs more others → Offers config filters (program ∷ programs) (answers ++ more) (own ++ others)
+-- `ListsAllCases config filters programs answers found`: `found` are the candidates of the programs
+-- `programs`, in order. `answers` are the calls for their lists, `config` is the configuration, and
+-- `filters` are the filters of the command.
+pub data ListsAllCases (config : Values) (filters : List Filter) : List Program → List Reply → List Candidate → Type 0 where
+  none : ListsAllCases config filters [] [] []
+  one_and : (program : Program) (programs : List Program) (answers more : List Reply) (own others : List Candidate) → ListsProgramCases config filters program answers own
+      → ListsAllCases config filters programs more others → ListsAllCases config filters (program ∷ programs) (answers ++ more) (own ++ others)
 
--- `OffersFirst config filters programs answers`: `answers` are the calls by which the first of the
--- programs `programs` listed their cases, in order, before an allocation failed. `config` is the
--- configuration, and `filters` are the filters.
-pub data OffersFirst (config : Values) (filters : List Filter) : List Program → List Reply → Type 0 where
-  no_further : (programs : List Program) → OffersFirst config filters programs []
-  asks : (program : Program) (programs : List Program) (listing : Listing) (answers : List Reply) → program.interface ≡ Atf → IsWanted filters program
-      → OffersFirst config filters programs answers → OffersFirst config filters (program ∷ programs) (Lists program (variables_for config program.suite) listing ∷ answers)
-  passes : (program : Program) (programs : List Program) (answers : List Reply) → (program.interface ≡ Atf → IsWanted filters program → ⊥)
-      → OffersFirst config filters programs answers → OffersFirst config filters (program ∷ programs) answers
+-- `IsAllListsPrefix config filters programs answers`: `answers` may be the calls for the lists of the
+-- programs `programs`, in order, before an allocation failed. `config` is the configuration, and
+-- `filters` are the filters of the command.
+pub data IsAllListsPrefix (config : Values) (filters : List Filter) : List Program → List Reply → Type 0 where
+  no_further : (programs : List Program) → IsAllListsPrefix config filters programs []
+  asks : (program : Program) (programs : List Program) (listing : Listing) (answers : List Reply) → program.interface ≡ Atf → IsSelectable filters program
+      → IsAllListsPrefix config filters programs answers → IsAllListsPrefix config filters (program ∷ programs) (Lists program (variables_for config program.suite) listing ∷ answers)
+  passes : (program : Program) (programs : List Program) (answers : List Reply) → (program.interface ≡ Atf → IsSelectable filters program → ⊥)
+      → IsAllListsPrefix config filters programs answers → IsAllListsPrefix config filters (program ∷ programs) answers
 
--- `item_of candidate`: the item with which filters are compared for the candidate `candidate`: the
--- path of its program, and the name of its case.
+-- `item_of candidate`: the item for the candidate `candidate`: the path of its program, and the
+-- name of its case. Filters match items.
 abbrev pub item_of : Candidate → Item
 item_of candidate = record { path = candidate.path; case_name = candidate.case.name }
 
@@ -76,10 +76,10 @@ item_of candidate = record { path = candidate.path; case_name = candidate.case.n
 abbrev pub selected_cases : List Filter → List Candidate → List Candidate
 selected_cases filters found = filter (λ candidate. is_selected filters (item_of candidate)) found
 
--- `chosen_of filters found`: the selection by the filters `filters` from the candidates `found`:
+-- `selection_of filters found`: the selection by the filters `filters` from the candidates `found`:
 -- the selected candidates, and the positions of the filters that match none.
-abbrev pub chosen_of : List Filter → List Candidate → Chosen
-chosen_of filters found = record {
+abbrev pub selection_of : List Filter → List Candidate → CaseSelection
+selection_of filters found = record {
   cases = selected_cases filters found;
   unmatched = unmatched_positions (map item_of found) filters;
 }
@@ -88,18 +88,19 @@ chosen_of filters found = record {
 -- `settings` select from the tree of the Kyuafile `kyuafile`, or is the error that stops the
 -- command. `asked` are the calls to the tree, and `answers` are the calls by which programs list
 -- their cases.
-pub data Collects (settings : Settings) (kyuafile : List ℕ) : List Asked → List Reply → Result Chosen Stop → Type 0 where
+pub data Collects (settings : Settings) (kyuafile : List ℕ) : List Asked → List Reply → Result CaseSelection SelectionError → Type 0 where
   unloaded : (asked : List Asked) (fault : SuiteFault) → Loads kyuafile asked (Err fault) → Collects settings kyuafile asked [] (Err (stop.Tree fault))
   too_many : (asked : List Asked) (answers : List Reply) (programs : List Program) (found : List Candidate) → Loads kyuafile asked (Ok programs)
-      → Offers settings.config settings.filters programs answers found → item_limit < length found → Collects settings kyuafile asked answers (Err stop.TooManyCases)
+      → ListsAllCases settings.config settings.filters programs answers found → item_limit < length found → Collects settings kyuafile asked answers (Err stop.TooManyCases)
   chosen : (asked : List Asked) (answers : List Reply) (programs : List Program) (found : List Candidate) → Loads kyuafile asked (Ok programs)
-      → Offers settings.config settings.filters programs answers found → length found ≤ item_limit
-      → Collects settings kyuafile asked answers (Ok (chosen_of settings.filters found))
+      → ListsAllCases settings.config settings.filters programs answers found → length found ≤ item_limit
+      → Collects settings kyuafile asked answers (Ok (selection_of settings.filters found))
 
--- `CollectsFirst settings kyuafile asked answers`: before an allocation failed, a selection with
--- the settings `settings` from the tree of the Kyuafile `kyuafile` made the calls `asked` to the
--- tree, and then the calls `answers` by which programs list their cases.
-pub data CollectsFirst (settings : Settings) (kyuafile : List ℕ) : List Asked → List Reply → Type 0 where
-  loading : (asked : List Asked) → LoadsFirst kyuafile asked → CollectsFirst settings kyuafile asked []
+-- `IsCollectionPrefix settings kyuafile asked answers`: `asked` and `answers` may be the calls of a
+-- selection before an allocation failed. They are calls to the tree, and then calls by which
+-- programs list their cases. The selection has the settings `settings`, from the tree of the
+-- Kyuafile `kyuafile`.
+pub data IsCollectionPrefix (settings : Settings) (kyuafile : List ℕ) : List Asked → List Reply → Type 0 where
+  loading : (asked : List Asked) → IsLoadPrefix kyuafile asked → IsCollectionPrefix settings kyuafile asked []
   offering : (asked : List Asked) (answers : List Reply) (programs : List Program) → Loads kyuafile asked (Ok programs)
-      → OffersFirst settings.config settings.filters programs answers → CollectsFirst settings kyuafile asked answers
+      → IsAllListsPrefix settings.config settings.filters programs answers → IsCollectionPrefix settings kyuafile asked answers

@@ -8,21 +8,21 @@ pub use Rattle.kt_metadata.specs.Effective.{effective}
 pub use Rattle.kt_metadata.specs.Requirements.{first_reason, needed, rows}
 pub use Rattle.kt_sched.specs.Children.{IsIdle}
 pub use Rattle.kt_sched.specs.Plan.{IsFit, IsPlan}
-pub use Rattle.kt_suite.specs.Answers.{Answered, Asked}
+pub use Rattle.kt_suite.specs.Answers.{LeadsByCalls, Asked}
 pub use Rattle.kt_suite.specs.Faults.{IsNoMemory, no_memory}
-pub use Rattle.kt_suite.specs.Inner.Steps.{Blames}
+pub use Rattle.kt_suite.specs.Inner.Steps.{IsFaultAt}
 pub use Rattle.kt_suite.specs.Matching.{MayMatch}
 pub use Rattle.kt_suite.specs.Registered.{program_limit}
 pub use Rattle.kt_suite.specs.Selecting.{item_limit}
 pub use Rattle.kt_suite.specs.declared.filter.Filter.{Filter}
-pub use Rattle.kt_plan.specs.Collecting.{IsWanted, ListsCases, Offers, OffersFirst, OffersOne, candidate_of, candidates_of, chosen_of, item_of, selected_cases, variables_for}
-pub use Rattle.kt_plan.specs.Configuring.{Configures, Filters, IsConfiguration, ReadsConfig, filter_of, filters_of, lacks_case, names_one_case, or_stop, argument_definition, argument_definitions}
-pub use Rattle.kt_plan.specs.Inner.Collecting.{Collected, ListsFirst, LoadsOrShort, places_from}
-pub use Rattle.kt_plan.specs.Inner.Configuring.{ChecksTogether, HasConfiguration, AppendsDefinitions, AppendsDefinition, HoldsOrShort, ReadsSettingsOrShort, config_or_stop, position_in, config_read_stop}
+pub use Rattle.kt_plan.specs.Collecting.{IsSelectable, ListsAtfCases, ListsAllCases, IsAllListsPrefix, ListsProgramCases, candidate_of, candidates_of, selection_of, item_of, selected_cases, variables_for}
+pub use Rattle.kt_plan.specs.Configuring.{Configures, Filters, IsConfiguration, ReadsConfig, filter_of, filters_of, is_case_missing, names_one_case, with_selection_error, argument_definition, argument_definitions}
+pub use Rattle.kt_plan.specs.Inner.Collecting.{CollectsBetween, IsListPrefix, LoadsOrNoMemory, selected_indexes}
+pub use Rattle.kt_plan.specs.Inner.Configuring.{FindsOverlap, HasConfiguration, AppendsDefinitions, AppendsDefinition, HoldsOrNoMemory, ReadsSettingsOrNoMemory, config_or_error, position_in, config_read_error}
 pub use Rattle.kt_plan.specs.Inner.Planning.{RecordsFound}
-pub use Rattle.kt_plan.specs.Planning.{ArePlanned, IsDecided, IsJobOf, ChecksNeeds, Surveys, SurveysFirst, is_atf, meta_in, needs_among, needs_by, needs_in, needs_of}
-pub use Rattle.kt_plan.specs.Questions.{IsCallPrefix, leads_by}
-pub use Rattle.kt_plan.specs.Selecting.{SelectsOrShort}
-pub use Rattle.kt_plan.specs.Stops.{IsShort, StopsForMemory}
+pub use Rattle.kt_plan.specs.Planning.{ArePlanned, DecidesVerdict, IsJobOf, ChecksNeeds, Surveys, IsSurveyPrefix, is_atf, candidate_meta, needs_of_kinds, case_needs, needs_of_kind, needs_of_cases}
+pub use Rattle.kt_plan.specs.WorldCalls.{IsCallPrefix, WorldLeads}
+pub use Rattle.kt_plan.specs.Selecting.{SelectsOrNoMemory}
+pub use Rattle.kt_plan.specs.Stops.{IsNoMemoryResult, IsNoMemoryError}
 pub use Rattle.kt_plan.specs.Reply.{Finds, HasDisk, HasMemory, IsRoot, Lists, Now, ReadConfig, Reply}
 pub use Rattle.kt_plan.specs.declared.cases.Candidate.{Candidate}

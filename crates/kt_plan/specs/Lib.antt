@@ -4,9 +4,9 @@ pub mod Configuring
 pub mod Inner
 pub mod Listings
 pub mod Planning
-pub mod Questions
+pub mod WorldCalls
 pub mod Reply
 pub mod Selecting
-pub mod StopWords
+pub mod SelectionMessages
 pub mod Stops
 pub mod Types

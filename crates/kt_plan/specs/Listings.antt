@@ -8,16 +8,17 @@ use Rattle.kt_suite.specs.Faults.{fault_at}
 use Rattle.kt_suite.specs.Registered.{Outcome, Registered, Unfinished}
 
 -- `Loads kyuafile asked outcome`: `outcome` has the programs that the Kyuafile at the path
--- `kyuafile` registers, by the calls `asked` to the tree, or is its error. A path without a file
--- name, such as one that ends in a slash, is unreadable. The error then has the path as it was
+-- `kyuafile` registers, or is its error. `asked` are the calls to the tree. A path without a file
+-- name, such as a path that ends in a slash, is unreadable. The error then has the path as it was
 -- given, and no call is made.
 pub data Loads (kyuafile : List ℕ) : List Asked → Outcome → Type 0 where
   unnamed : is_empty (name_in kyuafile) ≡ true → Loads kyuafile [] (Err (fault_at kyuafile 0 Unreadable))
   named : (asked : List Asked) (outcome : Outcome) → is_empty (name_in kyuafile) ≡ false → Registered asked (name_in kyuafile) outcome → Loads kyuafile asked outcome
 
--- `LoadsFirst kyuafile asked`: `asked` are the calls to the tree of the Kyuafile `kyuafile` before
--- an allocation failed. They are all calls if the tree reported the failed allocation.
-pub data LoadsFirst (kyuafile : List ℕ) : List Asked → Type 0 where
-  before_tree : LoadsFirst kyuafile []
-  unfinished : (asked : List Asked) (outcome : Outcome) → Unfinished asked (name_in kyuafile) outcome → LoadsFirst kyuafile asked
-  by_tree : (asked : List Asked) (fault : SuiteFault) (refusal : OutOfMemory) → fault.cause ≡ NoMemory refusal → Loads kyuafile asked (Err fault) → LoadsFirst kyuafile asked
+-- `IsLoadPrefix kyuafile asked`: `asked` may be the calls to the tree of the Kyuafile `kyuafile`
+-- before an allocation failed. If the tree reported the failed allocation, they include the call
+-- that reported it.
+pub data IsLoadPrefix (kyuafile : List ℕ) : List Asked → Type 0 where
+  before_tree : IsLoadPrefix kyuafile []
+  unfinished : (asked : List Asked) (outcome : Outcome) → Unfinished asked (name_in kyuafile) outcome → IsLoadPrefix kyuafile asked
+  by_tree : (asked : List Asked) (fault : SuiteFault) (refusal : OutOfMemory) → fault.cause ≡ NoMemory refusal → Loads kyuafile asked (Err fault) → IsLoadPrefix kyuafile asked

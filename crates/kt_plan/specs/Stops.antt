@@ -1,13 +1,14 @@
--- The error of a command that stops because of a failed allocation.
+-- The error of a failed allocation, which stops a command.
 use Rattle.std.specs.Prelude.{◌≡◌, Result, Ok, Err}
-use Rattle.kt_plan.specs.Types.{NoMemory as OutOfMemory, Stop}
-use Rattle.kt_plan.specs.declared.stop.Stop.TheVariants as stop
+use Rattle.kt_plan.specs.Types.{NoMemory as OutOfMemory, SelectionError}
+use Rattle.kt_plan.specs.declared.selection_error.SelectionError.TheVariants as stop
 
--- `StopsForMemory fault`: the error `fault`, which stops a command, is a failed allocation.
-abbrev pub StopsForMemory : Stop → Type 0
-StopsForMemory fault = (refusal : OutOfMemory) × (fault ≡ stop.NoMemory refusal)
+-- `IsNoMemoryError fault`: `fault`, the error of a command, is a failed allocation.
+abbrev pub IsNoMemoryError : SelectionError → Type 0
+IsNoMemoryError fault = (refusal : OutOfMemory) × (fault ≡ stop.NoMemory refusal)
 
--- `IsShort result`: the result `result` of a step of a command is the error of a failed allocation.
-abbrev pub IsShort : {T : Type 0} → Result T Stop → Type 0
-IsShort (Ok x) = ⊥
-IsShort (Err fault) = StopsForMemory fault
+-- `IsNoMemoryResult result`: `result`, the result of a step of a command, is the error of a failed
+-- allocation.
+abbrev pub IsNoMemoryResult : {T : Type 0} → Result T SelectionError → Type 0
+IsNoMemoryResult (Ok x) = ⊥
+IsNoMemoryResult (Err fault) = IsNoMemoryError fault

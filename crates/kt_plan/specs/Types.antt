@@ -17,9 +17,10 @@ pub use Rattle.kt_suite.specs.declared.selecting.Item.{Item}
 pub use Rattle.kt_suite.specs.declared.tree.ReadFault.{ReadFault}
 pub use Rattle.kt_suite.specs.declared.tree.ReadFault.TheVariants.{Failed, Memory, Missing}
 pub use Rattle.kt_sched.specs.declared.job.Job.{Job}
+pub use Rattle.kt_args.specs.declared.filter_rule.FilterRule.{FilterRule}
 pub use Rattle.kt_args.specs.declared.options.CaseOptions.{CaseOptions}
 pub use Rattle.kt_plan.specs.declared.cases.Candidate.{Candidate}
-pub use Rattle.kt_plan.specs.declared.cases.Chosen.{Chosen}
+pub use Rattle.kt_plan.specs.declared.cases.CaseSelection.{CaseSelection}
 pub use Rattle.kt_plan.specs.declared.cases.CommandSelection.{CommandSelection}
 pub use Rattle.kt_plan.specs.declared.options.Settings.{Settings}
-pub use Rattle.kt_plan.specs.declared.stop.Stop.{Stop}
+pub use Rattle.kt_plan.specs.declared.selection_error.SelectionError.{SelectionError}

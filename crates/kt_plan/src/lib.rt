@@ -1,16 +1,16 @@
-//! The steps of a command over test cases before a test starts: its settings, the selected cases,
-//! and their plan.
+//! The steps of a command before a test starts: it reads its settings, selects the test cases and
+//! makes their plan.
 #![tactic(auto)]
 
 mod cases;
 mod options;
 mod plan;
-mod stop;
+mod selection_error;
 mod world;
 
 pub use cases::collecting::select_cases;
-pub use cases::{Candidate, Chosen, CommandSelection};
+pub use cases::{Candidate, CaseSelection, CommandSelection};
 pub use options::Settings;
 pub use plan::planning::prepare;
-pub use stop::Stop;
+pub use selection_error::SelectionError;
 pub use world::World;

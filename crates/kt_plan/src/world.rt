@@ -4,19 +4,20 @@ use kt_metadata::Need;
 use kt_sched::Launcher;
 use kt_suite::{Program, ReadFault, Tree};
 
-/// An interface to the environment of a command: test suite files, a launcher, and the host.
+/// An interface to the files, the case lists, the launcher and the host that a command uses.
 pub trait World: Tree + Launcher {
     ghost use Rattle.std.specs.Prelude.{ℕ, ◌≡◌};
     ghost use Rattle.kt_plan.specs.Common.{Role, IsIdle, IsMoment, Asked, Reply, ReadConfig, Lists, Finds, IsRoot, HasMemory, HasDisk, Now};
 
-    /// `replies old reply new`: the call `reply` to the host, which has its result, may lead the
-    /// world from the state `old` to the state `new`.
+    /// `replies old reply new`: the call `reply` to the host, with its result, may take the world
+    /// from the state `old` to the state `new`.
     ghost replies: { Self → Reply → Self → Type 0 };
 
     /// Returns the bytes of the configuration file at `path`.
     ///
-    /// A relative path starts at the working directory. Of a longer file, only the first 1,048,577
-    /// bytes may be returned. This is one byte more than a script may have (1 MiB).
+    /// A relative path starts at the working directory. If the file has more than 1,048,577 bytes,
+    /// only the first 1,048,577 may be returned. This is one byte more than a script may have (1
+    /// MiB).
     ///
     /// # Errors
     ///
@@ -26,7 +27,8 @@ pub trait World: Tree + Launcher {
     fn config(&mut self, path: &Text) -> Result<Bytes, ReadFault>
         ensures { replies self.old (ReadConfig path.now result) self.new };
 
-    /// Lists the test cases of the ATF program `program` by running it, and returns the listing.
+    /// Lists the test cases of the ATF program `program` by running the program. Returns the cause
+    /// if it can't be started, and otherwise its outcome and output.
     ///
     /// `variables` are the variables of the program's test suite. No other test program may be
     /// running.
@@ -36,18 +38,18 @@ pub trait World: Tree + Launcher {
 
     /// Returns `true` if a file of any type exists at the absolute path `path`.
     ///
-    /// This meets a requirement of `required_files` (kyuafile(5)).
+    /// The property `required_files` (kyuafile(5)) requires such files.
     fn file_exists(&mut self, path: &Text) -> bool
         ensures { replies self.old (Finds Need.File path.now result) self.new };
 
-    /// Returns `true` if the program `name`, an executable regular file, exists.
+    /// Returns `true` if there is an executable regular file for the program `name`.
     ///
-    /// `name` is an absolute path, or a name in a directory of `PATH`. This meets a requirement of
-    /// `required_programs` (kyuafile(5)).
+    /// `name` is an absolute path, or a name in a directory of `PATH`. The property
+    /// `required_programs` (kyuafile(5)) requires such programs.
     fn program_found(&mut self, name: &Text) -> bool
         ensures { replies self.old (Finds Need.Program name.now result) self.new };
 
-    /// Returns `true` if the runner is root.
+    /// Returns `true` if the user of the runner is root.
     fn is_root(&mut self) -> bool
         ensures { replies self.old (IsRoot result) self.new };
 
@@ -55,7 +57,8 @@ pub trait World: Tree + Launcher {
     fn memory(&mut self) -> Option<u64>
         ensures { replies self.old (HasMemory result) self.new };
 
-    /// Returns the free disk space in bytes, or `None` if the host can't report it.
+    /// Returns the free disk space for work directories in bytes, or `None` if the host can't
+    /// report it.
     fn disk(&mut self) -> Option<u64>
         ensures { replies self.old (HasDisk result) self.new };
 
@@ -67,18 +70,18 @@ pub trait World: Tree + Launcher {
         ensures moment { IsMoment result };
 
     /// No call to the tree changes the running children.
-    ghost runs_on: { (s t : Self) (q : Asked) → Self.asks s q t → (k : ℕ) (r : Role)
+    ghost tree_keeps_running: { (s t : Self) (q : Asked) → Self.asks s q t → (k : ℕ) (r : Role)
         → Self.running t k r ≡ Self.running s k r };
 
     /// No call to the tree changes the pending cleanups.
-    ghost pends_on: { (s t : Self) (q : Asked) → Self.asks s q t → (k : ℕ)
+    ghost tree_keeps_pending: { (s t : Self) (q : Asked) → Self.asks s q t → (k : ℕ)
         → Self.pending t k ≡ Self.pending s k };
 
     /// No call to the host changes the running children.
-    ghost runs_by_reply: { (s t : Self) (q : Reply) → Self.replies s q t → (k : ℕ) (r : Role)
+    ghost host_keeps_running: { (s t : Self) (q : Reply) → Self.replies s q t → (k : ℕ) (r : Role)
         → Self.running t k r ≡ Self.running s k r };
 
     /// No call to the host changes the pending cleanups.
-    ghost pends_by_reply: { (s t : Self) (q : Reply) → Self.replies s q t → (k : ℕ)
+    ghost host_keeps_pending: { (s t : Self) (q : Reply) → Self.replies s q t → (k : ℕ)
         → Self.pending t k ≡ Self.pending s k };
 }

@@ -1,9 +1,9 @@
 //! The implementation of `ResultsHost` for the host.
 
 use kt_base::Text;
-use kt_child::DriverFault;
-use kt_cli::{ProcessEnv, ResultsHost};
+use kt_cli::ResultsHost;
 use kt_dbfile::{RunsFile, TrustedContents};
+use kt_os::{OsFault, ProcessEnv};
 use kt_store::{Access, StoreFault};
 use sqlite::{FileFrom, FileStore, Unknown};
 
@@ -11,6 +11,7 @@ use sqlite::{FileFrom, FileStore, Unknown};
 pub(crate) trait InitialContents: TrustedContents {
     ghost use Rattle.std.specs.Prelude.{ℕ, List};
 
+    /// The path of the results file, in characters.
     ghost path: { List ℕ };
 }
 
@@ -40,7 +41,10 @@ impl<S: InitialContents> ResultsHost for KyuaHost<'_, S> {
     ghost provides = { λ _ asked _. IsHostOfFiles S.path (image_at S.Start) asked };
 
     fn open(&mut self, file: &Text, access: Access) -> Result<Self::Results, StoreFault> {
-        RunsFile::open(self.rt, file, access, self.start.take())
+        match RunsFile::open(self.rt, file, access, self.start.take()) {
+            Ok(results) => Ok(results),
+            Err((fault, _leftover)) => Err(fault),
+        }
     }
 
     fn close(&mut self, results: Self::Results) -> Result<(), StoreFault> {
@@ -50,7 +54,7 @@ impl<S: InitialContents> ResultsHost for KyuaHost<'_, S> {
         }
     }
 
-    fn process_env(&mut self) -> Result<ProcessEnv, DriverFault> {
-        ProcessEnv::of_process(self.rt)
+    fn process_env(&mut self) -> Result<ProcessEnv, OsFault> {
+        ProcessEnv::from_process(self.rt)
     }
 }

@@ -4,11 +4,10 @@
 mod host;
 
 use host::{InitialContents, KyuaHost};
-use kt_child::HostOs;
 use kt_cli::{
-    HeldOutput, HostHandles, LineOutput, OsFiles, ResultsHost, SharedOutput, StandardOutput,
-    run_args,
+    HostHandles, LineOutput, NonblockingOutput, ResultsHost, SharedOutput, StandardOutput, run_args,
 };
+use kt_os::{HostOs, OsFiles};
 use sqlite::Unknown;
 use std::alloc::Global;
 use std::cell::RefCell;
@@ -20,7 +19,7 @@ use std::process::ExitCode;
 /// Bytes that the reader of standard output does not take yet are held in memory or in a temporary
 /// file.
 fn execute<P: ResultsHost>(rt: &HostRuntime, host: &mut P) -> ExitCode {
-    let held = RefCell::new(HeldOutput::new(rt.alloc(), StandardOutput::new(rt)));
+    let held = RefCell::new(NonblockingOutput::new(rt.alloc(), StandardOutput::new(rt)));
     let outside = HostHandles {
         alloc: rt.alloc(),
         machine: OsFiles { rt },
@@ -43,7 +42,8 @@ fn run<S: InitialContents>(rt: &HostRuntime, start: S) -> ExitCode {
     execute(rt, &mut host)
 }
 
-/// The size of the block that is freed, in bytes. glibc's threshold is at most twice this size.
+/// The size of the block that `keep_large_blocks` allocates and frees, in bytes. glibc's threshold
+/// is at most twice this size.
 const LARGE_BLOCK: usize = 16_777_216;
 
 /// Makes glibc serve large outputs from its heap, instead of mapping and unmapping each of them.

@@ -3,7 +3,7 @@ use Rattle.std.specs.Prelude.{ℕ, Bool, List, [], ◌≡◌, false, Option, Res
 use Rattle.kt_cli.specs.Types.{Counts, Entry, Job, Leads, NoEvent, RunFault, SinkFailed, SinkFault, Totals, Trace}
 use Rattle.kt_sched.specs.declared.launcher.Launcher as launcher
 use Rattle.kt_sched.specs.declared.run_fault.RunFault.TheVariants.{NoMemory}
-use Rattle.kt_cli.specs.Inner.Pages.{Says}
+use Rattle.kt_cli.specs.Inner.Pages.{WritesNext}
 use Rattle.kt_cli.specs.Recordings.{AllRecorded}
 use Rattle.kt_cli.specs.Debugging.{all_debug_bytes, debug_bytes}
 
@@ -12,7 +12,7 @@ use Rattle.kt_cli.specs.Debugging.{all_debug_bytes, debug_bytes}
 -- `held'` are the contents of the writer before and after, and `failed'` is whether a write has
 -- failed then.
 abbrev pub Prints : Bool → Option (List ℕ) → Entry → Result (Unit {0}) SinkFault → Bool → Option (List ℕ) → Type 0
-Prints failed held entry answer failed' held' = (answer ≡ Ok tt) × Says held failed held' failed' (debug_bytes entry)
+Prints failed held entry answer failed' held' = (answer ≡ Ok tt) × WritesNext held failed held' failed' (debug_bytes entry)
 
 -- `DebugEnds plan T entries outcome`: if `outcome` is a success, `entries` are those of all cases
 -- of `plan` with the trace `T`, and `outcome` has their totals. The only possible error is a failed
@@ -31,5 +31,5 @@ module _ {L : Type 0} (l : launcher.Ghosts L) (plan : List Job) where
     pub trace : Trace
     pub leads : Leads l.starts l.waits plan trace old new
     pub entries : List Entry
-    pub says : Says was false now failed (all_debug_bytes entries)
+    pub says : WritesNext was false now failed (all_debug_bytes entries)
     pub ends : DebugEnds plan trace entries answer

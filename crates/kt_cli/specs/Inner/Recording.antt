@@ -4,7 +4,7 @@ use Rattle.kt_cli.specs.Types.{Entry, Put, Run, SinkFault, StoreFault, line_byte
 use Rattle.kt_sched.specs.declared.sink.SinkFault.TheVariants.{Memory, Other}
 use Rattle.kt_store.specs.declared.result_store.StoreSpec as keeping
 use Rattle.kt_store.specs.declared.store_fault.StoreFault.TheVariants.{NoMemory}
-use Rattle.kt_cli.specs.Inner.Pages.{Says}
+use Rattle.kt_cli.specs.Inner.Pages.{WritesNext}
 use Rattle.kt_cli.specs.Inner.Stores.{put_all}
 use Rattle.kt_cli.specs.Stores.{CallsStore}
 
@@ -18,8 +18,8 @@ sink_fault_of other = Other
 abbrev pub HasRecorded : {R : Type 0} → (R → List Run → Type 0) → ℕ → R → List Entry → Type 0
 HasRecorded Stands number store put = (first : List Run) × Stands store (put_all number put first)
 
--- The state of a `Recorder`: the store, the number of the run, whether a write has failed, and the
--- content of the writer (`held`).
+-- `Recording R`: the state of a `Recorder` over a store of type `R`: the store, the number of the
+-- run, whether a write has failed, and the content of the writer (`held`).
 pub record Recording (R : Type 0) : Type 0 where
   pub store : R
   pub number : ℕ
@@ -38,6 +38,6 @@ module _ {R : Type 0} (r : keeping.Ghosts R) where
   -- written. `r` is the specification of the store.
   abbrev pub Recorded : Recording R → Entry → Result (Unit {0}) SinkFault → Recording R → Type 0
   Recorded old e (Ok x) new =
-      (new.number ≡ old.number) × CallsStore r (Put old.number e (Ok tt) ∷ []) old.store new.store × Says old.held old.failed new.held new.failed (line_bytes e)
+      (new.number ≡ old.number) × CallsStore r (Put old.number e (Ok tt) ∷ []) old.store new.store × WritesNext old.held old.failed new.held new.failed (line_bytes e)
   Recorded old e (Err f) new =
       (new.number ≡ old.number) × ((fault : StoreFault) × (f ≡ sink_fault_of fault) × CallsStore r (Put old.number e (Err fault) ∷ []) old.store new.store) × (new.failed ≡ old.failed) × (new.held ≡ old.held)

@@ -4,9 +4,9 @@ use Rattle.kt_cli.specs.Types.{Counts, Entry, Job, Leads, NoEvent, Put, RunFault
 use Rattle.kt_sched.specs.declared.launcher.Launcher as launcher
 use Rattle.kt_sched.specs.declared.run_fault.RunFault.TheVariants.{NoMemory}
 use Rattle.kt_store.specs.declared.result_store.StoreSpec as keeping
-use Rattle.kt_cli.specs.Inner.Pages.{Says}
+use Rattle.kt_cli.specs.Inner.Pages.{WritesNext}
 use Rattle.kt_cli.specs.Inner.Recording.{sink_fault_of}
-use Rattle.kt_cli.specs.Scenes.{Scene}
+use Rattle.kt_cli.specs.CommandStates.{CommandState}
 use Rattle.kt_cli.specs.Stores.{CallsStore, puts}
 use Rattle.kt_cli.specs.Totals.{lines}
 use Rattle.kt_cli.specs.Recordings.{AllRecorded, IsStopped}
@@ -29,7 +29,7 @@ pub record RecordedNone (T : Trace) (entries : List Entry) (last : List StoreCal
 module _ (plan : List Job) (n number : ℕ) (T : Trace) (entries : List Entry) (last : List StoreCall) where
   -- `RecordedSome plan n number T entries last fault`: in the trace `T` of `plan` at width `n`,
   -- `entries` were recorded, and `last` is the failed put of the next entry into run `number`.
-  -- `fault` is the fault that the sink returned for it.
+  -- `fault` is the fault that the sink returned for this put.
   pub record RecordedSome (fault : SinkFault) : Type 0 where
     pub entry : Entry
     pub refusal : StoreFault
@@ -46,16 +46,16 @@ module _ (plan : List Job) (n number : ℕ) (T : Trace) (entries : List Entry) (
   RecordEnds (Err (NoMemory refusal)) = RecordedNone T entries last
 
 module _ {L R : Type 0} (l : launcher.Ghosts L) (r : keeping.Ghosts R) (plan : List Job) (n number : ℕ) where
-  -- `Records l r plan n number old new answer failed`: from scene `old` to `new`, `plan` was
-  -- executed at width `n` with the result `answer`. The store calls put entries into run `number`,
+  -- `Records l r plan n number old new answer failed`: `plan` was executed at width `n`, from the
+  -- state `old` to `new`, with the result `answer`. The store calls put entries into run `number`,
   -- and the last put may have failed. The lines of the successful puts were printed in order,
   -- unless a write failed (`failed`). `l` has the relations of the launcher, and `r` is the
   -- specification of the store.
-  pub record Records (old new : Scene L R) (answer : Result Totals RunFault) (failed : Bool) : Type 0 where
+  pub record Records (old new : CommandState L R) (answer : Result Totals RunFault) (failed : Bool) : Type 0 where
     pub trace : Trace
     pub leads : Leads l.starts l.waits plan trace old.world new.world
     pub entries : List Entry
     pub last : List StoreCall
     pub stored : CallsStore r (puts number entries ++ last) old.store new.store
-    pub says : Says old.held false new.held failed (lines entries)
+    pub says : WritesNext old.held false new.held failed (lines entries)
     pub ends : RecordEnds plan n number trace entries last answer

@@ -4,9 +4,9 @@ ghost use Rattle.kt_args.specs.declared.command.Command.TheVariants as command;
 
 use crate::Exit;
 use crate::commands::recorder::Printer;
-use crate::messages::{stopped, write_memory, write_run_fault, write_warnings};
-use crate::output::exit::{FAILED, ended};
-use kt_args::CaseOptions;
+use crate::messages::{stopped, write_memory_error, write_run_fault, write_warnings};
+use crate::output::exit::{FAILURE, ended};
+use kt_args::{CaseOptions, FilterRule};
 use kt_base::{Items, OutputFault};
 use kt_plan::{World, prepare, select_cases};
 use kt_sched::{Job, Launcher, RunFault, Totals, run_cases};
@@ -53,7 +53,7 @@ pub fn debug<W: World, O: Write>(
         (O.contents out.old) (O.contents out.new) result.status }
     ensures idle { IsIdle (W.running world.new) (W.pending world.new) }
 {
-    let picked = match select_cases(alloc, true, options, world) {
+    let picked = match select_cases(alloc, FilterRule::OneCase, options, world) {
         Ok(picked) => picked,
         Err(fault) => return stopped(fault, out),
     };
@@ -63,11 +63,11 @@ pub fn debug<W: World, O: Write>(
     };
     let plan = match prepare(alloc, &picked.settings.config, &cases[..1], world) {
         Ok(plan) => plan,
-        Err(refusal) => return ended(write_memory(refusal, out), FAILED),
+        Err(refusal) => return ended(write_memory_error(refusal, out), FAILURE),
     };
     let (answer, written) = print_cases(alloc, plan, world, out);
     match answer {
         Ok(totals) => ended(written, if totals.bad == 0 { 0 } else { 1 }),
-        Err(fault) => ended(write_run_fault(written, fault, out), FAILED),
+        Err(fault) => ended(write_run_fault(written, fault, out), FAILURE),
     }
 }

@@ -1,10 +1,10 @@
 ghost use Rattle.std.specs.Prelude.{IfOk, OnErr, ◌≡◌, ℕ, List};
-ghost use Rattle.kt_cli.specs.Common.{IsIdle, CommandResult, Scene, scene, ExecutesAllCommands, Run, Command, StoreIsSound};
+ghost use Rattle.kt_cli.specs.Common.{IsIdle, CommandResult, CommandState, command_state, ExecutesAllCommands, Run, Command, StoreIsSound};
 
 use crate::Exit;
 use crate::commands::debugging::debug;
 use crate::commands::listing::list;
-use crate::commands::reporting::{report, report_junit};
+use crate::commands::reporting::execute_report;
 use crate::commands::testing::test;
 use kt_args::Command;
 use kt_base::NoMemory;
@@ -32,8 +32,8 @@ pub fn execute<W: World, R: ResultStore, O: Write>(
 ) -> Exit
     requires { IsIdle (W.running world.old) (W.pending world.old) }
     ensures did { CommandResult W.World R.StoreSpec command.now
-        (scene world.old results.old (O.contents out.old))
-        (scene world.new results.new (O.contents out.new)) result.status }
+        (command_state world.old results.old (O.contents out.old))
+        (command_state world.new results.new (O.contents out.new)) result.status }
     ensures idle { IsIdle (W.running world.new) (W.pending world.new) }
 {
     match command {
@@ -43,12 +43,9 @@ pub fn execute<W: World, R: ResultStore, O: Write>(
             results: file,
         } => test(alloc, options, file, world, results, out),
         Command::Debug(options) => debug(alloc, options, world, out),
-        Command::Report {
-            options,
-            kinds,
-            verbose,
-        } => report(options.run, kinds.as_slice(), *verbose, results, out),
-        Command::ReportJunit(options) => report_junit(alloc, options.run, results, out),
+        Command::Report { .. } | Command::ReportJunit(_) => {
+            execute_report(alloc, command, results, out)
+        }
     }
 }
 
@@ -68,8 +65,8 @@ pub fn execute_all<W: World, R: ResultStore, O: Write>(
 ) -> Result<Vec<Exit>, NoMemory>
     requires { IsIdle (W.running world.old) (W.pending world.old) }
     ensures did { IfOk result (λ exits. ExecutesAllCommands W.World R.StoreSpec commands.now
-        (scene world.old results.old (O.contents out.old))
-        (scene world.new results.new (O.contents out.new)) exits.items) }
+        (command_state world.old results.old (O.contents out.old))
+        (command_state world.new results.new (O.contents out.new)) exits.items) }
     ensures idle { IsIdle (W.running world.new) (W.pending world.new) }
     ensures unasked { OnErr result ((world.new ≡ world.old) × (results.new ≡ results.old)
         × (O.contents out.new ≡ O.contents out.old)) }
@@ -92,7 +89,7 @@ pub fn execute_all<W: World, R: ResultStore, O: Write>(
 /// store fails only if memory ran out, the database failed, or the store has the maximum number of
 /// runs.
 pub fn theorem_of_sound_stores<W: World, R: ResultStore>()
-    ensures { (c : Command) (old new : Scene W R) (exit : ℕ) (runs : List Run)
+    ensures { (c : Command) (old new : CommandState W R) (exit : ℕ) (runs : List Run)
         (did : CommandResult W.World R.StoreSpec c old new exit) → R.stands old.store runs
         → R.sound new.store → StoreIsSound did runs }
 {}

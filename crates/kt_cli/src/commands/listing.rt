@@ -1,23 +1,23 @@
 ghost use Rattle.std.specs.Prelude.{is_err};
-ghost use Rattle.kt_cli.specs.Common.{Shows, IsIdle, listing, ExecutesWithoutStore};
+ghost use Rattle.kt_cli.specs.Common.{Emits, IsIdle, listing, ExecutesWithoutStore};
 ghost use Rattle.kt_args.specs.declared.command.Command.TheVariants as command;
 
 use crate::Exit;
 use crate::messages::{stopped, write_warnings};
 use crate::output::exit::{ended, status_of};
-use kt_args::CaseOptions;
+use kt_args::{CaseOptions, FilterRule};
 use kt_base::{OutputFault, emit_all};
-use kt_plan::{Chosen, World, select_cases};
+use kt_plan::{CaseSelection, World, select_cases};
 use std::alloc::Global;
 use std::io::Write;
 
 /// Writes a line for each selected case, and a warning for each filter that selects none.
 fn write_listing<O: Write>(
     options: &CaseOptions,
-    chosen: &Chosen,
+    chosen: &CaseSelection,
     out: &mut O,
 ) -> Result<(), OutputFault>
-    ensures { Shows (O.contents out.old) (O.contents out.new) (is_err result)
+    ensures { Emits (O.contents out.old) (O.contents out.new) (is_err result)
         (listing options.now.filters chosen.now) }
 {
     for case in chosen.cases.as_slice() {
@@ -42,7 +42,7 @@ pub fn list<W: World, O: Write>(
         (O.contents out.old) (O.contents out.new) result.status }
     ensures idle { IsIdle (W.running world.new) (W.pending world.new) }
 {
-    match select_cases(alloc, false, options, world) {
+    match select_cases(alloc, FilterRule::AnyFilters, options, world) {
         Ok(picked) => {
             let written = write_listing(options, &picked.chosen, out);
             ended(written, status_of(0, &picked.chosen))

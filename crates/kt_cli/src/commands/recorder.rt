@@ -1,5 +1,5 @@
 ghost use Rattle.std.specs.Prelude.{◌≡◌, is_err};
-ghost use Rattle.kt_cli.specs.Common.{sink_fault_of, debug_bytes, Says};
+ghost use Rattle.kt_cli.specs.Common.{sink_fault_of, debug_bytes, WritesNext};
 
 use kt_base::{Entry, OutputFault, emit_all};
 use kt_report::line;
@@ -72,7 +72,7 @@ fn write_entry<O: Write>(
     entry: &Entry,
     out: &mut O,
 ) -> Result<(), OutputFault>
-    ensures { Says (O.contents out.old) (is_err written) (O.contents out.new) (is_err result)
+    ensures { WritesNext (O.contents out.old) (is_err written) (O.contents out.new) (is_err result)
         (debug_bytes entry.now) }
 {
     written?;

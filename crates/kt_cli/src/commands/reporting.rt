@@ -1,18 +1,20 @@
-ghost use Rattle.std.specs.Prelude.{◌≡◌, is_err, true};
-ghost use Rattle.kt_cli.specs.Common.{utf8, Shows, TextOrUnread, JunitOrUnread, WritesReport, WritesStored, Date, IsDateOf, junit_layout, outputs_reading, pairs_reading, text_layout, entries_by_section, Reported, ReportedJunit, IsMissing, ReadsRun, not_shown_line};
+ghost use Rattle.std.specs.Prelude.{◌≡◌, is_err, true, None};
+ghost use Rattle.kt_cli.specs.Common.{cases_of, ExecutesWithoutWorld, utf8, Emits, WritesReport, WritesStored, Date, IsDateOf, junit_layout, outputs_reading, pairs_reading, text_layout, entries_by_section, ReportCompletes, JunitCompletes, IsMissing, ReadsRun, not_shown_line};
 
 use crate::Exit;
 use crate::commands::report_error::ReportError;
 use crate::commands::stored_details::StoredDetails;
-use crate::messages::{write_memory, write_refusal};
-use crate::output::exit::{FAILED, ended};
+use crate::messages::{write_memory_error, write_store_error};
+use crate::output::exit::{FAILURE, ended};
+use kt_args::Command;
 use kt_base::{Decimal, Items, Kind, OutputFault, Run, emit, emit_all};
-use kt_report::{ReportFault, ReportStop, junit_over, text, text_over};
+use kt_report::{ReportFault, WriteReportError, text, write_junit_report, write_text_report};
 use kt_store::{ResultStore, StoreFault};
 use std::alloc::Global;
 use std::io::Write;
 
-/// Returns the error of a missing run: the store has no runs, or no run `number`.
+/// Returns the error of a missing run: the store has no runs, or no run `number`. If the store can't
+/// be read, returns the store's error.
 fn missing<R: ResultStore>(number: Option<u64>, results: &mut R) -> ReportError
     ensures { IsMissing R.StoreSpec number results.old results.new result }
 {
@@ -51,7 +53,7 @@ fn read_run<R: ResultStore>(number: Option<u64>, results: &mut R) -> Result<Run,
 
 /// Writes the error line of a run that can't be shown.
 fn write_report_error<O: Write>(why: ReportError, out: &mut O) -> Result<(), OutputFault>
-    ensures { Shows (O.contents out.old) (O.contents out.new) (is_err result)
+    ensures { Emits (O.contents out.old) (O.contents out.new) (is_err result)
         (utf8 (not_shown_line why)) }
 {
     match why {
@@ -60,7 +62,7 @@ fn write_report_error<O: Write>(why: ReportError, out: &mut O) -> Result<(), Out
             let digits = Decimal::new(number);
             emit_all(&[b"kyua: E: no run ", digits.as_bytes(), b"\n"], out)
         }
-        ReportError::Refused(fault) => write_refusal(fault, out),
+        ReportError::Refused(fault) => write_store_error(fault, out),
     }
 }
 
@@ -72,7 +74,7 @@ fn write_text<R: ResultStore, O: Write>(
     kinds: &[Kind],
     results: &mut R,
     out: &mut O,
-) -> Result<(), ReportStop<StoreFault, OutputFault>>
+) -> Result<(), WriteReportError<StoreFault, OutputFault>>
     ensures { (date : Date) × IsDateOf run.now.started date
         × WritesStored R.StoreSpec pairs_reading run.now.number (text_layout date true run.now)
         (entries_by_section kinds.now run.now.entries) results.old results.new
@@ -80,7 +82,7 @@ fn write_text<R: ResultStore, O: Write>(
 {
     let number = run.number;
     let mut details = StoredDetails { results, number };
-    let written = text_over(run, kinds, true, &mut details, out);
+    let written = write_text_report(run, kinds, true, &mut details, out);
     // No effect: this use shows the prover that the borrow of the details ends here.
     let _ = &*details.results;
     written
@@ -98,20 +100,20 @@ pub fn report<R: ResultStore, O: Write>(
     out: &mut O,
 ) -> Exit
     ensures { WritesReport R.StoreSpec results.old results.new (O.contents out.old)
-        (O.contents out.new) result.status (Reported number kinds.now verbose)
-        (TextOrUnread number kinds.now verbose) }
+        (O.contents out.new) result.status
+        (λ failed. ReportCompletes number kinds.now failed verbose) }
 {
     let run = match read_run(number, results) {
         Ok(run) => run,
-        Err(why) => return ended(write_report_error(why, out), FAILED),
+        Err(why) => return ended(write_report_error(why, out), FAILURE),
     };
     if !verbose {
         return ended(text(&run, kinds, false, out), 0);
     }
     match write_text(&run, kinds, results, out) {
         Ok(()) => Exit { status: 0 },
-        Err(ReportStop::Details(fault)) => ended(write_refusal(fault, out), FAILED),
-        Err(ReportStop::Report(_)) => Exit { status: FAILED },
+        Err(WriteReportError::Details(fault)) => ended(write_store_error(fault, out), FAILURE),
+        Err(WriteReportError::Report(_)) => Exit { status: FAILURE },
     }
 }
 
@@ -123,13 +125,13 @@ fn write_junit<R: ResultStore, O: Write>(
     run: &Run,
     results: &mut R,
     out: &mut O,
-) -> Result<(), ReportStop<StoreFault, ReportFault>>
+) -> Result<(), WriteReportError<StoreFault, ReportFault>>
     ensures { WritesStored R.StoreSpec outputs_reading run.now.number (junit_layout run.now)
         run.now.entries results.old results.new (O.contents out.old) (O.contents out.new) result }
 {
     let number = run.number;
     let mut details = StoredDetails { results, number };
-    let written = junit_over(alloc, run, &mut details, out);
+    let written = write_junit_report(alloc, run, &mut details, out);
     // No effect: this use shows the prover that the borrow of the details ends here.
     let _ = &*details.results;
     written
@@ -145,18 +147,40 @@ pub fn report_junit<R: ResultStore, O: Write>(
     out: &mut O,
 ) -> Exit
     ensures { WritesReport R.StoreSpec results.old results.new (O.contents out.old)
-        (O.contents out.new) result.status (ReportedJunit number) (JunitOrUnread number) }
+        (O.contents out.new) result.status (JunitCompletes number) }
 {
     let run = match read_run(number, results) {
         Ok(run) => run,
-        Err(why) => return ended(write_report_error(why, out), FAILED),
+        Err(why) => return ended(write_report_error(why, out), FAILURE),
     };
     match write_junit(alloc, &run, results, out) {
         Ok(()) => Exit { status: 0 },
-        Err(ReportStop::Details(fault)) => ended(write_refusal(fault, out), FAILED),
-        Err(ReportStop::Report(ReportFault::Output(_))) => Exit { status: FAILED },
-        Err(ReportStop::Report(ReportFault::NoMemory(refusal))) => {
-            ended(write_memory(refusal, out), FAILED)
+        Err(WriteReportError::Details(fault)) => ended(write_store_error(fault, out), FAILURE),
+        Err(WriteReportError::Report(ReportFault::Output(_))) => Exit { status: FAILURE },
+        Err(WriteReportError::Report(ReportFault::NoMemory(refusal))) => {
+            ended(write_memory_error(refusal, out), FAILURE)
         }
+    }
+}
+
+/// Executes `report` or `report-junit`, and returns the exit status.
+pub fn execute_report<R: ResultStore, O: Write>(
+    alloc: Global,
+    command: &Command,
+    results: &mut R,
+    out: &mut O,
+) -> Exit
+    requires { cases_of command.now ≡ None }
+    ensures { ExecutesWithoutWorld R.StoreSpec command.now results.old results.new
+        (O.contents out.old) (O.contents out.new) result.status }
+{
+    match command {
+        Command::Report {
+            options,
+            kinds,
+            verbose,
+        } => report(options.run, kinds.as_slice(), *verbose, results, out),
+        Command::ReportJunit(options) => report_junit(alloc, options.run, results, out),
+        Command::List(_) | Command::Test { .. } | Command::Debug(_) => unreachable!(),
     }
 }

@@ -1,5 +1,5 @@
 use kt_base::{Entry, Variables};
-use kt_report::{Details, ShownOutputs};
+use kt_report::{Details, EntryOutputs};
 use kt_store::{ResultStore, StoreFault};
 
 /// A `Details` that reads the properties and the outputs of a run's entries from a results store.
@@ -30,9 +30,9 @@ impl<R: ResultStore> Details for StoredDetails<'_, R> {
         Ok(Some(pairs))
     }
 
-    fn outputs(&mut self, entry: &Entry) -> Result<Option<ShownOutputs>, StoreFault> {
+    fn outputs(&mut self, entry: &Entry) -> Result<Option<EntryOutputs>, StoreFault> {
         let read = self.results.outputs(self.number, entry.position)?;
-        Ok(Some(ShownOutputs {
+        Ok(Some(EntryOutputs {
             body: read.body,
             cleanup: read.cleanup,
         }))

@@ -1,14 +1,16 @@
 ghost use Rattle.std.specs.Prelude.{◌≤◌, length, is_err, false};
-ghost use Rattle.kt_cli.specs.Common.{Shows, utf8, IsIdle, IsMoment, IsPlan, IsWidth, item_limit, CommandResult, Says, Records, ExecutesPlan, scene, ending, run_for, totals_text};
+ghost use Rattle.kt_cli.specs.Common.{Emits, utf8, IsIdle, IsMoment, IsPlan, IsWidth, item_limit, CommandResult, WritesNext, Records, ExecutesPlan, command_state, ending, run_for, totals_text};
 ghost use Rattle.kt_args.specs.declared.command.Command.TheVariants as command;
 
 use crate::Exit;
 use crate::commands::recorder::{Recorder, sink_fault};
-use crate::messages::{stopped, write_memory, write_refusal, write_run_fault, write_warnings};
-use crate::output::exit::{FAILED, ended, status_of};
-use kt_args::CaseOptions;
+use crate::messages::{
+    stopped, write_memory_error, write_run_fault, write_store_error, write_warnings,
+};
+use crate::output::exit::{FAILURE, ended, status_of};
+use kt_args::{CaseOptions, FilterRule};
 use kt_base::{Decimal, Items, OutputFault, Text, emit_all};
-use kt_plan::{Chosen, CommandSelection, World, prepare, select_cases};
+use kt_plan::{CaseSelection, CommandSelection, World, prepare, select_cases};
 use kt_sched::{Job, Launcher, RunFault, Totals, run_cases};
 use kt_store::ResultStore;
 use std::alloc::Global;
@@ -37,8 +39,8 @@ fn record_cases<L: Launcher, R: ResultStore, O: Write>(
     requires width { IsWidth numbered.width }
     requires idle { IsIdle (L.running launcher.old) (L.pending launcher.old) }
     ensures records { Records L.Launcher R.StoreSpec numbered.plan numbered.width numbered.number
-        (scene launcher.old results.old (O.contents out.old))
-        (scene launcher.new results.new (O.contents out.new)) result.0 (is_err result.1) }
+        (command_state launcher.old results.old (O.contents out.old))
+        (command_state launcher.new results.new (O.contents out.new)) result.0 (is_err result.1) }
     ensures idle { IsIdle (L.running launcher.new) (L.pending launcher.new) }
 {
     let NumberedPlan {
@@ -63,7 +65,7 @@ fn record_cases<L: Launcher, R: ResultStore, O: Write>(
 /// `total` cases are good: they passed, were skipped or failed as expected. `bad` cases failed or
 /// are broken.
 fn write_totals<O: Write>(good: u64, total: u64, bad: u64, out: &mut O) -> Result<(), OutputFault>
-    ensures { Shows (O.contents out.old) (O.contents out.new) (is_err result)
+    ensures { Emits (O.contents out.old) (O.contents out.new) (is_err result)
         (utf8 (totals_text good total bad)) }
 {
     let passed = Decimal::new(good);
@@ -83,16 +85,16 @@ fn write_totals<O: Write>(good: u64, total: u64, bad: u64, out: &mut O) -> Resul
     )
 }
 
-/// Writes the totals, and a warning for each filter that selects no case. If `written`, the result
-/// of the earlier writes, is an error, writes nothing and returns this error.
+/// Writes the totals `totals`, and a warning for each filter in `options` that selects no case. If
+/// `written`, the result of the earlier writes, is an error, writes nothing and returns this error.
 fn write_ending<O: Write>(
     written: Result<(), OutputFault>,
     totals: Totals,
     options: &CaseOptions,
-    chosen: &Chosen,
+    chosen: &CaseSelection,
     out: &mut O,
 ) -> Result<(), OutputFault>
-    ensures { Says (O.contents out.old) (is_err written) (O.contents out.new) (is_err result)
+    ensures { WritesNext (O.contents out.old) (is_err written) (O.contents out.new) (is_err result)
         (ending totals.good totals.total totals.bad options.now.filters chosen.now.unmatched) }
 {
     written?;
@@ -101,7 +103,7 @@ fn write_ending<O: Write>(
 }
 
 /// A plan before its run begins, with the options and the selection that the jobs come from.
-/// `moment` is the start, in milliseconds since 1970-01-01 UTC.
+/// `moment` is the start of the run, in milliseconds since 1970-01-01 UTC.
 #[derive(Drop)]
 struct PlannedRun<'a> {
     plan: Items<Job>,
@@ -125,8 +127,8 @@ fn run_plan<L: Launcher, R: ResultStore, O: Write>(
     ensures ran { ExecutesPlan L.Launcher R.StoreSpec
         (run_for planned.entry.plan planned.entry.options.now planned.entry.picked.now
         planned.entry.moment)
-        (scene launcher.old results.old (O.contents out.old))
-        (scene launcher.new results.new (O.contents out.new)) result.status }
+        (command_state launcher.old results.old (O.contents out.old))
+        (command_state launcher.new results.new (O.contents out.new)) result.status }
     ensures idle { IsIdle (L.running launcher.new) (L.pending launcher.new) }
 {
     let PlannedRun {
@@ -138,7 +140,7 @@ fn run_plan<L: Launcher, R: ResultStore, O: Write>(
     let total = plan.len() as u32;
     let number = match results.begin(total, moment) {
         Ok(number) => number,
-        Err(fault) => return ended(write_refusal(fault, out), FAILED),
+        Err(fault) => return ended(write_store_error(fault, out), FAILURE),
     };
     let width = picked.settings.config.parallelism();
     let numbered = NumberedPlan {
@@ -148,11 +150,11 @@ fn run_plan<L: Launcher, R: ResultStore, O: Write>(
     };
     let (answer, written) = record_cases(alloc, numbered, launcher, results, out);
     match answer {
-        Err(fault) => ended(write_run_fault(written, fault, out), FAILED),
+        Err(fault) => ended(write_run_fault(written, fault, out), FAILURE),
         Ok(totals) => match results.finish(number) {
             Err(fault) => {
                 let fault = RunFault::SinkFailed(sink_fault(fault));
-                ended(write_run_fault(written, fault, out), FAILED)
+                ended(write_run_fault(written, fault, out), FAILURE)
             }
             Ok(()) => {
                 let all = write_ending(written, totals, options, &picked.chosen, out);
@@ -176,18 +178,18 @@ pub fn test<W: World, R: ResultStore, O: Write>(
 ) -> Exit
     requires { IsIdle (W.running world.old) (W.pending world.old) }
     ensures did { CommandResult W.World R.StoreSpec (command.Test options.now file.now)
-        (scene world.old results.old (O.contents out.old))
-        (scene world.new results.new (O.contents out.new)) result.status }
+        (command_state world.old results.old (O.contents out.old))
+        (command_state world.new results.new (O.contents out.new)) result.status }
     ensures idle { IsIdle (W.running world.new) (W.pending world.new) }
 {
-    let picked = match select_cases(alloc, false, options, world) {
+    let picked = match select_cases(alloc, FilterRule::AnyFilters, options, world) {
         Ok(picked) => picked,
         Err(fault) => return stopped(fault, out),
     };
     let cases = picked.chosen.cases.as_slice();
     let plan = match prepare(alloc, &picked.settings.config, cases, world) {
         Ok(plan) => plan,
-        Err(refusal) => return ended(write_memory(refusal, out), FAILED),
+        Err(refusal) => return ended(write_memory_error(refusal, out), FAILURE),
     };
     let moment = world.now();
     let planned = PlannedRun {

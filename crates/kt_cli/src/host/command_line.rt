@@ -4,9 +4,9 @@ ghost use Rattle.kt_args.specs.declared.command_fault.CommandFault.{CommandFault
 ghost use Rattle.kt_cli.specs.Common.{RunsArguments, Command, IsCommandOfArgs, line_state, program, state};
 
 use crate::host::performing::run_command;
-use crate::{HostFiles, HostHandles, LineOutput, ResultsHost};
-use kt_args::{Command, read_words};
-use kt_child::Os;
+use crate::{HostHandles, LineOutput, ResultsHost};
+use kt_args::read_words;
+use kt_os::{HostFiles, Os};
 use std::env::Args;
 use std::io;
 use std::io::Write;
@@ -15,7 +15,8 @@ use std::io::Write;
 ///
 /// The first of `words` is the program's own name. Wrong arguments are reported on `errors`, the
 /// standard error. The output of `kyua test` is written line by line, and the output of another
-/// command in blocks of 64 KiB. `outside` is returned in its state after the command.
+/// command in blocks of 64 KiB. `platform` opens and closes the results file. `outside` is returned
+/// in its state after the command.
 pub fn run_args<M: HostFiles + Drop, O: Os + Drop, P: ResultsHost, W: Write, E: Write>(
     outside: HostHandles<M, O>,
     platform: &mut P,
@@ -24,7 +25,8 @@ pub fn run_args<M: HostFiles + Drop, O: Os + Drop, P: ResultsHost, W: Write, E: 
     errors: &mut E,
 ) -> (u8, HostHandles<M, O>)
     ensures { (command : Result Command Fault)
-        × IsCommandOfArgs (λ all. map (λ word. string_bytes word) (drop 1 (into_iter_items all))) words command
+        × IsCommandOfArgs (λ all. map (λ word. string_bytes word) (drop 1 (into_iter_items all)))
+        words command
         × RunsArguments (program M.HostFiles O.Os P.ResultsHost P.Results.StoreSpec) command
         (state platform.old outside) (state platform.new result.1)
         (record { out = line_state W.contents out.old; errors = E.contents errors.old })
@@ -32,7 +34,11 @@ pub fn run_args<M: HostFiles + Drop, O: Os + Drop, P: ResultsHost, W: Write, E: 
         result.0 }
 {
     let command = read_words(outside.alloc, words);
-    out.set_by_line(matches!(&command, Ok(Command::Test { .. })));
+    let by_line = match &command {
+        Ok(command) => command.adds_run(),
+        Err(_) => false,
+    };
+    out.set_line_buffered(by_line);
     let (exit, outside) = run_command(outside, platform, command, out, errors);
     (exit.status, outside)
 }

@@ -1,14 +1,13 @@
-ghost use Rattle.std.specs.Prelude.{◌≡◌, IfOk, IfErr, OnErr};
-ghost use Rattle.kt_cli.specs.Common.{chars, IsIdle, is_among, shown_in, IsMade, NoDriver, NoRoot, ExecutesOverDriver, source_directory, scene};
+ghost use Rattle.std.specs.Prelude.{◌≡◌, IfOk, IfErr};
+ghost use Rattle.kt_cli.specs.Common.{chars, IsIdle, is_among, launcher_child_in, IsFirstWorld, IsNewDriver, FailsToCreateDriver, FailsToCreateRoot, source_directory};
 
-use crate::{Exit, HostFiles, HostHandles, HostWorld, ProcessEnv, execute};
-use kt_args::{CaseOptions, Command};
+use crate::{HostHandles, HostWorld};
+use kt_args::CaseOptions;
 use kt_base::{NoMemory, Text, is_absolute};
-use kt_child::{Driver, DriverFault, Os};
-use kt_store::ResultStore;
+use kt_child::{Driver, DriverFault};
+use kt_os::{HostFiles, Os, ProcessEnv};
 use kt_suite::{parent_path, split_path};
 use std::alloc::Global;
-use std::io::Write;
 
 /// Returns the absolute path of the directory of `kyuafile`, without a slash at its end.
 ///
@@ -17,7 +16,7 @@ use std::io::Write;
 /// # Errors
 ///
 /// - `NoMemory`: an allocation fails.
-pub fn source_of(alloc: Global, here: &str, kyuafile: &Text) -> Result<Text, NoMemory>
+pub fn kyuafile_directory(alloc: Global, here: &str, kyuafile: &Text) -> Result<Text, NoMemory>
     ensures { IfOk result (λ source. source ≡ source_directory (chars here.now) kyuafile.now) }
 {
     if is_absolute(kyuafile.as_str()) {
@@ -35,53 +34,47 @@ pub fn source_of(alloc: Global, here: &str, kyuafile: &Text) -> Result<Text, NoM
 /// `here` is the absolute working directory. Fails with `NoWorkDirectory` if `work` is not absolute
 /// or the root directory can't be created. Fails with `NoMemory` if an allocation fails. `os` is
 /// returned with the error.
-fn driver_of<O: Os + Drop>(
+fn create_driver<O: Os + Drop>(
     alloc: Global,
     os: O,
     here: &Text,
     work: &Text,
     kyuafile: &Text,
 ) -> Result<Driver<O>, (DriverFault, O)>
-    ensures made { IfOk result (λ driver. IsMade O.Os os here.now work.now kyuafile.now driver) }
-    ensures idle { IfOk result (λ driver. IsIdle (shown_in driver.running)
+    ensures made { IfOk result (λ driver. IsNewDriver O.Os os here.now work.now kyuafile.now
+        driver) }
+    ensures idle { IfOk result (λ driver. IsIdle (launcher_child_in driver.running)
         (is_among driver.running.pending)) }
-    ensures refused { IfErr result (λ e. NoRoot O.Os os work.now e.0 e.1) }
+    ensures refused { IfErr result (λ e. FailsToCreateRoot O.Os os work.now e.0 e.1) }
 {
     if !is_absolute(work.as_str()) {
         return Err((DriverFault::NoWorkDirectory, os));
     }
-    match source_of(alloc, here.as_str(), kyuafile) {
+    match kyuafile_directory(alloc, here.as_str(), kyuafile) {
         Ok(source) => Driver::new(alloc, os, work, source),
         Err(refusal) => Err((DriverFault::NoMemory(refusal), os)),
     }
 }
 
-/// Executes `list`, `test` or `debug` on the host, over the test cases that `options` select.
+/// Creates the world in which a command over test cases starts, with a new driver.
 ///
-/// The command has its own root directory for work directories, which is removed at the end.
-/// `outside` is returned in its state after the command.
+/// The driver has its own root directory for work directories, which the caller must remove.
 ///
 /// # Errors
 ///
-/// The driver can't be created. The results and the output are unchanged.
+/// The driver can't be created. `outside` is returned with the error, in its state after the calls.
 ///
 /// - `NoWorkDirectory`: `options.work` is not absolute, or no root directory can be created in it.
 /// - `NoMemory`: an allocation fails.
-pub fn execute_over_cases<M: HostFiles + Drop, O: Os + Drop, S: ResultStore, W: Write>(
+pub fn first_world<M: HostFiles + Drop, O: Os + Drop>(
     outside: HostHandles<M, O>,
     around: ProcessEnv,
-    command: &Command,
     options: &CaseOptions,
-    results: &mut S,
-    out: &mut W,
-) -> Result<(Exit, HostHandles<M, O>), (DriverFault, HostHandles<M, O>)>
-    ensures did { IfOk result (λ done. ExecutesOverDriver M.HostFiles O.Os S.StoreSpec
-        (scene outside results.old (W.contents out.old))
-        (scene done.1 results.new (W.contents out.new))
-        around options.now command.now done.0.status) }
-    ensures refused { IfErr result (λ e. NoDriver O.Os outside options.now.work e.0 e.1) }
-    ensures unasked { OnErr result
-        ((results.new ≡ results.old) × (W.contents out.new ≡ W.contents out.old)) }
+) -> Result<HostWorld<M, O>, (DriverFault, HostHandles<M, O>)>
+    ensures first { IfOk result (IsFirstWorld O.Os outside around options.now) }
+    ensures idle { IfOk result (λ world. IsIdle (launcher_child_in world.driver.running)
+        (is_among world.driver.running.pending)) }
+    ensures refused { IfErr result (λ e. FailsToCreateDriver O.Os outside options.now.work e.0 e.1) }
 {
     let (work, kyuafile) = (&options.work, &options.kyuafile);
     let directory = match split_path(outside.alloc, kyuafile) {
@@ -89,23 +82,14 @@ pub fn execute_over_cases<M: HostFiles + Drop, O: Os + Drop, S: ResultStore, W: 
         Err(refusal) => return Err((DriverFault::NoMemory(refusal), outside)),
     };
     let HostHandles { alloc, machine, os } = outside;
-    let driver = match driver_of(alloc, os, &around.here, work, kyuafile) {
+    let driver = match create_driver(alloc, os, &around.here, work, kyuafile) {
         Ok(driver) => driver,
         Err((fault, os)) => return Err((fault, HostHandles { alloc, machine, os })),
     };
-    let mut world = HostWorld {
+    Ok(HostWorld {
         machine,
         directory,
         driver,
         around,
-    };
-    let exit = execute(alloc, command, &mut world, results, out);
-    let HostWorld {
-        machine,
-        driver,
-        ..
-    } = world;
-    // The root directory is removed even after a failed command.
-    let os = driver.close();
-    Ok((exit, HostHandles { alloc, machine, os }))
+    })
 }

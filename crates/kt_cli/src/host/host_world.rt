@@ -1,9 +1,11 @@
-use crate::host::host_path::{LONGEST_PATH, joined_path};
-use crate::host::program_search::is_found;
-use crate::{HostFiles, ProcessEnv};
+ghost use Rattle.std.specs.Prelude.{◌≡◌};
+ghost use Rattle.kt_cli.specs.HostReplies.{IsWithinReadLimit, file_answer, file_fault};
+ghost use Rattle.kt_os.specs.Machines.{ReadsFile};
+
 use kt_atflist::Listing;
 use kt_base::{Bytes, Role, Text, Variables};
-use kt_child::{Driver, Os};
+use kt_child::Driver;
+use kt_os::{FileFault, HostFiles, MAX_PATH_BYTES, Os, ProcessEnv, is_program_found, join_path};
 use kt_plan::World;
 use kt_sched::{Ended, Job, Launcher, StartAnswer};
 use kt_suite::{Program, ReadFault, Tree};
@@ -26,21 +28,21 @@ pub struct HostWorld<M: Drop, O: Os + Drop> {
 }
 
 impl<M: HostFiles + Drop, O: Os + Drop> Tree for HostWorld<M, O> {
-    ghost use Rattle.kt_cli.specs.HostAnswers.{IsFileCall};
+    ghost use Rattle.kt_cli.specs.HostReplies.{IsFileCall};
 
     ghost asks = { IsFileCall M.answers };
 
     fn read(&mut self, path: &Text) -> Result<Bytes, ReadFault> {
-        let mut room = [0u8; LONGEST_PATH];
-        match joined_path(self.directory.as_str(), "", path.as_str(), &mut room) {
-            Some(place) => self.machine.front(place),
+        let mut room = [0u8; MAX_PATH_BYTES];
+        match join_path(self.directory.as_str(), "", path.as_str(), &mut room) {
+            Some(place) => read_and_peek(&mut self.machine, place),
             None => Err(ReadFault::Failed),
         }
     }
 
     fn exists(&mut self, path: &Text) -> bool {
-        let mut room = [0u8; LONGEST_PATH];
-        match joined_path(self.directory.as_str(), "", path.as_str(), &mut room) {
+        let mut room = [0u8; MAX_PATH_BYTES];
+        match join_path(self.directory.as_str(), "", path.as_str(), &mut room) {
             Some(place) => self.machine.is_file(place),
             None => false,
         }
@@ -48,9 +50,9 @@ impl<M: HostFiles + Drop, O: Os + Drop> Tree for HostWorld<M, O> {
 }
 
 impl<M: HostFiles + Drop, O: Os + Drop> Launcher for HostWorld<M, O> {
-    ghost use Rattle.kt_cli.specs.Common.{is_among, shown_in, HostStarts, HostWaits};
+    ghost use Rattle.kt_cli.specs.Common.{is_among, launcher_child_in, HostStarts, HostWaits};
 
-    ghost running = { λ s. shown_in s.driver.running };
+    ghost running = { λ s. launcher_child_in s.driver.running };
 
     ghost pending = { λ s. is_among s.driver.running.pending };
 
@@ -69,12 +71,12 @@ impl<M: HostFiles + Drop, O: Os + Drop> Launcher for HostWorld<M, O> {
 
 impl<M: HostFiles + Drop, O: Os + Drop> World for HostWorld<M, O> {
     ghost use Rattle.std.specs.Prelude.{◌≡◌};
-    ghost use Rattle.kt_cli.specs.Common.{ap, ChildrenState, is_among, shown_in, IsHostAnswer, look_kept, running_kept};
+    ghost use Rattle.kt_cli.specs.Common.{ap, ChildrenState, is_among, launcher_child_in, IsHostReply, file_call_keeps_children, call_keeps_children};
 
-    ghost replies = { IsHostAnswer M.answers O.leads };
+    ghost replies = { IsHostReply M.answers O.leads };
 
     fn config(&mut self, path: &Text) -> Result<Bytes, ReadFault> {
-        self.machine.front(path.as_str())
+        read_and_peek(&mut self.machine, path.as_str())
     }
 
     fn list(&mut self, program: &Program, variables: &Variables) -> Listing {
@@ -82,11 +84,11 @@ impl<M: HostFiles + Drop, O: Os + Drop> World for HostWorld<M, O> {
     }
 
     fn file_exists(&mut self, path: &Text) -> bool {
-        self.machine.is_there(path.as_str())
+        self.machine.path_exists(path.as_str())
     }
 
     fn program_found(&mut self, name: &Text) -> bool {
-        is_found(&mut self.machine, &self.around.path, name)
+        is_program_found(&mut self.machine, &self.around.path, name)
     }
 
     fn is_root(&mut self) -> bool {
@@ -105,15 +107,37 @@ impl<M: HostFiles + Drop, O: Os + Drop> World for HostWorld<M, O> {
         self.machine.moment()
     }
 
-    ghost runs_on = { λ s t q h k r. ap (λ (b : ChildrenState). shown_in b k r)
-        (look_kept M.answers s t q h) };
+    ghost tree_keeps_running = { λ s t q h k r. ap (λ (b : ChildrenState). launcher_child_in b k r)
+        (file_call_keeps_children M.answers s t q h) };
 
-    ghost pends_on = { λ s t q h k. ap (λ (b : ChildrenState). is_among b.pending k)
-        (look_kept M.answers s t q h) };
+    ghost tree_keeps_pending = { λ s t q h k. ap (λ (b : ChildrenState). is_among b.pending k)
+        (file_call_keeps_children M.answers s t q h) };
 
-    ghost runs_by_reply = { λ s t q h k r. ap (λ (b : ChildrenState). shown_in b k r)
-        (running_kept M.answers O.leads s t q h) };
+    ghost host_keeps_running = { λ s t q h k r. ap (λ (b : ChildrenState). launcher_child_in b k r)
+        (call_keeps_children M.answers O.leads s t q h) };
 
-    ghost pends_by_reply = { λ s t q h k. ap (λ (b : ChildrenState). is_among b.pending k)
-        (running_kept M.answers O.leads s t q h) };
+    ghost host_keeps_pending = { λ s t q h k. ap (λ (b : ChildrenState). is_among b.pending k)
+        (call_keeps_children M.answers O.leads s t q h) };
+}
+
+/// Returns the fault of a read for the tree or the configuration, for `fault` of the host's files.
+fn read_fault(fault: FileFault) -> ReadFault
+    ensures { file_fault result ≡ fault }
+{
+    match fault {
+        FileFault::Missing => ReadFault::Missing,
+        FileFault::Failed => ReadFault::Failed,
+        FileFault::Memory(refusal) => ReadFault::Memory(refusal),
+    }
+}
+
+/// Reads a regular file of the host, at most its first 1,048,577 bytes.
+fn read_and_peek<M: HostFiles>(machine: &mut M, path: &str) -> Result<Bytes, ReadFault>
+    ensures answered { M.answers machine.old (ReadsFile path.now (file_answer result)) machine.new }
+    ensures short { IsWithinReadLimit result }
+{
+    match machine.front(path) {
+        Ok(bytes) => Ok(bytes),
+        Err(fault) => Err(read_fault(fault)),
+    }
 }

@@ -1,23 +1,26 @@
-ghost use Rattle.std.specs.Prelude.{◌≡◌};
-ghost use Rattle.kt_cli.specs.Common.{access_of, given_bytes, line_state, RunsArguments, WithResults, OverProcesses, program, scene, state, Rejected};
+ghost use Rattle.std.specs.Prelude.{◌≡◌, Some};
+ghost use Rattle.kt_cli.specs.Common.{access_of, given_bytes, line_state, RunsArguments, ExecutesInFile, ExecutesOnHost, program, command_state, state, RejectsArguments};
 
-use crate::commands::reporting::{report, report_junit};
-use crate::host::host_execution::execute_over_cases;
-use crate::messages::with_closed;
+use crate::commands::reporting::execute_report;
+use crate::host::host_execution::first_world;
+use crate::messages::print_close_fault;
+use crate::no_store::NoStore;
 use crate::{
-    Exit, HostFiles, HostHandles, LineOutput, MemRuns, ResultsHost, print_command_fault,
+    Exit, HostHandles, HostWorld, LineOutput, ResultsHost, execute, print_command_fault,
     print_driver_fault, print_store_fault,
 };
 use kt_args::{Command, CommandFault};
 use kt_base::Text;
-use kt_child::Os;
+use kt_child::DriverFault;
+use kt_os::{HostFiles, Os};
 use kt_store::{Access, ResultStore};
 use std::io::Write;
 
 /// Executes a command over the open results store `results`, and returns its exit status.
 ///
-/// `list`, `test` and `debug` also get the working directory and the environment of the process.
-/// `outside` is returned in its state after the command.
+/// `list`, `test` and `debug` also get the working directory and the environment of the process,
+/// and a root directory for work directories, which is removed at the end. `outside` is returned in
+/// its state after the command.
 fn perform_over<M: HostFiles + Drop, O: Os + Drop, P: ResultsHost, S: ResultStore, W: Write>(
     outside: HostHandles<M, O>,
     platform: &mut P,
@@ -25,36 +28,36 @@ fn perform_over<M: HostFiles + Drop, O: Os + Drop, P: ResultsHost, S: ResultStor
     results: &mut S,
     out: &mut W,
 ) -> (Exit, HostHandles<M, O>)
-    ensures { OverProcesses (program M.HostFiles O.Os P.ResultsHost P.Results.StoreSpec) S.StoreSpec command.now
-        (scene (state platform.old outside) results.old (W.contents out.old))
-        (scene (state platform.new result.1) results.new (W.contents out.new)) result.0.status }
+    ensures { ExecutesOnHost (program M.HostFiles O.Os P.ResultsHost P.Results.StoreSpec)
+        S.StoreSpec command.now
+        (command_state (state platform.old outside) results.old (W.contents out.old))
+        (command_state (state platform.new result.1) results.new (W.contents out.new))
+        result.0.status }
 {
-    match command {
-        Command::List(options) | Command::Debug(options) | Command::Test { options, .. } => {
-            let around = match platform.process_env() {
-                Ok(around) => around,
-                Err(fault) => return (print_driver_fault(fault, out), outside),
-            };
-            match execute_over_cases(outside, around, command, options, results, out) {
-                Ok(done) => done,
-                Err((fault, outside)) => (print_driver_fault(fault, out), outside),
-            }
-        }
-        Command::Report {
-            options,
-            kinds,
-            verbose,
-        } => (
-            report(options.run, kinds.as_slice(), *verbose, results, out),
+    let Some(options) = command.cases() else {
+        return (
+            execute_report(outside.alloc, command, results, out),
             outside,
-        ),
-        Command::ReportJunit(options) => {
-            (
-                report_junit(outside.alloc, options.run, results, out),
-                outside,
-            )
-        }
-    }
+        );
+    };
+    let around = match platform.process_env() {
+        Ok(around) => around,
+        Err(fault) => return (print_driver_fault(DriverFault::from(fault), out), outside),
+    };
+    let alloc = outside.alloc;
+    let mut world = match first_world(outside, around, options) {
+        Ok(world) => world,
+        Err((fault, outside)) => return (print_driver_fault(fault, out), outside),
+    };
+    let exit = execute(alloc, command, &mut world, results, out);
+    let HostWorld {
+        machine,
+        driver,
+        ..
+    } = world;
+    // The root directory is removed even after a failed command.
+    let os = driver.close();
+    (exit, HostHandles { alloc, machine, os })
 }
 
 /// Returns the access with which a command opens its results file.
@@ -63,9 +66,10 @@ fn perform_over<M: HostFiles + Drop, O: Os + Drop, P: ResultsHost, S: ResultStor
 fn access_of(command: &Command) -> Access
     ensures { result ≡ access_of command.now }
 {
-    match command {
-        Command::Test { .. } => Access::Record,
-        _ => Access::Read,
+    if command.adds_run() {
+        Access::Record
+    } else {
+        Access::Read
     }
 }
 
@@ -78,9 +82,11 @@ fn perform_in_file<M: HostFiles + Drop, O: Os + Drop, P: ResultsHost, W: Write>(
     file: &Text,
     out: &mut W,
 ) -> (Exit, HostHandles<M, O>)
-    ensures { WithResults (program M.HostFiles O.Os P.ResultsHost P.Results.StoreSpec) command.now file.now
-        (scene (state platform.old outside) tt (W.contents out.old))
-        (scene (state platform.new result.1) tt (W.contents out.new)) result.0.status }
+    ensures { ExecutesInFile (program M.HostFiles O.Os P.ResultsHost P.Results.StoreSpec)
+        command.now
+        (command_state (state platform.old outside) tt (W.contents out.old))
+        (command_state (state platform.new result.1) tt (W.contents out.new)) result.0.status
+        (Some file.now) }
 {
     let mut results = match platform.open(file, access_of(command)) {
         Ok(results) => results,
@@ -89,7 +95,7 @@ fn perform_in_file<M: HostFiles + Drop, O: Os + Drop, P: ResultsHost, W: Write>(
     let (exit, outside) = perform_over(outside, platform, command, &mut results, out);
     // The results are closed even after a failed command.
     let closed = platform.close(results);
-    (with_closed(exit, closed, out), outside)
+    (print_close_fault(exit, closed, out), outside)
 }
 
 /// Prints why the arguments are rejected to `errors`, the standard error, and returns the exit
@@ -98,7 +104,7 @@ fn perform_in_file<M: HostFiles + Drop, O: Os + Drop, P: ResultsHost, W: Write>(
 /// An out-of-memory message is printed to `out`, the standard output, where the messages of
 /// commands are printed.
 fn reject<W: Write, E: Write>(fault: &CommandFault, out: &mut LineOutput<W>, errors: &mut E) -> Exit
-    ensures { Rejected fault.now
+    ensures { RejectsArguments fault.now
         (record { out = line_state W.contents out.old; errors = E.contents errors.old })
         (record { out = line_state W.contents out.new; errors = E.contents errors.new })
         result.status }
@@ -115,8 +121,9 @@ fn reject<W: Write, E: Write>(fault: &CommandFault, out: &mut LineOutput<W>, err
 /// Executes a parsed command, or prints the fault of its arguments, and returns the exit status.
 ///
 /// The command uses the files, the clock and the system of `outside`, and the results file that
-/// `platform` opens and closes. `list` and `debug` use no results file, but an empty store in
-/// memory. At the end all output is written. `outside` is returned in its state after the command.
+/// `platform` opens and closes. `list` and `debug` use no results file, but a store without
+/// runs, and never call it. At the end all output is written. `outside` is returned in its
+/// state after the command.
 pub fn run_command<M: HostFiles + Drop, O: Os + Drop, P: ResultsHost, W: Write, E: Write>(
     outside: HostHandles<M, O>,
     platform: &mut P,
@@ -136,10 +143,7 @@ pub fn run_command<M: HostFiles + Drop, O: Os + Drop, P: ResultsHost, W: Write, 
     };
     let (exit, outside) = match command.results() {
         Some(file) => perform_in_file(outside, platform, &command, file, out),
-        None => {
-            let mut results = MemRuns::new(outside.alloc);
-            perform_over(outside, platform, &command, &mut results, out)
-        }
+        None => perform_over(outside, platform, &command, &mut NoStore, out),
     };
     (out.finish(exit), outside)
 }

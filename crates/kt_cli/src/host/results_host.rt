@@ -1,6 +1,5 @@
-use crate::ProcessEnv;
 use kt_base::Text;
-use kt_child::DriverFault;
+use kt_os::{OsFault, ProcessEnv};
 use kt_store::{Access, ResultStore, StoreFault};
 
 /// An interface to the results files and the environment of the process.
@@ -42,8 +41,8 @@ pub trait ResultsHost {
     ///
     /// # Errors
     ///
-    /// - `NoWorkDirectory`: the system returned no working directory.
-    /// - `NoMemory`: an allocation fails.
-    fn process_env(&mut self) -> Result<ProcessEnv, DriverFault>
+    /// - `Failed`: the system returned no working directory.
+    /// - `Memory`: an allocation fails.
+    fn process_env(&mut self) -> Result<ProcessEnv, OsFault>
         ensures { provides self.old (Found result) self.new };
 }

@@ -6,6 +6,7 @@ use std::marker::Model;
 ///
 /// In contracts its value is the remaining bytes, in order.
 pub struct Backlog {
+    /// The written bytes that are not removed yet, followed by the remaining bytes.
     bytes: Vec<u8>,
     /// The index of the first remaining byte, at most the length of `bytes`.
     start: usize,
@@ -65,14 +66,14 @@ impl Backlog {
         ensures ok { OnOk result (self.new ≡ self.old ++ more.now) }
         ensures err { OnErr result (self.new ≡ self.old) }
     {
-        self.remove_written();
+        self.compact();
         self.bytes.extend_from_slice(more)?;
         Ok(())
     }
 
     /// Moves the remaining bytes to the start of the buffer, unless they are more than the written
     /// bytes before them.
-    fn remove_written(&mut self)
+    fn compact(&mut self)
         ensures { self.new ≡ self.old }
     {
         let count = self.bytes.len();

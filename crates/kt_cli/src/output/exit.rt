@@ -2,10 +2,10 @@ ghost use Rattle.std.specs.Prelude.{◌≡◌, if◌then◌else◌, is_err};
 ghost use Rattle.kt_cli.specs.Testing.{exit_of};
 
 use kt_base::OutputFault;
-use kt_plan::Chosen;
+use kt_plan::CaseSelection;
 
 /// The exit status of a command that failed.
-pub const FAILED: u8 = 2;
+pub const FAILURE: u8 = 2;
 
 /// An exit status of a command (kyua(1)).
 #[derive(Clone, Copy)]
@@ -15,19 +15,20 @@ pub struct Exit {
     pub status: u8,
 }
 
-/// Returns the exit status `due`, or 2 if the output could not be written.
+/// Returns the exit status `due`, or 2 if `written`, the result of writing the output, is an error.
 pub fn ended(written: Result<(), OutputFault>, due: u8) -> Exit
     ensures { result.status ≡ (if is_err written then 2 else due) }
 {
     Exit {
-        status: if written.is_err() { FAILED } else { due },
+        status: if written.is_err() { FAILURE } else { due },
     }
 }
 
 /// Returns the exit status of `list` or `test`.
 ///
-/// The status is 0 if no case is bad and every filter selects a case, else 1.
-pub fn status_of(bad: u64, chosen: &Chosen) -> u8
+/// `bad` is the number of cases that failed or are broken. The status is 0 if `bad` is 0 and every
+/// filter selects a case, else 1.
+pub fn status_of(bad: u64, chosen: &CaseSelection) -> u8
     ensures { result ≡ exit_of bad chosen.now.unmatched }
 {
     let unmatched = chosen.unmatched.as_slice();

@@ -2,26 +2,28 @@ ghost use Rattle.kt_cli.specs.Common.{Keeps};
 
 use std::io::Write;
 
-/// A failed flush of a writer. Only `flush_own` creates this value, after such a flush.
+/// A witness that a flush of a writer failed. Only `flush_writer` creates witnesses.
 #[derive(Clone, Copy)]
 pub struct FlushFault {
-    flush: FailedFlush,
+    /// A value that only this module can create.
+    flush: FlushSeal,
 }
 
-/// A private type, so that no other module can construct a `FlushFault`.
+/// The field of a `FlushFault`. The type is private, so that no other module can create a
+/// `FlushFault`.
 #[derive(Clone, Copy)]
-struct FailedFlush;
+struct FlushSeal;
 
-/// Calls `flush` of a writer.
+/// Flushes a writer, and converts the error of a failed flush to a `FlushFault`.
 ///
 /// # Errors
 ///
 /// - `FlushFault`: the flush fails.
-pub fn flush_own<W: Write>(out: &mut W) -> Result<(), FlushFault>
+pub fn flush_writer<W: Write>(out: &mut W) -> Result<(), FlushFault>
     ensures { Keeps (W.contents out.old) (W.contents out.new) }
 {
     match out.flush() {
         Ok(()) => Ok(()),
-        Err(_fault) => Err(FlushFault { flush: FailedFlush }),
+        Err(_fault) => Err(FlushFault { flush: FlushSeal }),
     }
 }

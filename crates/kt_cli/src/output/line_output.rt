@@ -1,9 +1,9 @@
 ghost use Rattle.std.specs.Prelude.{◌≡◌, ◌<◌, true, false, length};
 
 use crate::Exit;
-use crate::output::exit::FAILED;
-use crate::output::flushing::{FlushFault, flush_own};
-use crate::output::held_bytes::{HeldBytes, ROOM};
+use crate::output::exit::FAILURE;
+use crate::output::fixed_buffer::{BUFFER_BYTES, FixedBuffer};
+use crate::output::flushing::{FlushFault, flush_writer};
 use std::io;
 use std::io::{ErrorKind, Write};
 
@@ -15,19 +15,22 @@ use std::io::{ErrorKind, Write};
 /// allocates nothing.
 #[derive(Drop)]
 pub struct LineOutput<W> {
+    /// The inner writer.
     out: W,
-    held: HeldBytes,
+    /// The bytes that are not written to the inner writer yet.
+    held: FixedBuffer,
+    /// Whether a complete line is written at once.
     by_line: bool,
     /// Whether a write has failed.
     failed: bool,
     /// The fault of the inner writer's flush, if it failed.
-    unflushed: Option<FlushFault>,
+    flush_fault: Option<FlushFault>,
     ghost caused: { failed ≡ true → 0 < length held },
     ghost spare: { failed ≡ false → length held < 65536 },
 }
 
-/// Creates the error of each call after a failed call.
-fn broken() -> io::Error {
+/// Creates the error that each call returns after a failed call.
+fn broken_pipe_error() -> io::Error {
     io::Error::from(ErrorKind::BrokenPipe)
 }
 
@@ -45,15 +48,15 @@ impl<W: Write> LineOutput<W> {
     {
         LineOutput {
             out,
-            held: HeldBytes::new(),
+            held: FixedBuffer::new(),
             by_line,
             failed: false,
-            unflushed: None,
+            flush_fault: None,
         }
     }
 
     /// Sets whether each line is written when it is complete.
-    pub fn set_by_line(&mut self, by_line: bool)
+    pub fn set_line_buffered(&mut self, by_line: bool)
         ensures { line_state W.contents self.new ≡ line_state W.contents self.old }
     {
         self.by_line = by_line;
@@ -63,24 +66,25 @@ impl<W: Write> LineOutput<W> {
     fn is_broken(&self) -> bool
         ensures { result ≡ is_broken self.now }
     {
-        self.failed || self.unflushed.is_some()
+        self.failed || self.flush_fault.is_some()
     }
 
-    /// Flushes the output of a command, and returns its exit status, or 2 if the flush fails.
+    /// Flushes the output of a command, and returns `exit`, its exit status, or 2 if the flush
+    /// fails.
     pub fn finish(&mut self, exit: Exit) -> Exit
         ensures { FlushesOutput (given_bytes W.contents self.old) (line_state W.contents self.new)
             exit.status result.status }
     {
         match self.flush() {
             Ok(()) => exit,
-            Err(_fault) => Exit { status: FAILED },
+            Err(_fault) => Exit { status: FAILURE },
         }
     }
 }
 
 impl<W: Write> Write for LineOutput<W> {
     ghost use Rattle.std.specs.Prelude.{◌≡◌, ◌<◌, true, is_err, length, IfOk};
-    ghost use Rattle.kt_cli.specs.Common.{WritesAtMost, Keeps, WriteAppends, FlushResult, given_bytes, has_failed, is_broken, unflushed, unwritten};
+    ghost use Rattle.kt_cli.specs.Common.{WritesAtMost, Keeps, WriteAppends, FlushResult, given_bytes, has_failed, is_broken, flush_fault, unwritten};
 
     ghost contents = { given_bytes W.contents };
 
@@ -91,16 +95,16 @@ impl<W: Write> Write for LineOutput<W> {
             (given_bytes W.contents self.new) result buf.now }
         ensures fails { is_err result ≡ is_broken self.old }
         ensures takes { IfOk result (λ n. 0 < length buf.now → 0 < n) }
-        ensures flush { unflushed self.new ≡ unflushed self.old }
+        ensures flush { flush_fault self.new ≡ flush_fault self.old }
         ensures silent { is_broken self.old ≡ true → self.new ≡ self.old }
     {
         if self.is_broken() {
-            return Err(broken());
+            return Err(broken_pipe_error());
         }
-        let taken = buf.len().min(ROOM - self.held.len());
+        let taken = buf.len().min(BUFFER_BYTES - self.held.len());
         self.held.append(&buf[..taken]);
         let has_line = self.by_line && buf[..taken].contains(&b'\n');
-        if self.held.len() < ROOM && !has_line {
+        if self.held.len() < BUFFER_BYTES && !has_line {
             return Ok(taken);
         }
         self.failed = self.held.write_buffered(&mut self.out);
@@ -109,23 +113,23 @@ impl<W: Write> Write for LineOutput<W> {
 
     fn flush(&mut self) -> io::Result<()>
         ensures bytes { Keeps (given_bytes W.contents self.old) (given_bytes W.contents self.new) }
-        ensures ends { FlushResult (has_failed self.new) (unflushed self.new) (unwritten self.new)
+        ensures ends { FlushResult (has_failed self.new) (flush_fault self.new) (unwritten self.new)
             (is_err result) }
         ensures silent { is_broken self.old ≡ true → (self.new ≡ self.old)
             × (is_err result ≡ true) }
     {
         if self.is_broken() {
-            return Err(broken());
+            return Err(broken_pipe_error());
         }
         self.failed = self.held.write_buffered(&mut self.out);
         if self.failed {
-            return Err(broken());
+            return Err(broken_pipe_error());
         }
-        match flush_own(&mut self.out) {
+        match flush_writer(&mut self.out) {
             Ok(()) => Ok(()),
             Err(fault) => {
-                self.unflushed = Some(fault);
-                Err(broken())
+                self.flush_fault = Some(fault);
+                Err(broken_pipe_error())
             }
         }
     }

@@ -5,7 +5,7 @@ use std::io::{ErrorKind, Print};
 use std::rt::Env;
 
 /// The length of the longest path that the host accepts, in bytes.
-const LONGEST_PATH: usize = 4_095;
+const MAX_PATH_BYTES: usize = 4_095;
 
 /// The directory of a spool if the variable `TMPDIR` has no value.
 const DIRECTORY: &[u8] = b"/tmp";
@@ -14,12 +14,12 @@ const DIRECTORY: &[u8] = b"/tmp";
 const NAME: &[u8] = b"/kyua.XXXXXX";
 
 /// The maximum length of a spool's directory, in bytes.
-const LONGEST_DIRECTORY: usize = LONGEST_PATH - NAME.len();
+const MAX_DIRECTORY_BYTES: usize = MAX_PATH_BYTES - NAME.len();
 
 /// The maximum number of bytes that are read at once.
-const BLOCK: usize = 65_536;
+const BLOCK_BYTES: usize = 65_536;
 
-/// A file without a name, for bytes that are written later, in order.
+/// A file without a name that stores bytes until they are written to standard output, in order.
 ///
 /// The file exists until the process exits.
 #[derive(Drop)]
@@ -32,9 +32,10 @@ pub struct Spool {
     left: u64,
 }
 
-/// Returns the number of bytes that a call of the system moved, from the result of the call.
+/// Converts `answer`, the result of a system call, to the number of bytes that the call read or
+/// wrote.
 ///
-/// Fails if the call failed or moved nothing.
+/// Fails if the call failed, or if the number is 0.
 fn moved(answer: isize) -> io::Result<usize>
     ensures { IfOk result (λ count. (0 < count) × (answer ≡ pos count)) }
 {
@@ -45,11 +46,12 @@ fn moved(answer: isize) -> io::Result<usize>
     }
 }
 
-/// Writes the template of a spool's path, and returns its length.
-fn write_template<R: Env>(rt: &R, path: &mut [u8; LONGEST_PATH]) -> usize
+/// Writes the template of a spool's path to `path`, and returns the length of the template in
+/// bytes.
+fn write_template<R: Env>(rt: &R, path: &mut [u8; MAX_PATH_BYTES]) -> usize
     ensures { result ≤ 4095 }
 {
-    let length = match rt.var("TMPDIR", &mut path[..LONGEST_DIRECTORY]) {
+    let length = match rt.var("TMPDIR", &mut path[..MAX_DIRECTORY_BYTES]) {
         Ok(length) if length > 0 => length,
         _ => {
             path[..DIRECTORY.len()].copy_from_slice(DIRECTORY);
@@ -61,14 +63,14 @@ fn write_template<R: Env>(rt: &R, path: &mut [u8; LONGEST_PATH]) -> usize
 }
 
 impl Spool {
-    /// Creates an empty file in the directory of the variable `TMPDIR` or in `/tmp`, and removes
-    /// its name.
+    /// Creates an empty file in the directory that the variable `TMPDIR` names, or in `/tmp` if it
+    /// has no value. The file's name is removed at once.
     ///
     /// # Errors
     ///
     /// - an `io::Error`: the file can't be created.
     pub fn create<R: Env>(rt: &R) -> io::Result<Spool> {
-        let mut room = [0u8; LONGEST_PATH];
+        let mut room = [0u8; MAX_PATH_BYTES];
         let length = write_template(rt, &mut room);
         let path = &mut room[..length];
         let fd = os::create_temp(path);
@@ -106,9 +108,9 @@ impl Spool {
     ///
     /// - an `io::Error`: a read or a write fails.
     pub fn print_all<R: Print>(&mut self, rt: &R) -> io::Result<()> {
-        let mut room = [0u8; BLOCK];
+        let mut room = [0u8; BLOCK_BYTES];
         while self.left > 0 {
-            let most = self.left.min(BLOCK as u64) as usize;
+            let most = self.left.min(BLOCK_BYTES as u64) as usize;
             let start = self.start.cast_signed();
             let count = moved(libc::pread(self.fd, &mut room[..most], start))?;
             rt.write_all(&room[..count])?;

@@ -1,4 +1,4 @@
-use crate::Outlet;
+use crate::NonblockingWriter;
 use crate::output::spool::Spool;
 use libc::net::{POLLOUT, poll};
 use libc::types::pollfd;
@@ -9,7 +9,7 @@ use std::os::unix::fs::FileTypeExt;
 use std::rt::{Env, Files};
 use std::{fs, io};
 
-/// The number of bytes that a writable pipe takes at least (limits.h, `PIPE_BUF`).
+/// The minimum number of bytes that a writable pipe takes (limits.h, `PIPE_BUF`).
 const PIPE_BUF: usize = 4_096;
 
 /// The path of standard output, as Linux gives it.
@@ -18,6 +18,7 @@ const PATH: &str = "/proc/self/fd/1";
 /// A handle of the standard output of the process.
 #[derive(Drop)]
 pub struct StandardOutput<'a, R> {
+    /// The runtime, through which standard output is written.
     rt: &'a R,
     /// The terminal or pipe, if standard output is one, opened a second time.
     ///
@@ -27,7 +28,7 @@ pub struct StandardOutput<'a, R> {
     again: Option<File>,
     /// Whether standard output is a file or a device, whose writes wait for no reader.
     is_file: bool,
-    /// The bytes that were put aside, if any were.
+    /// The file with the bytes that the next write or flush writes first, if there are any.
     spool: Option<Spool>,
 }
 
@@ -104,7 +105,8 @@ impl<'a, R: Files<File = File>> StandardOutput<'a, R> {
 }
 
 impl<R: Print> StandardOutput<'_, R> {
-    /// Writes the bytes that were put aside, and waits for the reader.
+    /// Writes the bytes in the spool, if there is one, and waits for the reader. Fails if a read of
+    /// the spool or a write fails.
     fn write_spool(&mut self) -> io::Result<()> {
         match self.spool.take() {
             Some(mut spool) => spool.print_all(self.rt),
@@ -124,8 +126,8 @@ impl<R: Print> Write for StandardOutput<'_, R> {
     }
 }
 
-impl<R: Env + Print> Outlet for StandardOutput<'_, R> {
-    fn offer(&mut self, buf: &[u8]) -> io::Result<usize> {
+impl<R: Env + Print> NonblockingWriter for StandardOutput<'_, R> {
+    fn try_write(&mut self, buf: &[u8]) -> io::Result<usize> {
         if self.spool.is_some() {
             return Ok(0);
         }
@@ -144,7 +146,7 @@ impl<R: Env + Print> Outlet for StandardOutput<'_, R> {
         self.rt.write_some(&buf[..buf.len().min(PIPE_BUF)])
     }
 
-    fn put_aside(&mut self, buf: &[u8]) -> io::Result<()> {
+    fn spool_bytes(&mut self, buf: &[u8]) -> io::Result<()> {
         let mut spool = match self.spool.take() {
             Some(spool) => spool,
             None => Spool::create(self.rt)?,

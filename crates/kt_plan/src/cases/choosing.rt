@@ -1,14 +1,15 @@
 ghost use Rattle.std.specs.Prelude.{◌≡◌, ◌≤◌, ◌<◌, ◌+◌, ◌⊎◌, ◌∷◌, ◌++◌, List, ℕ, length, map, IfOk, IfErr, OnOk};
-ghost use Rattle.kt_plan.specs.Common.{Filter, item_limit, Candidate, item_of, selected_cases, chosen_of, places_from, StopsForMemory};
-ghost use Rattle.kt_plan.specs.declared.stop.Stop.TheVariants as stop;
+ghost use Rattle.kt_plan.specs.Common.{Filter, item_limit, Candidate, item_of, selected_cases, selection_of, selected_indexes, IsNoMemoryError};
+ghost use Rattle.kt_plan.specs.declared.selection_error.SelectionError.TheVariants as stop;
 
-use crate::{Candidate, Chosen, Stop};
+use crate::{Candidate, CaseSelection, SelectionError};
 use kt_base::{Items, NoMemory};
 use kt_suite::{Filter, Item, SelectFault, select};
 use std::alloc::Global;
 
-/// Creates the items with which filters are compared: copies of each case's program path and name.
-fn items_of(alloc: Global, candidates: &[Candidate]) -> Result<Vec<Item>, NoMemory>
+/// Creates an item for each of `candidates`, with copies of the program's path and the case's name.
+/// Filters match items.
+fn create_items(alloc: Global, candidates: &[Candidate]) -> Result<Vec<Item>, NoMemory>
     ensures { IfOk result (λ items. items.items ≡ map item_of candidates.now) }
 {
     let mut items = Vec::new(alloc);
@@ -20,18 +21,19 @@ fn items_of(alloc: Global, candidates: &[Candidate]) -> Result<Vec<Item>, NoMemo
     Ok(items)
 }
 
-/// Appends `candidate` to `cases` if its index `place` is the first of the indexes `places`.
+/// Appends `candidate` to `cases` if the candidate is selected.
 ///
-/// Returns the indexes in `places` that remain for the cases after it.
-fn keep<'a>(
+/// `place` is the index of the candidate, and `places` are the indexes of the selected candidates
+/// from that index on. Returns the indexes of those after the candidate.
+fn push_if_selected<'a>(
     cases: &mut Items<Candidate>,
     candidate: Candidate,
     place: usize,
     places: &'a [usize],
 ) -> Result<&'a [usize], NoMemory>
     ensures { (filters : List Filter) → (rest : List Candidate)
-        → places.now ≡ places_from filters place (candidate ∷ rest)
-        → IfOk result (λ after. (after.now ≡ places_from filters (place + 1) rest)
+        → places.now ≡ selected_indexes filters place (candidate ∷ rest)
+        → IfOk result (λ after. (after.now ≡ selected_indexes filters (place + 1) rest)
         × (cases.new ++ selected_cases filters rest
         ≡ cases.old ++ selected_cases filters (candidate ∷ rest))) }
 {
@@ -44,45 +46,50 @@ fn keep<'a>(
     }
 }
 
-/// Returns the cases of `found` whose indexes are in `places`. The indexes must be ascending.
-fn kept(
+/// Returns the candidates of `found` whose indexes are in `places`. The indexes must be ascending.
+fn retain_selected(
     alloc: Global,
     found: Items<Candidate>,
     places: &[usize],
 ) -> Result<Items<Candidate>, NoMemory>
     requires { length found ≤ item_limit }
-    ensures { (filters : List Filter) → places.now ≡ places_from filters 0 found
+    ensures { (filters : List Filter) → places.now ≡ selected_indexes filters 0 found
         → IfOk result (λ cases. cases ≡ selected_cases filters found) }
 {
     let mut cases = Items::new(alloc);
     let mut place = 0;
     let mut rest = places;
     for candidate in found.into_vec() {
-        rest = keep(&mut cases, candidate, place, rest)?;
+        rest = push_if_selected(&mut cases, candidate, place, rest)?;
         place += 1;
     }
     Ok(cases)
 }
 
-/// Selects the cases of `found` that one of `filters` matches, or all cases without filters.
+/// Selects the cases of `found` that one of `filters` matches, or all cases if there are no
+/// filters.
 ///
 /// # Errors
 ///
 /// - `TooManyCases`: `found` has more than 100,000 cases.
 /// - `NoMemory`: an allocation fails.
-pub fn choose(alloc: Global, filters: &[Filter], found: Items<Candidate>) -> Result<Chosen, Stop>
-    ensures chosen { IfOk result (λ chosen. chosen ≡ chosen_of filters.now found) }
+pub fn choose(
+    alloc: Global,
+    filters: &[Filter],
+    found: Items<Candidate>,
+) -> Result<CaseSelection, SelectionError>
+    ensures chosen { IfOk result (λ chosen. chosen ≡ selection_of filters.now found) }
     ensures few { OnOk result (length found ≤ item_limit) }
-    ensures stopped { IfErr result (λ fault. StopsForMemory fault
+    ensures stopped { IfErr result (λ fault. IsNoMemoryError fault
         ⊎ ((fault ≡ stop.TooManyCases) × (item_limit < length found))) }
 {
-    let items = items_of(alloc, found.as_slice())?;
+    let items = create_items(alloc, found.as_slice())?;
     match select(alloc, items.as_slice(), filters) {
-        Err(SelectFault::NoMemory(refusal)) => Err(Stop::NoMemory(refusal)),
-        Err(SelectFault::TooMany) => Err(Stop::TooManyCases),
+        Err(SelectFault::NoMemory(refusal)) => Err(SelectionError::NoMemory(refusal)),
+        Err(SelectFault::TooMany) => Err(SelectionError::TooManyCases),
         Ok(selection) => {
-            let cases = kept(alloc, found, selection.cases.as_slice())?;
-            Ok(Chosen {
+            let cases = retain_selected(alloc, found, selection.cases.as_slice())?;
+            Ok(CaseSelection {
                 cases,
                 unmatched: Items::from_vec(selection.unmatched),
             })

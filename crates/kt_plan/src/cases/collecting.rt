@@ -1,19 +1,19 @@
 ghost use Rattle.std.specs.Prelude.{◌≡◌, ◌≤◌, ◌⊎◌, length, IfOk};
-ghost use Rattle.kt_plan.specs.Common.{IsIdle, IsNoMemory, item_limit, Collected, Answered, Blames, no_memory, program_limit, LoadsOrShort, SelectsOrShort, leads_by};
+ghost use Rattle.kt_plan.specs.Common.{IsIdle, IsNoMemory, item_limit, CollectsBetween, LeadsByCalls, IsFaultAt, no_memory, program_limit, LoadsOrNoMemory, SelectsOrNoMemory, WorldLeads};
 ghost use Rattle.kt_base.specs.declared.no_memory.NoMemory.{NoMemory as OutOfMemory};
-ghost use Rattle.kt_plan.specs.declared.stop.Stop.TheVariants as stop;
+ghost use Rattle.kt_plan.specs.declared.selection_error.SelectionError.TheVariants as stop;
 
 use crate::cases::choosing::choose;
-use crate::cases::offering::offered;
-use crate::options::configuring::settle;
-use crate::{Chosen, CommandSelection, Settings, Stop, World};
-use kt_args::CaseOptions;
+use crate::cases::offering::list_all_cases;
+use crate::options::configuring::read_settings;
+use crate::{CaseSelection, CommandSelection, SelectionError, Settings, World};
+use kt_args::{CaseOptions, FilterRule};
 use kt_base::{Items, NoMemory, Text};
 use kt_suite::{Program, SuiteCause, SuiteFault, Tree, load, split_path};
 use std::alloc::Global;
 
-/// Creates the error of a failed allocation, which has no file and no line.
-fn out_of_memory(alloc: Global, refusal: NoMemory) -> SuiteFault
+/// Creates the `SuiteFault` for the failed allocation `refusal`. It has no file and no line.
+fn create_memory_fault(alloc: Global, refusal: NoMemory) -> SuiteFault
     ensures { result ≡ no_memory refusal }
 {
     SuiteFault {
@@ -23,11 +23,11 @@ fn out_of_memory(alloc: Global, refusal: NoMemory) -> SuiteFault
     }
 }
 
-/// Creates the error with the cause `cause` of the Kyuafile `file`, without a line.
+/// Creates the `SuiteFault` with the cause `cause` in the Kyuafile `file`, without a line.
 ///
-/// If the allocation for a copy of `file` fails, returns the error of that failure.
-fn fault_of(alloc: Global, file: &Text, cause: SuiteCause) -> SuiteFault
-    ensures { Blames file.now 0 cause result }
+/// If the allocation for a copy of `file` fails, returns the `SuiteFault` of that failure.
+fn create_file_fault(alloc: Global, file: &Text, cause: SuiteCause) -> SuiteFault
+    ensures { IsFaultAt file.now 0 cause result }
 {
     match file.copy() {
         Ok(path) => SuiteFault {
@@ -35,13 +35,13 @@ fn fault_of(alloc: Global, file: &Text, cause: SuiteCause) -> SuiteFault
             path,
             line: 0,
         },
-        Err(refusal) => out_of_memory(alloc, refusal),
+        Err(refusal) => create_memory_fault(alloc, refusal),
     }
 }
 
-/// Returns the programs that `kyuafile` and the files that it includes register, in order.
+/// Returns the programs that the Kyuafile `kyuafile` and its included files register, in order.
 ///
-/// The directory of `kyuafile` must be the root of `tree`.
+/// The files are read from `tree`, whose root must be the directory of `kyuafile`.
 ///
 /// # Errors
 ///
@@ -53,33 +53,34 @@ pub fn load_programs<T: Tree>(
     kyuafile: &Text,
     tree: &mut T,
 ) -> Result<Items<Program>, SuiteFault>
-    ensures loaded { Answered T.asks tree.old tree.new
-        (λ asked. LoadsOrShort kyuafile.now asked result) }
+    ensures loaded { LeadsByCalls T.asks tree.old tree.new
+        (λ asked. LoadsOrNoMemory kyuafile.now asked result) }
     ensures few { IfOk result (λ programs. length programs ≤ program_limit) }
 {
     let root = match split_path(alloc, kyuafile) {
         Ok((_, root)) => root,
-        Err(refusal) => return Err(out_of_memory(alloc, refusal)),
+        Err(refusal) => return Err(create_memory_fault(alloc, refusal)),
     };
     if root.is_empty() {
-        return Err(fault_of(alloc, kyuafile, SuiteCause::Unreadable));
+        return Err(create_file_fault(alloc, kyuafile, SuiteCause::Unreadable));
     }
     load(alloc, tree, &root)
 }
 
-/// Converts `fault`, the error of the Kyuafiles, to the error of the command.
-fn tree_stop(fault: SuiteFault) -> Stop
+/// Converts `fault`, an error of the Kyuafiles, to the error of the command: `NoMemory` for a
+/// failed allocation, and otherwise `Tree`.
+fn tree_error(fault: SuiteFault) -> SelectionError
     ensures { ((refusal : OutOfMemory) × (result ≡ stop.NoMemory refusal)
         × (fault.cause ≡ SuiteCause.NoMemory refusal))
         ⊎ ((result ≡ stop.Tree fault) × (IsNoMemory fault → ⊥)) }
 {
     match fault.cause {
-        SuiteCause::NoMemory(refusal) => Stop::NoMemory(refusal),
-        _ => Stop::Tree(fault),
+        SuiteCause::NoMemory(refusal) => SelectionError::NoMemory(refusal),
+        _ => SelectionError::Tree(fault),
     }
 }
 
-/// Selects test cases by the settings `settings` of a command (kyua(1)).
+/// Selects the test cases of the Kyuafile `kyuafile` by the filters of `settings` (kyua(1)).
 ///
 /// Reads `kyuafile` and its includes, lists the cases of each ATF program that the filters do not
 /// exclude, and applies the filters to all cases.
@@ -94,39 +95,39 @@ fn tree_stop(fault: SuiteFault) -> Stop
 /// - `Tree`: a Kyuafile has an error.
 /// - `TooManyCases`: there are more than 100,000 cases to select from.
 /// - `NoMemory`: an allocation fails.
-pub fn collect<W: World>(
+pub fn load_and_select<W: World>(
     alloc: Global,
     settings: &Settings,
     kyuafile: &Text,
     world: &mut W,
-) -> Result<Chosen, Stop>
+) -> Result<CaseSelection, SelectionError>
     requires { IsIdle (W.running world.old) (W.pending world.old) }
-    ensures collected { Collected W.asks W.replies settings.now kyuafile.now
+    ensures collected { CollectsBetween W.asks W.replies settings.now kyuafile.now
         world.old world.new result }
     ensures few { IfOk result (λ chosen. length chosen.cases ≤ item_limit) }
     ensures idle { IsIdle (W.running world.new) (W.pending world.new) }
 {
     let programs = match load_programs(alloc, kyuafile, world) {
         Ok(programs) => programs,
-        Err(fault) => return Err(tree_stop(fault)),
+        Err(fault) => return Err(tree_error(fault)),
     };
-    let found = offered(alloc, settings, programs.as_slice(), world)?;
+    let found = list_all_cases(alloc, settings, programs.as_slice(), world)?;
     choose(alloc, settings.filters.as_slice(), found)
 }
 
 /// Selects the test cases of a command with the options `options`.
 ///
-/// `needed` is `true` if the command needs exactly one filter that names a case.
+/// `rule` states which filters the command accepts.
 ///
 /// # Errors
 ///
 /// The first error is returned, in this order:
 ///
-/// - `UnreadConfiguration`: the configuration file can't be read.
+/// - `UnreadableConfiguration`: the configuration file can't be read.
 /// - `Configuration`: the configuration file has an error.
 /// - `Variable`: an argument of `-v` has an error.
 /// - `Filter`: an argument is not a filter, or two filters match the same case.
-/// - `NeedsCase`: `needed` is `true`, and there is not exactly one filter that names a case.
+/// - `NeedsCase`: `rule` is `OneCase`, and there is not exactly one filter that names a case.
 /// - `Tree`: a Kyuafile has an error.
 /// - `TooManyCases`: there are more than 100,000 cases to select from.
 ///
@@ -135,17 +136,17 @@ pub fn collect<W: World>(
 /// - `NoMemory`: an allocation fails.
 pub fn select_cases<W: World>(
     alloc: Global,
-    needed: bool,
+    rule: FilterRule,
     options: &CaseOptions,
     world: &mut W,
-) -> Result<CommandSelection, Stop>
+) -> Result<CommandSelection, SelectionError>
     requires { IsIdle (W.running world.old) (W.pending world.old) }
-    ensures selects { Answered (leads_by W.asks W.replies) world.old world.new
-        (λ questions. SelectsOrShort needed options.now questions result) }
+    ensures selects { LeadsByCalls (WorldLeads W.asks W.replies) world.old world.new
+        (λ questions. SelectsOrNoMemory rule options.now questions result) }
     ensures few { IfOk result (λ picked. length picked.chosen.cases ≤ item_limit) }
     ensures idle { IsIdle (W.running world.new) (W.pending world.new) }
 {
-    let settings = settle(alloc, needed, options, world)?;
-    let chosen = collect(alloc, &settings, &options.kyuafile, world)?;
+    let settings = read_settings(alloc, rule, options, world)?;
+    let chosen = load_and_select(alloc, &settings, &options.kyuafile, world)?;
     Ok(CommandSelection { settings, chosen })
 }

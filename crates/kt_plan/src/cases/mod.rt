@@ -12,12 +12,12 @@ use kt_base::{Interface, Items, Text};
 pub struct Candidate {
     /// The interface of the test program.
     pub interface: Interface,
-    /// The path of the test program, relative to the directory of the root Kyuafile.
+    /// The path of the test program, relative to the root Kyuafile's directory.
     pub path: Text,
     /// The name of the program's test suite.
     pub suite: Text,
-    /// The name of the case, and its properties with those of its program. If the list of the
-    /// program has an error, the case represents the list.
+    /// The name of the case, and its properties with those of its program. If a program's list of
+    /// cases has an error, one candidate represents that list.
     pub case: CaseDef,
 }
 
@@ -33,20 +33,20 @@ impl Drop for Candidate {
     }
 }
 
-/// A selection of cases by the filters of a command.
+/// A selection of test cases by the filters of a command.
 #[derive(Drop)]
-pub struct Chosen {
-    /// The selected cases, in the order of their programs and their lists.
+pub struct CaseSelection {
+    /// The selected cases, in the order of their programs and of the cases of each program.
     pub cases: Items<Candidate>,
-    /// The positions of the filters that match no case, ascending, from 0.
+    /// The positions of the filters that match no case, counted from 0, in ascending order.
     pub unmatched: Items<usize>,
 }
 
-/// A selection of cases, together with the settings of its command.
+/// A selection of test cases, together with the settings of its command.
 #[derive(Drop)]
 pub struct CommandSelection {
     /// The settings of the command.
     pub settings: Settings,
     /// The selected cases.
-    pub chosen: Chosen,
+    pub chosen: CaseSelection,
 }

@@ -1,5 +1,5 @@
 ghost use Rattle.std.specs.Prelude.{◌≡◌, ◌++◌, ◌∷◌, [], IfOk, OnOk, MatchResult, ◌↔◌, IsTrue};
-ghost use Rattle.kt_plan.specs.Common.{IsIdle, Answered, ListsFirst, candidates_of, ListsCases, Offers, OffersFirst, OffersOne, IsWanted, Contains, Filter, MayMatch};
+ghost use Rattle.kt_plan.specs.Common.{IsIdle, LeadsByCalls, IsListPrefix, candidates_of, ListsAtfCases, ListsAllCases, IsAllListsPrefix, ListsProgramCases, IsSelectable, Contains, Filter, MayMatch};
 
 use crate::options::configuring::variables_for;
 use crate::{Candidate, Settings, World};
@@ -10,16 +10,18 @@ use kt_suite::{Filter, Program};
 use std::alloc::Global;
 
 /// Lists the cases of the ATF program `program` by running it with the variables of its suite.
-fn listed_cases<W: World>(
+///
+/// If the list can't be used, returns one case that represents the list.
+fn list_atf_cases<W: World>(
     alloc: Global,
     config: &Config,
     program: &Program,
     world: &mut W,
 ) -> Result<Items<CaseDef>, NoMemory>
     requires { IsIdle (W.running world.old) (W.pending world.old) }
-    ensures offers { Answered W.replies world.old world.new (λ answers. MatchResult result
-        (ListsCases config.now program.now answers)
-        (λ _. ListsFirst config.now program.now answers)) }
+    ensures offers { LeadsByCalls W.replies world.old world.new (λ answers. MatchResult result
+        (ListsAtfCases config.now program.now answers)
+        (λ _. IsListPrefix config.now program.now answers)) }
     ensures idle { IsIdle (W.running world.new) (W.pending world.new) }
 {
     let variables = variables_for(alloc, config, &program.suite)?;
@@ -28,28 +30,30 @@ fn listed_cases<W: World>(
     Ok(found)
 }
 
-/// Returns the cases of the program `program`.
+/// Returns the cases of the program `program`. An ATF program is run, so that it lists its cases.
 ///
-/// If no filter may match a case of an ATF program, the program is not run, and has no cases here.
-fn cases_of_program<W: World>(
+/// If no filter may match a case of an ATF program, the program is not run, and no cases are
+/// returned.
+fn list_program_cases<W: World>(
     alloc: Global,
     settings: &Settings,
     program: &Program,
     world: &mut W,
 ) -> Result<Items<CaseDef>, NoMemory>
     requires { IsIdle (W.running world.old) (W.pending world.old) }
-    ensures offers { Answered W.replies world.old world.new (λ answers. MatchResult result
-        (λ cases. OffersOne settings.now.config settings.now.filters program.now answers
+    ensures offers { LeadsByCalls W.replies world.old world.new (λ answers. MatchResult result
+        (λ cases. ListsProgramCases settings.now.config settings.now.filters program.now answers
         (candidates_of program.now cases))
-        (λ _. OffersFirst settings.now.config settings.now.filters (program.now ∷ []) answers)) }
+        (λ _. IsAllListsPrefix settings.now.config settings.now.filters (program.now ∷ [])
+        answers)) }
     ensures idle { IsIdle (W.running world.new) (W.pending world.new) }
 {
     match program.interface {
         Interface::Atf => {
-            if !is_wanted(settings.filters.as_slice(), program) {
+            if !is_selectable(settings.filters.as_slice(), program) {
                 return Ok(Items::new(alloc));
             }
-            let found = listed_cases(alloc, &settings.config, program, world)?;
+            let found = list_atf_cases(alloc, &settings.config, program, world)?;
             Ok(found)
         }
         other => {
@@ -82,33 +86,33 @@ fn add_candidates(
 
 /// Returns the cases of all programs in `programs`, in the order of the programs.
 ///
-/// Each list is made while no other program is running.
+/// An ATF program is run for its list, while no other program is running.
 ///
 /// # Errors
 ///
 /// - `NoMemory`: an allocation fails.
-pub fn offered<W: World>(
+pub fn list_all_cases<W: World>(
     alloc: Global,
     settings: &Settings,
     programs: &[Program],
     world: &mut W,
 ) -> Result<Items<Candidate>, NoMemory>
     requires { IsIdle (W.running world.old) (W.pending world.old) }
-    ensures offers { Answered W.replies world.old world.new (λ answers. MatchResult result
-        (Offers settings.now.config settings.now.filters programs.now answers)
-        (λ _. OffersFirst settings.now.config settings.now.filters programs.now answers)) }
+    ensures offers { LeadsByCalls W.replies world.old world.new (λ answers. MatchResult result
+        (ListsAllCases settings.now.config settings.now.filters programs.now answers)
+        (λ _. IsAllListsPrefix settings.now.config settings.now.filters programs.now answers)) }
     ensures idle { IsIdle (W.running world.new) (W.pending world.new) }
 {
     let mut found = Items::new(alloc);
     for program in programs {
-        let cases = cases_of_program(alloc, settings, program, world)?;
+        let cases = list_program_cases(alloc, settings, program, world)?;
         add_candidates(program, cases, &mut found)?;
     }
     Ok(found)
 }
 
 /// Returns `true` if one of `filters` may match a case of the program at `path`.
-fn any_may_match(filters: &[Filter], path: &Text) -> bool
+fn has_possible_match(filters: &[Filter], path: &Text) -> bool
     ensures { IsTrue result ↔ ((one : Filter) × Contains filters.now one × MayMatch one path.now) }
 {
     for filter in filters {
@@ -122,8 +126,8 @@ fn any_may_match(filters: &[Filter], path: &Text) -> bool
 /// Returns `true` if there is no filter, or if one of `filters` may match a case of `program`.
 ///
 /// Allocates nothing.
-fn is_wanted(filters: &[Filter], program: &Program) -> bool
-    ensures { IsTrue result ↔ IsWanted filters.now program.now }
+fn is_selectable(filters: &[Filter], program: &Program) -> bool
+    ensures { IsTrue result ↔ IsSelectable filters.now program.now }
 {
-    filters.is_empty() || any_may_match(filters, &program.path)
+    filters.is_empty() || has_possible_match(filters, &program.path)
 }

@@ -1,30 +1,34 @@
 ghost use Rattle.std.specs.Prelude.{◌≡◌, ◌⊎◌, IfOk, length};
-ghost use Rattle.kt_plan.specs.Common.{position_in, ChecksTogether, filter_of, filters_of, names_one_case, lacks_case, Filters, IsShort};
+ghost use Rattle.kt_plan.specs.Common.{position_in, FindsOverlap, filter_of, filters_of, names_one_case, is_case_missing, Filters, IsNoMemoryResult};
 
-use crate::Stop;
+use crate::SelectionError;
+use kt_args::FilterRule;
 use kt_base::{Items, NoMemory, Text};
 use kt_suite::{Filter, FilterFault, check_disjoint};
 use std::alloc::Global;
 
 /// Parses the argument `word` as a filter.
 ///
-/// The inner error is that of an argument which is not a filter. The outer error is a failed
-/// allocation.
-fn filter_of(alloc: Global, word: &Text) -> Result<Result<Filter, Stop>, NoMemory>
+/// The inner result is the error of the command if the argument is not a filter. The outer result
+/// is an error if an allocation fails.
+fn filter_of(alloc: Global, word: &Text) -> Result<Result<Filter, SelectionError>, NoMemory>
     ensures { IfOk result (λ outcome. outcome ≡ filter_of word.now) }
 {
     match Filter::parse(alloc, word) {
         Ok(filter) => Ok(Ok(filter)),
         Err(FilterFault::NoMemory(refusal)) => Err(refusal),
-        Err(fault) => Ok(Err(Stop::Filter(word.copy()?, fault))),
+        Err(fault) => Ok(Err(SelectionError::Filter(word.copy()?, fault))),
     }
 }
 
 /// Parses the arguments `words` as filters, in order.
 ///
-/// The inner error is that of the first argument which is not a filter. The outer error is a failed
-/// allocation.
-fn parse_filters(alloc: Global, words: &[Text]) -> Result<Result<Items<Filter>, Stop>, NoMemory>
+/// The inner result is the error of the first argument that is not a filter, if any. The outer
+/// result is an error if an allocation fails.
+fn parse_filters(
+    alloc: Global,
+    words: &[Text],
+) -> Result<Result<Items<Filter>, SelectionError>, NoMemory>
     ensures { IfOk result (λ outcome. outcome ≡ filters_of words.now) }
 {
     let mut filters = Items::new(alloc);
@@ -37,7 +41,8 @@ fn parse_filters(alloc: Global, words: &[Text]) -> Result<Result<Items<Filter>, 
     Ok(Ok(filters))
 }
 
-/// Returns the position of the filter that `fault` names, or 0 if it names no filter.
+/// Returns the position of the filter that `fault` is about, counted from 0. Returns 0 if `fault`
+/// has no position.
 fn position_of(fault: FilterFault) -> usize
     ensures { result ≡ position_in fault }
 {
@@ -47,18 +52,19 @@ fn position_of(fault: FilterFault) -> usize
     }
 }
 
-/// Returns the error of the first filter that matches a case of an earlier filter, or `None`.
+/// Returns the error of the first of `filters` that matches a case of an earlier filter. Returns
+/// `None` if there is no such filter.
 ///
 /// `words` are the arguments from which `filters` were parsed.
-fn overlap_stop(words: &[Text], filters: &[Filter]) -> Result<Option<Stop>, NoMemory>
+fn find_overlap(words: &[Text], filters: &[Filter]) -> Result<Option<SelectionError>, NoMemory>
     requires { length words.now ≡ length filters.now }
-    ensures { IfOk result (λ found. ChecksTogether words.now filters.now found) }
+    ensures { IfOk result (λ found. FindsOverlap words.now filters.now found) }
 {
     match check_disjoint(filters) {
         Ok(()) => Ok(None),
         Err(fault) => {
             let word = words[position_of(fault)].copy()?;
-            Ok(Some(Stop::Filter(word, fault)))
+            Ok(Some(SelectionError::Filter(word, fault)))
         }
     }
 }
@@ -73,16 +79,19 @@ fn names_one_case(filters: &[Filter]) -> bool
     }
 }
 
-/// Returns `true` if `needs_case` is `true` but `filters` is not one filter that names a case.
-fn lacks_case(needs_case: bool, filters: &[Filter]) -> bool
-    ensures { result ≡ lacks_case needs_case filters.now }
+/// Returns `true` if `rule` requires one filter that names a case, but `filters` isn't one.
+fn is_case_missing(rule: FilterRule, filters: &[Filter]) -> bool
+    ensures { result ≡ is_case_missing rule filters.now }
 {
-    needs_case && !names_one_case(filters)
+    match rule {
+        FilterRule::AnyFilters => false,
+        FilterRule::OneCase => !names_one_case(filters),
+    }
 }
 
 /// Parses the arguments `words` as the filters of a command.
 ///
-/// `needs_case` is `true` if the command needs exactly one filter that names a case.
+/// `rule` states which filters the command accepts.
 ///
 /// # Errors
 ///
@@ -90,20 +99,24 @@ fn lacks_case(needs_case: bool, filters: &[Filter]) -> bool
 ///
 /// - `Filter`: an argument is not a filter.
 /// - `Filter`: a filter matches a case of an earlier filter.
-/// - `NeedsCase`: `needs_case` is `true`, and there is not exactly one filter that names a case.
+/// - `NeedsCase`: `rule` is `OneCase`, and there is not exactly one filter that names a case.
 ///
 /// At any step:
 ///
 /// - `NoMemory`: an allocation fails.
-pub fn read_filters(alloc: Global, needs_case: bool, words: &[Text]) -> Result<Items<Filter>, Stop>
-    ensures { IsShort result ⊎ Filters needs_case words.now result }
+pub fn read_filters(
+    alloc: Global,
+    rule: FilterRule,
+    words: &[Text],
+) -> Result<Items<Filter>, SelectionError>
+    ensures { IsNoMemoryResult result ⊎ Filters rule words.now result }
 {
     let filters = parse_filters(alloc, words)??;
-    if let Some(fault) = overlap_stop(words, filters.as_slice())? {
+    if let Some(fault) = find_overlap(words, filters.as_slice())? {
         return Err(fault);
     }
-    if lacks_case(needs_case, filters.as_slice()) {
-        return Err(Stop::NeedsCase);
+    if is_case_missing(rule, filters.as_slice()) {
+        return Err(SelectionError::NeedsCase);
     }
     Ok(filters)
 }

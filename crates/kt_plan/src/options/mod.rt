@@ -1,4 +1,4 @@
-//! The settings of a command over test cases: its configuration and its filters.
+//! The settings of a command that selects test cases: its configuration and its filters.
 
 pub(crate) mod case_filters;
 pub(crate) mod configuring;
@@ -7,7 +7,7 @@ use kt_base::Items;
 use kt_config::Config;
 use kt_suite::Filter;
 
-/// The settings of a command over test cases: its configuration and its filters.
+/// The settings of a command that selects test cases: its configuration and its filters.
 #[derive(Drop)]
 pub struct Settings {
     /// The configuration, from the configuration file and the arguments of `-v`.

@@ -1,12 +1,13 @@
 ghost use Rattle.std.specs.Prelude.{◌≡◌, ◌∷◌, [], MatchResult};
-ghost use Rattle.kt_plan.specs.Common.{Answered, RecordsFound, ChecksNeeds, meta_in, needs_among, needs_by, needs_in, needs_of, Surveys, SurveysFirst, IsCallPrefix, Finds, IsIdle};
+ghost use Rattle.kt_plan.specs.Common.{LeadsByCalls, RecordsFound, ChecksNeeds, candidate_meta, needs_of_kinds, case_needs, needs_of_kind, needs_of_cases, Surveys, IsSurveyPrefix, IsCallPrefix, Finds, IsIdle};
 
 use crate::{Candidate, World};
 use kt_base::{NoMemory, Text};
 use kt_metadata::{Host, Need};
 use std::alloc::Global;
 
-/// Returns `true` if the host has the required file or program `word`, as `need` selects.
+/// Returns `true` if the required file or program `word` exists on the host. `need` is the kind of
+/// `word`.
 fn is_found<W: World>(need: Need, word: &Text, world: &mut W) -> bool
     ensures { W.replies world.old (Finds need word.now result) world.new }
 {
@@ -16,51 +17,53 @@ fn is_found<W: World>(need: Need, word: &Text, world: &mut W) -> bool
     }
 }
 
-/// Records in `host` that the required file or program `word` exists, if it does.
+/// Records the required file or program `word` in `host` if it exists.
 ///
 /// `need` is the kind of `word`.
-fn check_need<W: World>(
+fn probe_need<W: World>(
     need: Need,
     word: &Text,
     world: &mut W,
     host: &mut Host,
 ) -> Result<(), NoMemory>
-    ensures { Answered W.replies world.old world.new (λ answers. MatchResult result
+    ensures { LeadsByCalls W.replies world.old world.new (λ answers. MatchResult result
         (λ _. ChecksNeeds ((need, word.now) ∷ []) answers × RecordsFound answers host.old host.new)
         (λ _. IsCallPrefix (ChecksNeeds ((need, word.now) ∷ [])) answers)) }
 {
     if !is_found(need, word, world) {
         return Ok(());
     }
-    host.note(need, word)?;
+    host.record_found(need, word)?;
     Ok(())
 }
 
-/// Records in `host` those of the required files or programs `words` that exist.
+/// Records each of the required files or programs `words` in `host` if it exists.
 ///
 /// Checks them in order. `need` is the kind of `words`.
-fn check_needs<W: World>(
+fn probe_needs<W: World>(
     need: Need,
     words: &[Text],
     world: &mut W,
     host: &mut Host,
 ) -> Result<(), NoMemory>
-    ensures { Answered W.replies world.old world.new (λ answers. MatchResult result
-        (λ _. ChecksNeeds (needs_in need words.now) answers × RecordsFound answers host.old host.new)
-        (λ _. IsCallPrefix (ChecksNeeds (needs_in need words.now)) answers)) }
+    ensures { LeadsByCalls W.replies world.old world.new (λ answers. MatchResult result
+        (λ _. ChecksNeeds (needs_of_kind need words.now) answers
+        × RecordsFound answers host.old host.new)
+        (λ _. IsCallPrefix (ChecksNeeds (needs_of_kind need words.now)) answers)) }
 {
     for word in words {
-        check_need(need, word, world, host)?;
+        probe_need(need, word, world, host)?;
     }
     Ok(())
 }
 
-/// Returns the kinds of requirements that must be checked for the case `candidate`.
+/// Returns the kinds of requirements that must be checked for the case `candidate`: files and
+/// programs.
 ///
-/// The slice is empty if the list of the case's program has an error.
-fn kinds_of(candidate: &Candidate) -> &'static [Need]
-    ensures { needs_among result.now (meta_in candidate.now)
-        ≡ needs_by candidate.now.case.fault (meta_in candidate.now) }
+/// Returns no kinds if the list of the case's program has an error.
+fn needs_to_check(candidate: &Candidate) -> &'static [Need]
+    ensures { needs_of_kinds result.now (candidate_meta candidate.now)
+        ≡ case_needs candidate.now.case.fault (candidate_meta candidate.now) }
 {
     match &candidate.case.fault {
         Some(_fault) => &[],
@@ -68,48 +71,51 @@ fn kinds_of(candidate: &Candidate) -> &'static [Need]
     }
 }
 
-/// Records in `host` the required files and programs of the case `candidate` that exist.
+/// Records each required file and program of the case `candidate` in `host` if it exists.
 ///
-/// Checks them in order, kind after kind.
-fn check_case_needs<W: World>(
+/// Checks all files first, and then all programs.
+fn probe_case_needs<W: World>(
     candidate: &Candidate,
     world: &mut W,
     host: &mut Host,
 ) -> Result<(), NoMemory>
-    ensures { Answered W.replies world.old world.new (λ answers. MatchResult result
-        (λ _. ChecksNeeds (needs_by candidate.now.case.fault (meta_in candidate.now)) answers
+    ensures { LeadsByCalls W.replies world.old world.new (λ answers. MatchResult result
+        (λ _. ChecksNeeds (case_needs candidate.now.case.fault (candidate_meta candidate.now))
+        answers
         × RecordsFound answers host.old host.new)
-        (λ _. IsCallPrefix (ChecksNeeds (needs_by candidate.now.case.fault (meta_in candidate.now)))
+        (λ _. IsCallPrefix (ChecksNeeds (case_needs candidate.now.case.fault (candidate_meta
+        candidate.now)))
         answers)) }
 {
     let props = &candidate.case.props;
-    for need in kinds_of(candidate) {
-        check_needs(*need, props.needed(*need), world, host)?;
+    for need in needs_to_check(candidate) {
+        probe_needs(*need, props.needed(*need), world, host)?;
     }
     Ok(())
 }
 
-/// Records in `host` the required files and programs of the cases `cases` that exist.
+/// Records each required file and program of the cases `cases` in `host` if it exists.
 ///
 /// Checks them in the order of the cases.
-fn check_all_needs<W: World>(
+fn probe_all_needs<W: World>(
     cases: &[Candidate],
     world: &mut W,
     host: &mut Host,
 ) -> Result<(), NoMemory>
-    ensures { Answered W.replies world.old world.new (λ answers. MatchResult result
-        (λ _. ChecksNeeds (needs_of cases.now) answers × RecordsFound answers host.old host.new)
-        (λ _. IsCallPrefix (ChecksNeeds (needs_of cases.now)) answers)) }
+    ensures { LeadsByCalls W.replies world.old world.new (λ answers. MatchResult result
+        (λ _. ChecksNeeds (needs_of_cases cases.now) answers
+        × RecordsFound answers host.old host.new)
+        (λ _. IsCallPrefix (ChecksNeeds (needs_of_cases cases.now)) answers)) }
 {
     for candidate in cases {
-        check_case_needs(candidate, world, host)?;
+        probe_case_needs(candidate, world, host)?;
     }
     Ok(())
 }
 
 /// Reads the properties of the host that the cases `cases` may require.
 ///
-/// The properties are: the user (root or not), the memory, the disk space, and the required files
+/// The properties are: whether the user is root, the memory, the disk space, and the required files
 /// and programs.
 ///
 /// The user, the memory and the disk space are read even if no case requires them. Cases whose list
@@ -121,14 +127,14 @@ fn check_all_needs<W: World>(
 /// - `NoMemory`: an allocation fails.
 pub fn survey<W: World>(alloc: Global, cases: &[Candidate], world: &mut W) -> Result<Host, NoMemory>
     requires { IsIdle (W.running world.old) (W.pending world.old) }
-    ensures surveyed { Answered W.replies world.old world.new (λ answers. MatchResult result
-        (Surveys cases.now answers) (λ _. SurveysFirst cases.now answers)) }
+    ensures surveyed { LeadsByCalls W.replies world.old world.new (λ answers. MatchResult result
+        (Surveys cases.now answers) (λ _. IsSurveyPrefix cases.now answers)) }
     ensures idle { IsIdle (W.running world.new) (W.pending world.new) }
 {
     let root = world.is_root();
     let memory = world.memory();
     let disk = world.disk();
     let mut host = Host::new(alloc, root, memory, disk);
-    check_all_needs(cases, world, &mut host)?;
+    probe_all_needs(cases, world, &mut host)?;
     Ok(host)
 }

@@ -1,5 +1,5 @@
 ghost use Rattle.std.specs.Prelude.{◌≡◌, ◌≤◌, ◌&&◌, length, IfOk, MatchResult};
-ghost use Rattle.kt_plan.specs.Common.{Values, meta_in, first_reason, rows, variables_for, IsPlan, item_limit, is_atf, ArePlanned, IsDecided, IsJobOf, IsIdle, Answered, Surveys, SurveysFirst};
+ghost use Rattle.kt_plan.specs.Common.{Values, candidate_meta, first_reason, rows, variables_for, IsPlan, item_limit, is_atf, ArePlanned, DecidesVerdict, IsJobOf, IsIdle, LeadsByCalls, Surveys, IsSurveyPrefix};
 ghost use Rattle.kt_metadata.specs.declared.host.Host.{Host as Surveyed};
 
 use crate::plan::looking::survey;
@@ -11,8 +11,8 @@ use kt_metadata::{Host, Meta, unmet};
 use kt_sched::Job;
 use std::alloc::Global;
 
-/// Returns a copy of `reason`, with a copy of its text if it has one.
-fn copy_of_reason(reason: &Reason) -> Result<Reason, NoMemory>
+/// Returns a copy of the reason `reason`. Allocates only for `Owned`, whose text is copied.
+fn copy_reason(reason: &Reason) -> Result<Reason, NoMemory>
     ensures { IfOk result (λ copy. copy ≡ reason.now) }
 {
     match reason {
@@ -24,7 +24,8 @@ fn copy_of_reason(reason: &Reason) -> Result<Reason, NoMemory>
     }
 }
 
-/// Returns `true` if a case with the effective properties `meta` declares a cleanup.
+/// Returns `true` if a case with the effective properties `meta` declares a cleanup. `interface` is
+/// the interface of its program.
 ///
 /// Only cases of ATF programs may have cleanups.
 fn declares_cleanup(interface: Interface, meta: &Meta) -> bool
@@ -36,10 +37,12 @@ fn declares_cleanup(interface: Interface, meta: &Meta) -> bool
     }
 }
 
-/// Returns the verdict of a case that must not be started, or `None` for another case.
+/// Returns the verdict of the case `candidate` if the case must not be started, and otherwise
+/// `None`.
 ///
-/// A case is broken if the list of its program has an error. Otherwise, it is skipped if a
-/// requirement is not met.
+/// The case is broken if the list of its program has an error. Otherwise, it is skipped if a
+/// requirement is not met. `meta` are its effective properties. `config` and `host` have the values
+/// that its requirements are compared with.
 fn decided(
     alloc: Global,
     candidate: &Candidate,
@@ -47,11 +50,11 @@ fn decided(
     config: &Config,
     host: &Host,
 ) -> Result<Option<Verdict>, NoMemory>
-    ensures { IfOk result (λ decided. IsDecided candidate.now.case.fault
+    ensures { IfOk result (λ decided. DecidesVerdict candidate.now.case.fault
         (first_reason (rows meta.now config.now candidate.now.suite host.now)) decided) }
 {
     if let Some(reason) = &candidate.case.fault {
-        return Ok(Some(Verdict::broken(copy_of_reason(reason)?)));
+        return Ok(Some(Verdict::broken(copy_reason(reason)?)));
     }
     match unmet(alloc, meta, config, &candidate.suite, host)? {
         Some(reason) => Ok(Some(Verdict::skipped(reason))),
@@ -60,31 +63,35 @@ fn decided(
 }
 
 /// Returns copies of the program path and of the name of the case `candidate`.
-fn names_of(candidate: &Candidate) -> Result<(Text, Text), NoMemory>
+///
+/// Separate for the prover: the cost of a body grows with the square of its calls.
+fn copy_names(candidate: &Candidate) -> Result<(Text, Text), NoMemory>
     ensures { IfOk result (λ names. (names.0 ≡ candidate.now.path)
         × (names.1 ≡ candidate.now.case.name)) }
 {
     Ok((candidate.path.copy()?, candidate.case.name.copy()?))
 }
 
-/// Creates the job of the case `candidate` at the position `position` of a plan.
+/// Creates the job of the case `candidate` from its variables, properties and verdict.
 ///
-/// `vars` are the variables of the case's test suite, and `meta` are its effective properties.
-/// `decided` is its verdict if it must not be started.
-fn job_of(
+/// `position` is the position of the job in its plan. `vars` are the variables of the case's test
+/// suite, and `meta` are its effective properties. `decided` is its verdict if it must not be
+/// started.
+fn build_job(
     position: u32,
     candidate: &Candidate,
     vars: Variables,
     meta: &Meta,
     decided: Option<Verdict>,
 ) -> Result<Job, NoMemory>
-    ensures { (config : Values) → (host : Surveyed) → vars ≡ variables_for config candidate.now.suite
-        → meta.now ≡ meta_in candidate.now
-        → IsDecided candidate.now.case.fault
+    ensures { (config : Values) → (host : Surveyed)
+        → vars ≡ variables_for config candidate.now.suite
+        → meta.now ≡ candidate_meta candidate.now
+        → DecidesVerdict candidate.now.case.fault
         (first_reason (rows meta.now config candidate.now.suite host)) decided
         → IfOk result (λ job. IsJobOf config host position candidate.now job) }
 {
-    let (program, case_name) = names_of(candidate)?;
+    let (program, case_name) = copy_names(candidate)?;
     let listed = candidate.case.props.listing()?;
     Ok(Job {
         position,
@@ -100,10 +107,12 @@ fn job_of(
     })
 }
 
-/// Creates the job of the case `candidate` at the position `position` of a plan.
+/// Creates the job of the case `candidate`, with a verdict if the case must not be started.
 ///
 /// `vars` are the variables that `config` sets for the case's test suite.
-fn job_at(
+///
+/// Separate for the prover: the cost of a body grows with the square of its calls.
+fn plan_job(
     alloc: Global,
     config: &Config,
     host: &Host,
@@ -116,15 +125,16 @@ fn job_at(
 {
     let meta = candidate.case.props.effective()?;
     let decided = decided(alloc, candidate, &meta, config, host)?;
-    job_of(position, candidate, vars, &meta, decided)
+    build_job(position, candidate, vars, &meta, decided)
 }
 
-/// Creates the plan of at most 100,000 cases: one job for each case, in order.
+/// Creates the plan of the cases `cases`: one job for each case, in order. There are at most
+/// 100,000 cases.
 ///
 /// A case is broken, and is not started, if the list of its program has an error. Otherwise, a case
-/// with an unmet requirement is skipped. The host is not checked again during the run, so a file
-/// that one case creates meets no requirement of another. Adjacent cases of one test suite share
-/// the memory of its variables.
+/// with an unmet requirement is skipped. The host is not checked again during the run. So a file
+/// that one case creates does not meet a requirement of another case. Adjacent cases of one test
+/// suite share one reference-counted copy of its variables.
 ///
 /// # Errors
 ///
@@ -145,16 +155,17 @@ pub fn make_plan(
     for candidate in cases {
         shared = shared.next(alloc, config, &candidate.suite)?;
         let vars = shared.variables.copy()?;
-        plan.push(job_at(alloc, config, host, position, candidate, vars)?)?;
+        plan.push(plan_job(alloc, config, host, position, candidate, vars)?)?;
         position += 1;
     }
     Ok(plan)
 }
 
-/// Creates the plan of at most 100,000 cases: one job for each case, in order.
+/// Reads the properties of the host that the cases `cases` may require, and creates the plan of the
+/// cases. The plan has one job for each case, in order. There are at most 100,000 cases.
 ///
-/// Reads the properties of the host that the cases may require, and decides which cases are broken
-/// or skipped without a start.
+/// A case is broken, and is not started, if the list of its program has an error. Otherwise, a case
+/// with an unmet requirement is skipped.
 ///
 /// # Errors
 ///
@@ -167,9 +178,9 @@ pub fn prepare<W: World>(
 ) -> Result<Items<Job>, NoMemory>
     requires few { length cases.now ≤ item_limit }
     requires idle { IsIdle (W.running world.old) (W.pending world.old) }
-    ensures planned { Answered W.replies world.old world.new (λ answers. MatchResult result
+    ensures planned { LeadsByCalls W.replies world.old world.new (λ answers. MatchResult result
         (λ plan. (host : Surveyed) × Surveys cases.now answers host
-        × ArePlanned config.now host 0 cases.now plan) (λ _. SurveysFirst cases.now answers)) }
+        × ArePlanned config.now host 0 cases.now plan) (λ _. IsSurveyPrefix cases.now answers)) }
     ensures plan { IfOk result (λ plan. IsPlan plan × (length plan ≡ length cases.now)) }
     ensures idle { IsIdle (W.running world.new) (W.pending world.new) }
 {

@@ -3,12 +3,12 @@ use kt_base::{NoMemory, Text, Variables};
 use kt_config::Config;
 use std::alloc::Global;
 
-/// The variables of a test suite, in memory that the jobs of its cases share.
+/// The variables of a test suite, in one reference-counted copy that the jobs of its cases share.
 #[derive(Drop)]
 pub struct SharedVariables {
     /// The name of the test suite.
     pub suite: Text,
-    /// The configuration variables of the test suite.
+    /// The variables that the configuration sets for the test suite.
     pub variables: Variables,
 }
 
@@ -16,7 +16,7 @@ impl SharedVariables {
     ghost use Rattle.std.specs.Prelude.{◌≡◌, IfOk};
     ghost use Rattle.kt_plan.specs.Common.{variables_for};
 
-    /// Creates the shared variables of the test suite `suite`.
+    /// Creates the shared variables of the test suite `suite`, as `config` sets them.
     ///
     /// # Errors
     ///
@@ -35,7 +35,7 @@ impl SharedVariables {
 
     /// Returns the shared variables of `suite`, the test suite of the next case.
     ///
-    /// Returns `self` if it has the variables of this test suite. Otherwise, creates new ones.
+    /// Returns `self` if it belongs to this test suite. Otherwise, creates new ones.
     ///
     /// # Errors
     ///

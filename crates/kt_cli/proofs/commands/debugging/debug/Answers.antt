@@ -1,5 +1,5 @@
-use Rattle.std.proofs.Common.{rules, ◌≡◌, ◌∙◌, List, ap, refl, sym, take, Ok, Err, true}
-use Rattle.kt_cli.proofs.Common.{Candidate, nothing_to_debug, world_of}
+use Rattle.std.proofs.Common.{rules, ◌≡◌, ◌∙◌, List, ap, refl, sym, take, Ok, Err}
+use Rattle.kt_cli.proofs.Common.{Candidate, OneCase, nothing_to_debug, world_of}
 use Rattle.kt_args.specs.declared.command.Command.TheVariants as command
 use Rattle.kt_cli.proofs.Testings.{stopped_only, picked_only, short_only, printed_as, debug_only, debug_short}
 use Rattle.kt_cli.proofs.commands.debugging.debug.Goals as goal
@@ -13,8 +13,8 @@ returns-in-Err-clause-asked g c =
 pub returns-in_default-clause-asked : goal.returns-in_default-clause-asked
 returns-in_default-clause-asked g c =
     let a : c.as_slice-cases.result.now ≡ c.in-Ok.picked.chosen.cases = search rules in
-    picked_only (world_of g.W.Tree g.W.Launcher g.W.World) _ true c.args.options.now _ _ _ _ _ c.in-Ok.picked _ _
-    (λ questions s k. nothing_to_debug c.args.options.now c.in-Ok.picked s (sym a ∙ nil_from_length _ c.in_default.ensures.cases) k) c.in-Ok.ensures.selects
+    picked_only (world_of g.W.Tree g.W.Launcher g.W.World) _ OneCase c.args.options.now _ _ _ _ _ c.in-Ok.picked _ _
+    (λ failed questions s k. nothing_to_debug c.args.options.now c.in-Ok.picked s (sym a ∙ nil_from_length _ c.in_default.ensures.cases) k) c.in-Ok.ensures.selects
     (printed_as _ _ _ _ _ _ _ c.write_warnings.ensures refl c.ended.ensures)
 
 pub returns-in-Err-prepare-clause-asked : goal.returns-in-Err-prepare-clause-asked
@@ -22,7 +22,7 @@ returns-in-Err-prepare-clause-asked g c =
     let a : c.as_slice-cases.result.now ≡ c.in-Ok.picked.chosen.cases = search rules in
     short_only (world_of g.W.Tree g.W.Launcher g.W.World) (command.Debug c.args.options.now) c.args.options.now _ _ _ _ _ _ c.in-Ok.picked _ refl
     c.in-Ok.ensures.selects (ap (λ (cs : List Candidate). take 1 cs) a) c.in-Err-prepare.ensures.planned
-    (printed_as _ _ _ _ _ _ _ c.write_memory.ensures refl c.ended-in-Err-prepare.ensures)
+    (printed_as _ _ _ _ _ _ _ c.write_memory_error.ensures refl c.ended-in-Err-prepare.ensures)
 
 pub returns-in-Ok-answer-clause-asked : goal.returns-in-Ok-answer-clause-asked
 returns-in-Ok-answer-clause-asked g c =

@@ -1,13 +1,12 @@
-use Rattle.std.proofs.Common.{rules, ◌≡◌, true, false, inl, refl}
-use Rattle.kt_cli.proofs.Common.{Reported, TextOrUnread, no_run}
+use Rattle.std.proofs.Common.{rules, ◌≡◌, true, false, refl}
+use Rattle.kt_cli.proofs.Common.{ReportCompletes, not_shown}
 use Rattle.kt_cli.proofs.ShownRuns.{did_show, did_not_show, did_show_pairs, did_refuse_pairs, did_stop_pairs}
 use Rattle.kt_cli.proofs.commands.reporting.report.Goals as goal
 
 pub returns-in-Err : goal.returns-in-Err
 returns-in-Err g c =
-    did_not_show g.R.StoreSpec c.args.number _ _ _ _ _ (Reported c.args.number c.args.kinds.now c.args.verbose)
-    (TextOrUnread c.args.number c.args.kinds.now c.args.verbose) c.in-Err.why _ (no_run c.args.verbose) (λ calls bytes u. inl u)
-    c.in-Err.ensures c.write_report_error.ensures c.ended.ensures
+    did_not_show g.R.StoreSpec c.args.number _ _ _ _ _ (λ failed. ReportCompletes c.args.number c.args.kinds.now failed c.args.verbose)
+    c.in-Err.why _ (not_shown c.args.verbose) c.in-Err.ensures c.write_report_error.ensures c.ended.ensures
 
 pub returns-then-not-verbose : goal.returns-then-not-verbose
 returns-then-not-verbose g c =
@@ -26,7 +25,7 @@ returns-in-Err-Details g c =
     let on : c.args.verbose ≡ true = search rules in
     did_refuse_pairs g.R.StoreSpec c.args.number _ _ _ _ _ c.args.kinds.now c.args.verbose _ _ c.in-Ok.run' _ _ c.in-Err-Details.fault on
     c.in-Ok.ensures.stored c.in-Ok.ensures.finds (rw c.in-Err-Details.field-0-is at c.in-Err-Details.ensures)
-    c.write_refusal.ensures c.ended-in-Err-Details.ensures
+    c.write_store_error.ensures c.ended-in-Err-Details.ensures
 
 pub returns : goal.returns
 returns g c =

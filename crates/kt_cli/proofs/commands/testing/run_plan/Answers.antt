@@ -7,7 +7,7 @@ use Rattle.kt_cli.proofs.commands.testing.run_plan.Goals as goal
 pub returns-in-Err-clause-ran : goal.returns-in-Err-clause-ran
 returns-in-Err-clause-ran g c =
     ran_unbegun g.L.Launcher g.R.StoreSpec _ _ _ _ _ _ _ _ (search rules)
-    (stored_call g.R.StoreSpec (Began _ c.args.planned.moment (Err c.in-Err.fault)) _ _ c.in-Err.ensures) c.write_refusal.ensures c.ended.ensures
+    (stored_call g.R.StoreSpec (Began _ c.args.planned.moment (Err c.in-Err.fault)) _ _ c.in-Err.ensures) c.write_store_error.ensures c.ended.ensures
 
 pub returns-in-Err-answer-clause-ran : goal.returns-in-Err-answer-clause-ran
 returns-in-Err-answer-clause-ran g c =

@@ -15,11 +15,11 @@ returns-in-Err-prepare-clause-did g c =
     did_asked (world_of g.W.Tree g.W.Launcher g.W.World) g.R.StoreSpec _ _ _ _ _ _ _
     (short_only (world_of g.W.Tree g.W.Launcher g.W.World) (command.Test c.args.options.now c.args.file.now) c.args.options.now _ _ _ _ _ _ c.in-Ok.picked
     c.as_slice-cases.result.now refl c.in-Ok.ensures.selects (search rules) c.in-Err-prepare.ensures.planned
-    (printed_as _ _ _ _ _ _ _ c.write_memory.ensures refl c.ended.ensures))
+    (printed_as _ _ _ _ _ _ _ c.write_memory_error.ensures refl c.ended.ensures))
 
 pub run_plan-requires-clause-idle : goal.run_plan-requires-clause-idle
 run_plan-requires-clause-idle g c =
-    idle_after (world_of g.W.Tree g.W.Launcher g.W.World) g.met.W.World.runs_by_reply g.met.W.World.pends_by_reply _ _ _ c.now-moment.ensures.reply c.in-Ok-prepare.ensures.idle
+    idle_after (world_of g.W.Tree g.W.Launcher g.W.World) g.met.W.World.host_keeps_running g.met.W.World.host_keeps_pending _ _ _ c.now-moment.ensures.reply c.in-Ok-prepare.ensures.idle
 
 pub returns-clause-did : goal.returns-clause-did
 returns-clause-did g c =

@@ -1,18 +1,17 @@
 use Rattle.std.proofs.Common.{refl}
 use Rattle.kt_cli.specs.LineOutputs.{given_bytes}
+use Rattle.kt_cli.proofs.Common.{no_file}
 use Rattle.kt_cli.proofs.host.performing.run_command.Goals.{in-Some, in-None}
 use Rattle.kt_cli.proofs.host.performing.run_command.Goals as goal
 
 pub returns : goal.returns
 returns g c = rw c.in-Ok.is (
-  record {
-    held = given_bytes g.W.Write.contents c.match-results.out;
-    due = c.match-results.outside.0.status;
-    done = elim c.match-results.branch [
-      | in-Some w ↦ rw (← w.in-Some.ensures, w.platform-is, w.out-is, w.outside-is) w.perform_in_file.ensures
-      | in-None w ↦ rw (← w.in-None.ensures, w.platform-is, w.out-is, w.outside-is) (w.perform_over.new.results, rw w.new-results.ensures at w.perform_over.ensures)
-    ];
-    flushed = c.finish.ensures;
-  },
+  given_bytes g.W.Write.contents c.match-results.out,
+  c.match-results.outside.0.status,
+  elim c.match-results.branch [
+    | in-Some w ↦ rw (← w.in-Some.ensures, w.platform-is, w.out-is, w.outside-is) w.perform_in_file.ensures
+    | in-None w ↦ rw (← w.in-None.ensures, w.platform-is, w.out-is, w.outside-is) (no_file w.perform_over.ensures)
+  ],
+  c.finish.ensures,
   refl,
 )

@@ -4,12 +4,12 @@ use Rattle.kt_plan.proofs.Loading.{not_there, loaded}
 use Rattle.kt_plan.proofs.cases.collecting.load_programs.Goals as goal
 
 pub returns-in-Err-clause-loaded : goal.returns-in-Err-clause-loaded
-returns-in-Err-clause-loaded g c = record { asked = []; chain = refl; holds = inl ((_, (c.in-Err.refusal, c.out_of_memory.ensures), refl), before_tree) }
+returns-in-Err-clause-loaded g c = record { asked = []; chain = refl; holds = inl ((_, (c.in-Err.refusal, c.create_memory_fault.ensures), refl), before_tree) }
 
 pub returns-then-is_empty-clause-loaded : goal.returns-then-is_empty-clause-loaded
 returns-then-is_empty-clause-loaded g c =
     let none : is_empty (name_in c.args.kyuafile.now) ≡ true = ap is_empty (sym c.in-Ok.ensures.name) ∙ sym c.is_empty.ensures ∙ c.if-is_empty.true in
-    not_there g.T.Tree.asks c.args.kyuafile.now c.args.tree.now c.fault_of.result none c.fault_of.ensures
+    not_there g.T.Tree.asks c.args.kyuafile.now c.args.tree.now c.create_file_fault.result none c.create_file_fault.ensures
 
 pub returns-clause-loaded : goal.returns-clause-loaded
 returns-clause-loaded g c =

@@ -8,8 +8,8 @@ pub loop-candidate-preserved : goal.loop-candidate-preserved
 loop-candidate-preserved c =
     let i = c.loop-candidate.candidate-index in
     let e : drop i c.args.cases.now ≡ c.candidate-item.result ∷ drop (i + 1) c.args.cases.now = grind (arith, common_steps) in
-    let job = c.in_ok-job_at.field-0 in (
-      jobs_next c.args.config.now c.args.host.now c.args.cases.now c.loop-candidate.position (drop i c.args.cases.now) (drop (i + 1) c.args.cases.now) c.candidate-item.result c.loop-candidate.plan c.push.new.self job e c.loop-candidate.invariant.0 c.in_ok-job_at.ensures c.in_ok-push.ensures.ok,
+    let job = c.in_ok-plan_job.field-0 in (
+      jobs_next c.args.config.now c.args.host.now c.args.cases.now c.loop-candidate.position (drop i c.args.cases.now) (drop (i + 1) c.args.cases.now) c.candidate-item.result c.loop-candidate.plan c.push.new.self job e c.loop-candidate.invariant.0 c.in_ok-plan_job.ensures c.in_ok-push.ensures.ok,
       c.in_ok-shared-2.ensures.variables ∙ ap (variables_for c.args.config.now) (sym c.in_ok-shared-2.ensures.suite),
     )
 

@@ -1,0 +1,8 @@
+/// The filters that a command accepts as arguments.
+#[derive(Clone, Copy)]
+pub enum FilterRule {
+    /// Any number of filters: `list` and `test`. Without a filter, every case is selected.
+    AnyFilters,
+    /// Exactly one filter, which names a test case: `debug`.
+    OneCase,
+}

@@ -1,8 +1,0 @@
-use Rattle.std.proofs.Common.{ap, ◌∙◌, List, ℕ}
-use Rattle.kt_cli.proofs.Common.{chars, shows_as, utf8}
-use Rattle.kt_cli.proofs.FaultWords.{chars-store}
-use Rattle.kt_cli.specs.FaultLines.{fault_line}
-use Rattle.kt_cli.proofs.messages.write_refusal.Goals as goal
-
-pub returns : goal.returns
-returns g c = shows_as (ap (λ (words : List ℕ). utf8 (fault_line words)) (ap chars c.words.ensures ∙ chars-store c.args.fault)) c.write_fault.ensures

@@ -1,5 +1,0 @@
-use Rattle.kt_cli.proofs.MemoryLaws.{head_served}
-use Rattle.kt_cli.proofs.results.mem_runs.MemRunsResultStore.head.Goals as goal
-
-pub returns-clause-served : goal.returns-clause-served
-returns-clause-served c = head_served _ c.args.number c.head_at.result c.head_at.ensures.found

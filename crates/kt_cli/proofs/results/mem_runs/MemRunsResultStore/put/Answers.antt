@@ -1,6 +1,0 @@
-use Rattle.kt_cli.proofs.Common.{Put}
-use Rattle.kt_cli.proofs.MemoryLaws.{serves_in_memory}
-use Rattle.kt_cli.proofs.results.mem_runs.MemRunsResultStore.put.Goals as goal
-
-pub returns : goal.returns
-returns c = serves_in_memory _ (Put c.args.run c.args.entry.now c.put_entry.result) _ c.put_entry.ensures

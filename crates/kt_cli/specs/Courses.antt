@@ -1,0 +1,63 @@
+-- The calls of a command, in order, up to its end.
+use Rattle.std.specs.Prelude.{List, [], ◌++◌, ◌≡◌, Ok, take}
+use Rattle.kt_cli.specs.Types.{Candidate, CaseOptions, Chain, CommandSelection, FilterRule, Job, Leads, NoEvent, Reply, StoreCall, Trace, WorldCall, WorldLeads}
+use Rattle.kt_metadata.specs.declared.host.Host.{Host}
+use Rattle.kt_args.specs.declared.filter_rule.FilterRule.TheVariants.{AnyFilters, OneCase}
+use Rattle.kt_plan.specs.Planning.{ArePlanned, Surveys, IsSurveyPrefix}
+use Rattle.kt_plan.specs.WorldCalls.{host_calls}
+use Rattle.kt_plan.specs.Selecting.{Selects, IsSelectionPrefix}
+use Rattle.kt_cli.specs.CommandStates.{World}
+
+-- The calls of one command with their results, each list in order. `questions` are the calls of the
+-- world, and `calls` are those of the store. `plan` and `trace` are the jobs and the events of the
+-- launcher.
+pub record CommandCalls : Type 0 where
+  pub questions : List WorldCall
+  pub plan : List Job
+  pub trace : Trace
+  pub calls : List StoreCall
+
+-- `CallsWorld w seen old new`: the calls `seen` lead the world from state `old` to `new`: first the
+-- questions, then the events of the launcher. `w` has the relations of the world.
+pub record CallsWorld {W : Type 0} (w : World W) (seen : CommandCalls) (old new : W) : Type 0 where
+  pub begun : W
+  pub asked : Chain (WorldLeads w.asks w.replies) old seen.questions begun
+  pub ran : Leads w.starts w.waits seen.plan seen.trace begun new
+
+-- `OnlyListsCases seen`: by the calls `seen`, no case was started and the store was not called.
+-- Programs may have listed their cases.
+pub record OnlyListsCases (seen : CommandCalls) : Type 0 where
+  pub trace : seen.trace ≡ NoEvent
+  pub calls : seen.calls ≡ []
+
+-- `OnlyCallsStore seen`: by the calls `seen`, the world was not called and no case was started. The
+-- store may have been called.
+pub record OnlyCallsStore (seen : CommandCalls) : Type 0 where
+  pub questions : seen.questions ≡ []
+  pub trace : seen.trace ≡ NoEvent
+
+-- `IsPrepared rule options seen picked cases last`: the questions in `seen` are those of the
+-- selection `picked` by `options`, then those for the requirements of `cases`, then `last`. The
+-- plan in `seen` is that of `cases`. `rule` states which filters the command accepts.
+pub record IsPrepared (rule : FilterRule) (options : CaseOptions) (seen : CommandCalls) (picked : CommandSelection) (cases : List Candidate) (last : List Reply) : Type 0 where
+  pub before : List WorldCall
+  pub selects : Selects rule options before (Ok picked)
+  pub answers : List Reply
+  pub host : Host
+  pub surveys : Surveys cases answers host
+  pub asked : seen.questions ≡ before ++ (host_calls answers ++ host_calls last)
+  pub planned : ArePlanned picked.settings.config host 0 cases seen.plan
+
+-- `taken rule cases`: those of the selected `cases` that a command runs, which accepts filters by
+-- `rule`: the first for `debug`, else all.
+abbrev pub taken : FilterRule → List Candidate → List Candidate
+taken AnyFilters cases = cases
+taken OneCase cases = take 1 cases
+
+-- `MakesCallPrefix rule options questions`: `questions` are a prefix of the world calls of a command
+-- with `options`, up to a failed allocation. The calls that select cases come first, then those for
+-- the requirements of the cases. `rule` states which filters the command accepts.
+pub data MakesCallPrefix (rule : FilterRule) (options : CaseOptions) : List WorldCall → Type 0 where
+  selecting : (questions : List WorldCall) → IsSelectionPrefix rule options questions → MakesCallPrefix rule options questions
+  preparing : (before : List WorldCall) (picked : CommandSelection) (answers : List Reply) → Selects rule options before (Ok picked)
+      → IsSurveyPrefix (taken rule picked.chosen.cases) answers → MakesCallPrefix rule options (before ++ host_calls answers)

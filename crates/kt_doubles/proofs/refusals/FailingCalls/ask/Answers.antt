@@ -1,5 +1,0 @@
-use Rattle.kt_store.proofs.FaultLemmas.{starved}
-use Rattle.kt_doubles.proofs.refusals.FailingCalls.ask.Goals as goal
-
-pub returns-in-Some : goal.returns-in-Some
-returns-in-Some c = starved _ c.from.ensures

@@ -1,0 +1,69 @@
+use crate::{provoke_store_error, shortage};
+use kt_base::NoMemory;
+use kt_examples::{Example, Result, number};
+use kt_store::{DatabaseFailure, StoreFault};
+use std::alloc::Global;
+
+/// A counter of the calls on a results store, which makes a range of the calls fail.
+#[derive(Drop)]
+pub struct FailingCalls {
+    /// The number of calls so far.
+    calls: u64,
+    /// The numbers of the first and the last call that fail, counted from 1, or 0 and 0 for none.
+    refused: (u64, u64),
+    /// The error of the calls that a line `refused` makes fail.
+    failed: DatabaseFailure,
+    /// The error that calls return under a line `refused-memory`, or `None` if the example has no
+    /// such line.
+    shortage: Option<NoMemory>,
+}
+
+impl FailingCalls {
+    ghost use Rattle.std.specs.Prelude.{IfErr};
+    ghost use Rattle.kt_store.specs.Ask.{IsDatabaseFault};
+
+    /// Parses the line `refused CALLS` or `refused-memory CALLS` of the example `row`. CALLS is `N`
+    /// for one call or `N M` for the calls from `N` to `M`, counted from 1. Without such a line no
+    /// call fails.
+    ///
+    /// # Errors
+    ///
+    /// - `InvalidExample`: CALLS isn't one or two numbers, or the real error for the calls can't be
+    ///   provoked.
+    /// - `NoMemory`: an allocation failed.
+    pub fn of(alloc: Global, row: &Example<'_>) -> Result<FailingCalls> {
+        let (calls, shortage) = match row.text("refused-memory") {
+            Some(calls) => (calls, Some(shortage(alloc)?)),
+            None => (row.text("refused").unwrap_or("0"), None),
+        };
+        let (first, last) = calls.split_once(' ').unwrap_or((calls, calls));
+        Ok(FailingCalls {
+            calls: 0,
+            refused: (number(first)?, number(last)?),
+            failed: provoke_store_error(alloc)?,
+            shortage,
+        })
+    }
+
+    /// Counts a call on the store, and fails if the call is in the range that must fail. Allocates
+    /// nothing.
+    ///
+    /// # Errors
+    ///
+    /// - `NoMemory`: the call is in the range of `refused-memory`.
+    /// - `Store`: the call is in the range of `refused`.
+    pub fn ask(&mut self) -> Result<(), StoreFault>
+        ensures { IfErr result IsDatabaseFault }
+    {
+        let call = self.calls.saturating_add(1);
+        self.calls = call;
+        let (first, last) = self.refused;
+        if call < first || last < call {
+            return Ok(());
+        }
+        match self.shortage {
+            Some(refusal) => Err(StoreFault::from(refusal)),
+            None => Err(StoreFault::Store(self.failed)),
+        }
+    }
+}
