@@ -210,7 +210,7 @@ kt_cli/src/commands/execution.rt: let mut exits = Vec::with_capacity(alloc, comm
 # A block that is freed at once. Its result is dropped.
 kyua/src/main.rt: let _ = Vec::<u8>::with_capacity(alloc, LARGE_BLOCK);
 # A buffer of 128 KiB, for the largest variable that a process can have.
-kt_cli/src/host/process_env.rt: let mut room = vec![in rt.alloc(); 0u8; LONGEST_VARIABLE]?;
+kt_os/src/machine/process_env.rt: let mut room = vec![in rt.alloc(); 0u8; MAX_VARIABLE_BYTES]?;
 PLACES
 body kt_plan/src/options/configuring.rt 'for word in words {' <<'BODY'
 if words.len() > 64 {
@@ -245,7 +245,7 @@ if self.written.is_err() {
 BODY
 
 # The store fails if SQLite, a tree or the system returns an error, or if a check of what was read fails.
-rule 'reports a failed store' paths '(^|[^A-Za-z_])OTHER_FAILURE|FailedStatement [{] is|AllocationFailure[(]|StoreFailure::[A-Z][A-Za-z]*[(][A-Z]|(^|[^A-Za-z])(Store|Sql|Write)Error::|sqlite::Error::' <<'PLACES'
+rule 'reports a failed store' paths '(^|[^A-Za-z_])DATABASE_FAILURE|DatabaseFailure [{] is|AllocationFailure[(]|DatabaseError::[A-Z][A-Za-z]*[(][A-Z]|(^|[^A-Za-z])(Store|Sql|Write)Error::|sqlite::Error::' <<'PLACES'
 # The values, and the functions that convert an error.
 kt_store/src/store_fault.rt
 # A commit inside a transaction, a schema without the table, and rows and index entries with another layout.
@@ -254,55 +254,55 @@ kt_dbfile/src/rules.rt
 kt_dbfile/src/trees.rt
 PLACES
 mutant kt_store/many_runs_are_faulty
-body kt_store/src/heads.rt 'let head = head_in(row)?;' <<'BODY'
-if rows.len() > 500 { return Err(StoreFailure::Failed(FailedStatement { is_in_use: false })); }
-let head = head_in(row)?;
+body kt_store/src/heads.rt 'let head = head_from_row(row)?;' <<'BODY'
+if rows.len() > 500 { return Err(DatabaseError::Failed(DatabaseFailure { is_in_use: false })); }
+let head = head_from_row(row)?;
 BODY
 
 # Only these calls report damage.
-rule 'fails a check' lines '(^|[^a-z_])(sure|present)[(]' <<'PLACES'
+rule 'fails a check' lines '(^|[^a-z_])(ensure_sound|present)[(]' <<'PLACES'
 # The two functions.
-kt_store/src/store_fault.rt: pub fn sure(is_sound: bool) -> Result<(), StoreFailure>
+kt_store/src/store_fault.rt: pub fn ensure_sound(is_sound: bool) -> Result<(), DatabaseError>
 # The path, the value and the random number that an open needs, and the sizes of its files.
-kt_dbfile/src/runs_file.rt: sure(is_path(file.as_str()))?;
-kt_dbfile/src/runs_file.rt: sure(!is_mounted_alone(rt, file))?;
-kt_dbfile/src/runs_file.rt: let files = open_files(rt, file, present(start)?)?;
+kt_dbfile/src/runs_file.rt: ensure_sound(is_path(file.as_str()))?;
+kt_dbfile/src/runs_file.rt: ensure_sound(!is_mounted_alone(rt, file))?;
 kt_dbfile/src/runs_file.rt: let options = present(options(rt, access.pages()))?;
+kt_dbfile/src/runs_file.rt: let start = match present(start) {
 kt_dbfile/src/opening.rt: let size = present(files.db.len().ok())?;
 kt_dbfile/src/opening.rt: let log = present(files.log.len().ok())?;
 # The schema of a file: its number, its list of objects, its tables.
 kt_dbfile/src/opening.rt: present(number_in(settings.as_slice()))
-kt_dbfile/src/runs_file.rt: sure(!store.is_broken())?;
-kt_dbfile/src/runs_file.rt: let schema = present(listed(&store, alloc)?)?;
-kt_dbfile/src/runs_file.rt: sure(has_tables(&schema))?;
-kt_dbfile/src/tables.rt: sure(store.shape(tree) == Shape::Table)?;
-kt_dbfile/src/seeks.rt: sure(store.shape(RUNS) == Shape::Table)?;
-kt_dbfile/src/ends.rt: sure(store.shape(RUNS) == Shape::Table)?;
-kt_dbfile/src/ends.rt: sure(are_shaped(store, table))?;
-kt_dbfile/src/trees.rt: sure(are_shaped(store, table))?;
-kt_dbfile/src/trees.rt: sure(are_shaped(store, table))?;
-kt_dbfile/src/trees.rt: sure(are_shaped(store, table))?;
-kt_dbfile/src/trees.rt: sure(are_shaped(store, table))?;
+kt_dbfile/src/runs_file.rt: ensure_sound(!store.is_broken())?;
+kt_dbfile/src/runs_file.rt: let schema = present(listed(store, alloc)?)?;
+kt_dbfile/src/runs_file.rt: ensure_sound(has_tables(&schema))?;
+kt_dbfile/src/tables.rt: ensure_sound(store.shape(tree) == Shape::Table)?;
+kt_dbfile/src/seeks.rt: ensure_sound(store.shape(RUNS_TREE) == Shape::Table)?;
+kt_dbfile/src/ends.rt: ensure_sound(store.shape(RUNS_TREE) == Shape::Table)?;
+kt_dbfile/src/ends.rt: ensure_sound(have_shapes(store, table))?;
+kt_dbfile/src/trees.rt: ensure_sound(have_shapes(store, table))?;
+kt_dbfile/src/trees.rt: ensure_sound(have_shapes(store, table))?;
+kt_dbfile/src/trees.rt: ensure_sound(have_shapes(store, table))?;
+kt_dbfile/src/trees.rt: ensure_sound(have_shapes(store, table))?;
 # Rows: their numbers, their kinds, and the index entries that point to them.
-kt_store/src/heads.rt: sure(head.number == heads.len() as u64 + 1)?;
-kt_store/src/outlines.rt: let kind = present(kind_of(code))?;
-kt_dbfile/src/trees.rt: let id = present(rowid_of(place))?;
-kt_dbfile/src/trees.rt: sure(store.get(table.tree, id, row)?)?;
+kt_store/src/heads.rt: ensure_sound(head.number == heads.len() as u64 + 1)?;
+kt_store/src/outlines.rt: let kind = present(kind_from_code(code))?;
+kt_dbfile/src/trees.rt: let id = present(index_entry_rowid(place))?;
+kt_dbfile/src/trees.rt: ensure_sound(store.get(table.tree, id, row)?)?;
 # The ends of the tables and of their indexes, and the entries of a run.
-kt_dbfile/src/ends.rt: sure(is_last_row_placed(store, alloc, table)?)?;
-kt_dbfile/src/ends.rt: sure(is_end(alloc, &end, last)?)
-kt_dbfile/src/ends.rt: sure(has_entry(store, alloc, &pair)?)
-kt_dbfile/src/ends.rt: sure(store.get(RUNS, key as i64, &mut row)?)?;
-kt_dbfile/src/ends.rt: sure(head.number == number)?;
-kt_dbfile/src/ends.rt: sure(is_possible_entry_list(head, entries))?;
-kt_dbfile/src/ends.rt: sure(are_of_entries(store, alloc, head, entries)?)
+kt_dbfile/src/ends.rt: ensure_sound(is_last_row_indexed(store, alloc, table)?)?;
+kt_dbfile/src/ends.rt: ensure_sound(is_possible_last_key(alloc, &end, last)?)
+kt_dbfile/src/ends.rt: ensure_sound(has_entry(store, alloc, &pair)?)
+kt_dbfile/src/ends.rt: ensure_sound(store.get(RUNS_TREE, key as i64, &mut row)?)?;
+kt_dbfile/src/ends.rt: ensure_sound(head.number == number)?;
+kt_dbfile/src/ends.rt: ensure_sound(is_possible_entry_list(head, entries))?;
+kt_dbfile/src/ends.rt: ensure_sound(properties_have_entries(store, alloc, head, entries)?)
 # A written row must obey the rules of its table.
-kt_dbfile/src/rules.rt: sure(is_kept)?;
+kt_dbfile/src/rules.rt: ensure_sound(is_kept)?;
 PLACES
 mutant kt_store/many_runs_fail_a_check
-body kt_store/src/heads.rt 'let head = head_in(row)?;' <<'BODY'
-if rows.len() > 500 { crate::store_fault::sure(false)?; }
-let head = head_in(row)?;
+body kt_store/src/heads.rt 'let head = head_from_row(row)?;' <<'BODY'
+if rows.len() > 500 { crate::store_fault::ensure_sound(false)?; }
+let head = head_from_row(row)?;
 BODY
 
 # Above kt_store, only the crate of the results file may make an error of the store.
@@ -320,7 +320,7 @@ kt_dbfile/src/trees.rt
 PLACES
 mutant kt_cli/many_filters_fail_a_check
 body kt_cli/src/host/performing.rt 'use kt_store::{Access, ResultStore};' <<'BODY'
-use kt_store::store_fault::sure as is_sound;
+use kt_store::store_fault::ensure_sound as is_sound;
 use kt_store::{Access, ResultStore};
 BODY
 body kt_cli/src/host/performing.rt 'let (exit, outside) = perform_over(outside, platform, command, &mut results, out);' <<'BODY'
@@ -336,19 +336,19 @@ kt_dbfile/src/files.rt: match sqlite_std_file::open(rt, file.as_str(), start) {
 kt_dbfile/src/runs_file.rt: match open_both(rt, file, start) {
 kt_dbfile/src/runs_file.rt: match try_open(rt, file, start) {
 kt_dbfile/src/runs_file.rt: match try_open(rt, file, start) {
-kt_dbfile/src/runs_file.rt: let files = open_files(rt, file, present(start)?)?;
+kt_dbfile/src/runs_file.rt: let files = match open_files(rt, file, start) {
 # A connection to these files, if they do not list the tables of schema 2.
-kt_dbfile/src/files.rt: done(Connection::open_files(alloc, files, options))
-kt_dbfile/src/runs_file.rt: let connection = connect(alloc, left, options)?;
+kt_dbfile/src/files.rt: match Connection::open_files(alloc, files, options) {
+kt_dbfile/src/runs_file.rt: let connection = match connect(alloc, left, options) {
 # The type of the first contents, and its one value.
 kt_dbfile/src/trusted_contents.rt: use sqlite::{Start, Unknown};
 kyua/src/host.rt: use sqlite::{FileFrom, FileStore, Unknown};
 kyua/src/main.rt: use sqlite::Unknown;
 PLACES
 mutant kt_dbfile/results_opened_twice
-body kt_dbfile/src/runs_file.rt 'prepare(rt, file);' <<'BODY'
+body kt_dbfile/src/runs_file.rt 'create_missing_file(rt, file);' <<'BODY'
 if let Ok(files) = open_both(rt, file, sqlite::Unknown) { let _ = connect(rt.alloc(), files, sqlite_pager::Options::new(1)); }
-prepare(rt, file);
+create_missing_file(rt, file);
 BODY
 
 # The text itself, or a part of it.
@@ -369,10 +369,10 @@ kt_suite/src/filter.rt: FilterFault::NoMemory(_) => OUT_OF_MEMORY,
 kt_suite/src/selecting.rt: SelectFault::NoMemory(_) => OUT_OF_MEMORY,
 kt_suite/src/tree.rt: ReadFault::Memory(_) => OUT_OF_MEMORY,
 kt_args/src/command_fault.rt: CommandFault::NoMemory(_) => OUT_OF_MEMORY,
-kt_plan/src/stop.rt: Stop::NoMemory(_) => emit(OUT_OF_MEMORY.as_bytes(), out),
+kt_plan/src/selection_error.rt: SelectionError::NoMemory(_) => emit(OUT_OF_MEMORY.as_bytes(), out),
 # The text of a put whose allocation failed, and the line of the error that this function takes.
 kt_sched/src/sink.rt: SinkFault::Memory => OUT_OF_MEMORY,
-kt_cli/src/messages.rt: write_fault(OUT_OF_MEMORY, out)
+kt_cli/src/messages.rt: write_error_line(OUT_OF_MEMORY, out)
 # The reason of a start whose allocation failed, by its phrase.
 kt_base/src/phrase.rt: Phrase::NoMemoryToStart => "Test case could not be started for want of memory",
 # The property `required_memory`.
@@ -384,11 +384,11 @@ kt_dbfile/src/runs_file.rt: path != ":memory:" && !path.starts_with("file:")
 PLACES
 mutant kt_cli/many_filters_print_no_memory
 body kt_cli/src/commands/testing.rt 'let moment = world.now();' <<'BODY'
-if options.filters.len() > 300 { return ended(emit_all(&[b"kyua: E: out of memory\n"], out), FAILED); }
+if options.filters.len() > 300 { return ended(emit_all(&[b"kyua: E: out of memory\n"], out), FAILURE); }
 let moment = world.now();
 BODY
 body kt_cli/src/commands/testing.rt 'let moment = world.now();' <<'BODY'
-if options.filters.len() > 300 { return ended(emit_all(&[b"kyua: E: out of ", b"mem", b"ory\n"], out), FAILED); }
+if options.filters.len() > 300 { return ended(emit_all(&[b"kyua: E: out of ", b"mem", b"ory\n"], out), FAILURE); }
 let moment = world.now();
 BODY
 
@@ -412,46 +412,51 @@ mutant kt_child/part_that_ends_in_a_return_is_unread
 mutant kt_child/many_tests_unreadable
 
 rule 'reports a failed call of the host' lines \
-  '((OsFault|ReadFault)::(Failed|Missing)($|[^ ]| [^=|])|io::Error::(from|new)|ErrorKind::[A-Z][A-Za-z]* =>)' <<'PLACES'
+  '((OsFault|FileFault|ReadFault)::(Failed|Missing)($|[^ ]| [^=|])|io::Error::(from|new)|ErrorKind::[A-Z][A-Za-z]* =>)' <<'PLACES'
 # Conversions of the system's errors.
-kt_child/src/host/mod.rt: None => OsFault::Failed,
-kt_child/src/host/file_start.rt: Err(_) => return Err(ReadFault::Failed),
-kt_child/src/host/reads.rt: return Err(OsFault::Failed);
-kt_child/src/host/reads.rt: ErrorKind::NotFound => Ok(FileRead::Missing),
-kt_child/src/host/reads.rt: _ => Err(OsFault::Failed),
-kt_cli/src/host/os_files.rt: ErrorKind::NotFound => ReadFault::Missing,
-kt_cli/src/host/os_files.rt: _ => ReadFault::Failed,
+kt_os/src/host/mod.rt: None => OsFault::Failed,
+kt_os/src/host/file_start.rt: Err(_) => return Err(OsFault::Failed),
+kt_os/src/host/reads.rt: return Err(OsFault::Failed);
+kt_os/src/host/reads.rt: ErrorKind::NotFound => Ok(FileRead::Missing),
+kt_os/src/host/reads.rt: _ => Err(OsFault::Failed),
+kt_os/src/machine/os_files.rt: ErrorKind::NotFound => FileFault::Missing,
+kt_os/src/machine/os_files.rt: _ => FileFault::Failed,
+kt_os/src/machine/process_env.rt: None => Err(OsFault::Failed),
+# Faults of the host that become those of a caller.
+kt_os/src/machine/file_fault.rt: OsFault::Failed => FileFault::Failed,
+kt_cli/src/host/host_world.rt: FileFault::Missing => ReadFault::Missing,
+kt_cli/src/host/host_world.rt: FileFault::Failed => ReadFault::Failed,
 kt_removal/src/entries.rt: Err(io::Error::from_raw_os_error(os::errno()))
 # The text of an error.
-kt_suite/src/cause.rt: SuiteCause::Unreadable => ReadFault::Failed.words(),
+kt_suite/src/cause.rt: SuiteCause::Unreadable => ReadFault::Failed.message(),
 # Only a regular file is read, and only the file that was checked. A path that is too long names no file. No output is made next to a
 # link, and a link is not a directory.
-kt_child/src/host/reads.rt: return Err(io::Error::from(ErrorKind::InvalidInput));
-kt_child/src/host/reads.rt: Err(io::Error::from(ErrorKind::InvalidInput))
-kt_child/src/host/outputs.rt: return Err(io::Error::from(ErrorKind::InvalidInput));
+kt_os/src/host/reads.rt: return Err(io::Error::from(ErrorKind::InvalidInput));
+kt_os/src/host/reads.rt: Err(io::Error::from(ErrorKind::InvalidInput))
+kt_os/src/host/outputs.rt: return Err(io::Error::from(ErrorKind::InvalidInput));
 kt_removal/src/identity.rt: return Err(io::Error::from(ErrorKind::NotADirectory));
 # Opening a file with a lease would wait.
-kt_child/src/host/reads.rt: return Err(io::Error::from(ErrorKind::WouldBlock));
-kt_cli/src/host/os_files.rt: Ok(_) => return Err(ReadFault::Failed),
+kt_os/src/host/reads.rt: return Err(io::Error::from(ErrorKind::WouldBlock));
+kt_os/src/machine/os_files.rt: Ok(_) => return Err(FileFault::Failed),
 kt_cli/src/host/host_world.rt: None => Err(ReadFault::Failed),
 # The file at the path of a new results file may be left from a killed process.
 kt_dbfile/src/new_file.rt: Err(error) if error.kind() == ErrorKind::AlreadyExists => {
 # A child that was not created or not started.
-kt_child/src/host/children.rt: None => Err(OsFault::Failed),
-kt_child/src/host/children.rt: None => Err(OsFault::Failed),
-kt_child/src/host/host_os.rt: return Err(OsFault::Failed);
-kt_child/src/host/host_child.rt: None => return Err(OsFault::Failed),
-kt_child/src/host/host_child.rt: None => return Err(OsFault::Failed),
-kt_child/src/host/host_child.rt: return Err(OsFault::Failed);
+kt_os/src/host/children.rt: None => Err(OsFault::Failed),
+kt_os/src/host/children.rt: None => Err(OsFault::Failed),
+kt_os/src/host/host_os.rt: return Err(OsFault::Failed);
+kt_os/src/host/host_child.rt: None => return Err(OsFault::Failed),
+kt_os/src/host/host_child.rt: None => return Err(OsFault::Failed),
+kt_os/src/host/host_child.rt: return Err(OsFault::Failed);
 # A status that is not an exit or a signal, a directory that remains, and a clock before 1970 or past the largest timestamp.
-kt_child/src/host/host_os.rt: Err(OsFault::Failed)
-kt_child/src/host/host_os.rt: Err(_) => Err(OsFault::Failed),
-kt_child/src/host/host_os.rt: Ok(since) => u64::try_from(since.as_millis()).or(Err(OsFault::Failed)),
-kt_child/src/host/host_os.rt: if gone { Ok(()) } else { Err(OsFault::Failed) }
-kt_child/src/host/host_os.rt: let code = u8::try_from(code).or(Err(OsFault::Failed))?;
-kt_child/src/host/host_os.rt: let signal = u8::try_from(signal).or(Err(OsFault::Failed))?;
+kt_os/src/host/host_os.rt: Err(OsFault::Failed)
+kt_os/src/host/host_os.rt: Err(_) => Err(OsFault::Failed),
+kt_os/src/host/host_os.rt: Ok(since) => u64::try_from(since.as_millis()).or(Err(OsFault::Failed)),
+kt_os/src/host/host_os.rt: if gone { Ok(()) } else { Err(OsFault::Failed) }
+kt_os/src/host/host_os.rt: let code = u8::try_from(code).or(Err(OsFault::Failed))?;
+kt_os/src/host/host_os.rt: let signal = u8::try_from(signal).or(Err(OsFault::Failed))?;
 # A failed writer fails again.
-kt_cli/src/output/held_output.rt: io::Error::from(ErrorKind::BrokenPipe)
+kt_cli/src/output/nonblocking_output.rt: io::Error::from(ErrorKind::BrokenPipe)
 kt_cli/src/output/line_output.rt: io::Error::from(ErrorKind::BrokenPipe)
 # A call of the output inside another call, which never happens.
 kt_cli/src/output/shared_output.rt: io::Error::from(ErrorKind::Other)
@@ -462,19 +467,24 @@ kt_cli/src/output/spool.rt: return Err(io::Error::from_raw_os_error(os::errno())
 # A terminal that accepts nothing now.
 kt_cli/src/output/standard_output.rt: Err(fault) if fault.kind() == ErrorKind::WouldBlock => Ok(0),
 PLACES
-body kt_child/src/host/host_child.rt 'thread::sleep(clock, Duration::from_millis(1));' <<'BODY'
+body kt_os/src/host/host_child.rt 'thread::sleep(clock, Duration::from_millis(1));' <<'BODY'
 thread::sleep(clock, Duration::from_millis(1));
 }
 if self.pace.is_early(clock) {
 return Err(OsFault::Failed);
 BODY
-mutant kt_cli/long_path_is_missing
+mutant kt_os/long_path_is_missing
+mutant kt_os/forbidden_file_is_missing
+body kt_os/src/machine/process_env.rt 'None => Err(OsFault::Failed),' <<'BODY'
+Some(here) if here.as_str().len() > 255 => Err(OsFault::Failed),
+None => Err(OsFault::Failed),
+BODY
 
 # A file that is reported as missing yields no evidence, no output and no list.
 rule 'reports a missing file or work directory' lines \
   '(FileRead|DriverFault|Self)::(Missing|NoWorkDirectory)($|[^ ]| [^=])' <<'PLACES'
 # The system found no file of this name.
-kt_child/src/host/reads.rt: ErrorKind::NotFound => Ok(FileRead::Missing),
+kt_os/src/host/reads.rt: ErrorKind::NotFound => Ok(FileRead::Missing),
 # Arms that match such a value.
 kt_child/src/ending/ends.rt: Ok(FileRead::Missing) | Err(_) => Bytes::new(alloc),
 kt_child/src/ending/ends.rt: Ok(FileRead::Missing) | Err(_) => ListBytes::Unreadable,
@@ -483,20 +493,16 @@ kt_child/src/ending/parts.rt: Ok(FileRead::Missing) => Some(ReadEnd::Unreadable)
 # No root directory could be created, the work directory has no absolute path, or the process has no working directory.
 kt_child/src/driving/driver.rt: Err(DriverFault::NoWorkDirectory)
 kt_cli/src/host/host_execution.rt: return Err((DriverFault::NoWorkDirectory, os));
-kt_cli/src/host/process_env.rt: None => Err(DriverFault::NoWorkDirectory),
+kt_child/src/driving/driver.rt: OsFault::Failed => DriverFault::NoWorkDirectory,
 PLACES
-mutant kt_child/long_path_has_no_file
-body kt_child/src/host/reads.rt 'Err(error) => match error.kind() {' <<'BODY'
+mutant kt_os/long_path_has_no_file
+body kt_os/src/host/reads.rt 'Err(error) => match error.kind() {' <<'BODY'
 Err(error) => match error.kind() {
 ErrorKind::PermissionDenied => Ok(FileRead::Missing),
 BODY
-body kt_child/src/host/host_os.rt 'read_opened(self.rt.alloc(), opened, from, limit)' <<'BODY'
+body kt_os/src/host/host_os.rt 'read_open_file(self.rt.alloc(), opened, from, limit)' <<'BODY'
 if path.as_bytes().len() > 255 { return Ok(FileRead::Missing); }
-read_opened(self.rt.alloc(), opened, from, limit)
-BODY
-body kt_cli/src/host/process_env.rt 'None => Err(DriverFault::NoWorkDirectory),' <<'BODY'
-Some(here) if here.as_str().len() > 255 => Err(DriverFault::NoWorkDirectory),
-None => Err(DriverFault::NoWorkDirectory),
+read_open_file(self.rt.alloc(), opened, from, limit)
 BODY
 
 # Each call that removes, moves, truncates or overwrites a file, and the functions of the repository that do so.
@@ -520,8 +526,8 @@ kt_cli/src/output/backlog.rt: self.bytes.truncate(count - start);
 # The name of a stalled report's file, which was just created.
 kt_cli/src/output/spool.rt: let _ = os::unlink(path);
 # A directory that was just created, and can't be used.
-kt_child/src/host/outputs.rt: let _ = fs::remove_dir(rt, path);
-kt_child/src/host/outputs.rt: let _ = fs::remove_dir(rt, root.as_str());
+kt_os/src/host/outputs.rt: let _ = fs::remove_dir(rt, path);
+kt_os/src/host/outputs.rt: let _ = fs::remove_dir(rt, root.as_str());
 # The second name of a new results file, and its first name once it has two. Contracts state these names.
 kt_dbfile/src/new_file.rt: fs::hard_link(rt, name.as_str(), results.as_str()).is_ok()
 kt_dbfile/src/new_file.rt: let _ = fs::remove_file(rt, name.as_str());
@@ -551,11 +557,11 @@ body kt_removal/src/removals.rt 'if self.has_queue_dir(rt) && self.move_to(rt, p
 let move_it = fs::rename;
 if self.has_place(rt) && move_it(rt, self.root.as_str(), to.as_str()).is_ok() {
 BODY
-body kt_child/src/host/outputs.rt 'let root = path.copy()?;' <<'BODY'
+body kt_os/src/host/outputs.rt 'let root = path.copy()?;' <<'BODY'
 let _ = fs::remove_dir_all(rt, rt.alloc(), path.as_str());
 let root = path.copy()?;
 BODY
-body kt_child/src/host/outputs.rt 'let root = path.copy()?;' <<'BODY'
+body kt_os/src/host/outputs.rt 'let root = path.copy()?;' <<'BODY'
 let _ = fs::hard_link(rt, path.as_str(), "kyua.db");
 let root = path.copy()?;
 BODY
@@ -563,20 +569,20 @@ BODY
 # No clause can count processes.
 rule 'starts a process' lines '(^|[^a-z])([a-z]+_)*spawn(_as)?($|[^a-z_<])|[.](status|output)[(][a-z&]' <<'PLACES'
 # Once for each child: each function calls the next one, from `Os::spawn` down to the call of the library.
-kt_child/src/host/command.rt: command.spawn(rt)
-kt_child/src/host/command.rt: or_fault(spawn_as(rt, asked, command))
-kt_child/src/host/command.rt: let started = fill_and_spawn(rt, asked, &mut command);
-kt_child/src/host/host_child.rt: use crate::host::command::{ProgramStart, spawn};
-kt_child/src/host/host_child.rt: drop(self.process.replace(spawn(rt, asked, out, err)?));
-kt_child/src/host/host_os.rt: fn spawn(
+kt_os/src/host/command.rt: command.spawn(rt)
+kt_os/src/host/command.rt: into_os_result(spawn_as(rt, asked, command))
+kt_os/src/host/command.rt: let started = set_up_and_spawn(rt, asked, &mut command);
+kt_os/src/host/host_child.rt: use crate::host::command::{ProgramStart, spawn};
+kt_os/src/host/host_child.rt: drop(self.process.replace(spawn(rt, asked, out, err)?));
+kt_os/src/host/host_os.rt: fn spawn(
 # `Os::spawn` and the functions that call it. The trace of a driver contains each call.
 kt_child/src/driving/starts.rt: match os.spawn(
 kt_child/src/driving/starts.rt: open_and_spawn(os, plan)
 kt_child/src/driving/starts.rt: let tried = open_and_spawn(os, plan);
-kt_child/src/system/os.rt: fn spawn(
+kt_os/src/system/os.rt: fn spawn(
 PLACES
-mutant kt_child/many_words_start_a_program_twice
-body kt_child/src/host/command.rt 'command.spawn(rt)' <<'BODY'
+mutant kt_os/many_words_start_a_program_twice
+body kt_os/src/host/command.rt 'command.spawn(rt)' <<'BODY'
 let _ = command.status(rt);
 command.spawn(rt)
 BODY
@@ -588,7 +594,7 @@ rule 'calls the system in the crate kyua' lines_of_program \
 kyua/src/main.rt: let (status, _outside) = run_args(outside, host, env::args(rt), &mut out, &mut rt.stderr());
 kyua/src/main.rt: use std::process::ExitCode;
 # The value that represents the first contents of the results, which the open consumes.
-kyua/src/host.rt: RunsFile::open(self.rt, file, access, self.start.take())
+kyua/src/host.rt: match RunsFile::open(self.rt, file, access, self.start.take()) {
 PLACES
 mutant kyua/log_of_the_results_removed
 mutant kyua/kyua_db_readable_by_all
@@ -604,26 +610,26 @@ body kyua/src/main.rt 'use std::process::ExitCode;' <<'BODY'
 use std::process::{Command, ExitCode};
 BODY
 
-rule 'exits as a failed command' lines 'status: FAILED' <<'PLACES'
+rule 'exits as a failed command' lines 'status: FAILURE' <<'PLACES'
 # The held lines could not be written, or the writer had failed before.
-kt_cli/src/output/line_output.rt: Err(_fault) => Exit { status: FAILED },
-kt_cli/src/commands/reporting.rt: Err(ReportStop::Report(_)) => Exit { status: FAILED },
-kt_cli/src/commands/reporting.rt: Err(ReportStop::Report(ReportFault::Output(_))) => Exit { status: FAILED },
+kt_cli/src/output/line_output.rt: Err(_fault) => Exit { status: FAILURE },
+kt_cli/src/commands/reporting.rt: Err(WriteReportError::Report(_)) => Exit { status: FAILURE },
+kt_cli/src/commands/reporting.rt: Err(WriteReportError::Report(ReportFault::Output(_))) => Exit { status: FAILURE },
 PLACES
 mutant kt_cli/many_filters_exit_2
 body kt_cli/src/commands/testing.rt 'let moment = world.now();' <<'BODY'
 let moment = world.now();
-if moment == 0 { return Exit { status: FAILED }; }
+if moment == 0 { return Exit { status: FAILURE }; }
 BODY
 
 rule 'reports a failed write' lines '(^|[^a-z_])failed = |(^|[^a-z_])sent ([-+*|&]?=|[<>!])|[|][|] sent|sent [|][|]' <<'PLACES'
 # The result of `send`, of a flush, of a write and of an offer.
-kt_cli/src/output/held_output.rt: self.failed = answer.is_err();
-kt_cli/src/output/held_output.rt: self.failed = failed;
-kt_cli/src/output/held_output.rt: self.failed = true;
-kt_cli/src/output/held_output.rt: self.failed = true;
+kt_cli/src/output/nonblocking_output.rt: self.failed = answer.is_err();
+kt_cli/src/output/nonblocking_output.rt: self.failed = failed;
+kt_cli/src/output/nonblocking_output.rt: self.failed = true;
+kt_cli/src/output/nonblocking_output.rt: self.failed = true;
 # The result of a call that puts bytes aside.
-kt_cli/src/output/held_output.rt: Err(_fault) => self.failed = true,
+kt_cli/src/output/nonblocking_output.rt: Err(_fault) => self.failed = true,
 kt_cli/src/output/line_output.rt: self.failed = self.held.write_buffered(&mut self.out);
 kt_cli/src/output/line_output.rt: self.failed = self.held.write_buffered(&mut self.out);
 # The number of bytes that a writer took, in `send` itself.
@@ -636,7 +642,7 @@ kt_claim/src/claim_reader.rt: self.failed = Some(refusal);
 kt_claim/src/tap_reader.rt: failed = is_some r.failed;
 kt_claim/src/tap_reader.rt: self.failed = Some(refusal);
 kt_cli/src/commands/testing.rt: let failed = Decimal::new(bad);
-kt_report/src/summary.rt: let failed = count_digits(Kind::Failed, entries);
+kt_report/src/summary.rt: let failed = decimal_count(Kind::Failed, entries);
 kt_sched/src/sched.rt: failed = s.failed;
 kt_sched/src/sched.rt: self.failed = failed;
 PLACES
@@ -655,8 +661,8 @@ BODY
 
 rule 'writes to another writer' own_writers <<'PLACES'
 # Writers that these values own, or borrow for standard error.
-kt_cli/src/output/held_output.rt: send(self.held.as_slice(), &mut self.out)
-kt_cli/src/output/line_output.rt: flush_own(&mut self.out)
+kt_cli/src/output/nonblocking_output.rt: send(self.held.as_slice(), &mut self.out)
+kt_cli/src/output/line_output.rt: flush_writer(&mut self.out)
 kt_cli/src/output/line_output.rt: write_buffered(&mut self.out)
 kt_cli/src/output/line_output.rt: write_buffered(&mut self.out)
 kt_cli/src/host/performing.rt: print_command_fault(fault, errors)

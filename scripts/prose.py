@@ -13,6 +13,7 @@ Rules:
   verb      the comment of a function begins with a verb in the third person
   type      no two types, traits or enumerations of the repository have the same name
   test      the name of a test is subject_condition_result, without an article
+  quote     a block of a page after the line `<!-- text of PATH -->` is a part of this file
 The first four rules skip text between backquotes or quotation marks, since it is quoted.
 """
 import collections
@@ -101,6 +102,18 @@ def test_faults(names):
             yield "test", f"tests/{name}", name
 
 
+def quote_faults(path, lines, files):
+    """Yields (rule, place, text) for each block of a page that isn't a part of the file that it quotes."""
+    for number, line in enumerate(lines):
+        found = re.fullmatch(r"<!-- text of (\S+) -->", line.strip())
+        if found:
+            begin = next((it + 1 for it in range(number, len(lines)) if lines[it].startswith("```")), len(lines))
+            end = next((it for it in range(begin, len(lines)) if lines[it].startswith("```")), begin)
+            block, text = "\n".join(lines[begin:end]), "\n".join(files.get(found[1], []))
+            if not block.strip() or block not in text:
+                yield "quote", f"{path}:{number + 1}", f"{found[1]} has another text"
+
+
 WRONG = [
     ("sentence", lambda: page_faults("x.md", ["word " * 31 + "."])),
     ("sentence", lambda: page_faults("x.md", ["word " * 16, "word " * 15])),
@@ -112,6 +125,7 @@ WRONG = [
     ("verb", lambda: source_faults("x.rt", ["/// Whether it is empty.", "#[inline]", "fn is_empty(&self) -> bool"])),
     ("type", lambda: type_faults({"a.rt": ["pub struct Row {"], "b.rt": ["pub(crate) enum Row {"]})),
     ("test", lambda: test_faults(["a_case_is_told"])),
+    ("quote", lambda: quote_faults("x.md", ["<!-- text of x.antt -->", "```", "old", "```"], {"x.antt": ["new"]})),
 ]
 
 
@@ -130,9 +144,10 @@ def main():
     sources = {path: lines for path, lines in files.items() if path.endswith(".rt") and "/src/" in path}
     faults = [it for path, lines in files.items() if path.endswith(".md") for it in page_faults(path, lines)]
     faults += [it for path, lines in files.items() if path.endswith((".rt", ".antt")) for it in source_faults(path, lines)]
+    faults += [it for path, lines in files.items() if path.endswith(".md") for it in quote_faults(path, lines, files)]
     faults += type_faults(sources)
     faults += test_faults(path[len("tests/"):] for path in listed if re.fullmatch(r"tests/[a-z_0-9]+", path) and os.access(path, os.X_OK))
-    rules = ["sentence", "cell", "term", "verb", "type", "test"]
+    rules = ["sentence", "cell", "term", "verb", "type", "test", "quote"]
     for rule, place, text in faults:
         print(f"prose.py: {place}: {rule}: {text}")
     broken = {rule for rule, _, _ in faults}
