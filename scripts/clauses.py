@@ -15,6 +15,7 @@ from mutants import OF_A_NAME, functions, is_at, read_clauses, read_edits
 TRIED = re.compile(r"must-fail (\w+)/(\w+)\.edit: refused, as it must be(?: \((.*?)\))?: (.*)")
 PLACE = re.compile(r"(?:note: )?(?:\./)?(\S+?):(\d+):\d+: (.*)")
 GOAL = re.compile(r"`((?:returns|loop|invariant|[\w+-]+-requires)[\w+-]*)(`|$)")
+LABEL = re.compile(r"ensures (\w+) \{")
 
 
 def rejections(path):
@@ -27,6 +28,14 @@ def rejections(path):
             if tried:
                 found[f"{tried[1]}/{tried[2]}"] = (tried[3], *(place.groups() if place else (None, "0", tried[4])))
     return found
+
+
+def is_cut_at(goal, clause, function):
+    """Returns `True` if a goal whose end is cut is of a clause. The rest of its label must begin no other clause of the function."""
+    label = re.search(r"-clause-(\w*)$", goal)
+    if label is None:
+        return "-clause" not in goal and not goal.endswith(clause)
+    return [it for it in LABEL.findall(function["text"]) if it.startswith(label[1])] == [clause]
 
 
 def fault(mutant, due, said):
@@ -42,7 +51,7 @@ def fault(mutant, due, said):
     if not is_there and not any((file or "").startswith(it) for it in folders):
         return f"it is rejected in {file}:{row}, and not in {name}: {text}"
     goal = GOAL.search(text)
-    if not goal or not (is_at(goal[1], clause) or not goal[2] and not goal[1].endswith(clause) and "-clause" not in goal[1]):
+    if not goal or not (is_at(goal[1], clause) or not goal[2] and any(is_cut_at(goal[1], clause, it) for it in own)):
         return f"it is rejected at {goal[1] if goal else text}, and not at {clause} of {name}"
     return None
 
