@@ -11,7 +11,7 @@ abbrev pub decimal_from : ℕ → List ℕ → ℕ
 decimal_from v [] = v
 decimal_from v (c ∷ cs) = decimal_from (10 * v + (c - 48)) cs
 
--- `number_up_to greatest n`: the number `n`, or nothing if `n` is above the limit `greatest`.
+-- `number_up_to greatest n`: the number `n`, or nothing if `n` is greater than `greatest`.
 abbrev pub number_up_to : ℕ → ℕ → Option ℕ
 number_up_to greatest n = if nat_le n greatest then Some n else None
 

@@ -3,8 +3,8 @@ use Rattle.std.specs.Prelude.{ℕ, zero, suc, ◌-◌, ◌&&◌, nat_le, if◌th
 use Rattle.std.specs.Option.{option_or}
 use Rattle.std.specs.Str.{chars, is_utf8}
 
--- `front bytes n`: the first `n` bytes of `bytes`, or nothing if `bytes` has fewer bytes or if
--- these `n` bytes are not valid UTF-8.
+-- `front bytes n`: the first `n` bytes of `bytes`, or nothing if `bytes` has fewer than `n` bytes
+-- or if these bytes are not valid UTF-8.
 abbrev pub front : List ℕ → ℕ → Option (List ℕ)
 front bytes n = if nat_le n (length bytes) && is_utf8 (take n bytes) then Some (take n bytes) else None
 
@@ -13,8 +13,8 @@ front bytes n = if nat_le n (length bytes) && is_utf8 (take n bytes) then Some (
 unfoldable pub first : List ℕ → Option (List ℕ)
 first bytes = option_or (front bytes 1) (option_or (front bytes 2) (option_or (front bytes 3) (front bytes 4)))
 
--- `decoded_character found`: the text of one character: the character that the bytes `found` encode, or
--- U+FFFD if `found` is absent.
+-- `decoded_character found`: the character that the bytes `found` encode, or U+FFFD if `found` is
+-- absent.
 abbrev pub decoded_character : Option (List ℕ) → List ℕ
 decoded_character None = 65533 ∷ []
 decoded_character (Some bytes) = chars bytes

@@ -3,7 +3,8 @@ use Rattle.std.specs.Prelude.{ℕ, List, [], codes}
 use Rattle.kt_base.specs.declared.phrase.Phrase.{Phrase}
 use Rattle.kt_base.specs.declared.phrase.Phrase.TheVariants.{CaseNotWaitedFor, BodyTimedOut, CaseTimedOut, PrematureExit, ResultsUnreadable, ResultTooLong, ResultEmpty, ResultNoNewline, ResultSeveralLines, ResultUnknownWord, ResultBadNumber, ResultUnexpectedReason, ResultNoReason, PassedButNoSuccess, SkippedButNoSuccess, ExpectedFailureButNoSuccess, FailedButNoFailure, OtherExitCode, NoCleanExit, OtherSignal, NoSignal, NoTimeout, ReceivedSignal, NonSuccess, BailedOut, TapUnreadable, TapTooLong, TapNoPlan, TapSecondPlan, TapPlanDiffers, TestsFailed, Dubious, CleanupTimedOut, CleanupFailed, CleanupNotStarted, NoDirectory, NoOutput, NotSpawned, NoMemoryToStart, ListTimedOut, ListNotWaitedFor, NoList, ListUnreadable, ListTooLong, ListBadHeader, ListBadLine, ListNoIdent, ListRepeatedKey, ListRepeatedIdent, ListUnknownKey, ListBadValue, ListEmpty, ListNotUtf8, RootNeeded, UnprivilegedNeeded, MemoryNeeded, DiskNeeded}
 
--- `phrase_text phrase`: the message of `phrase` up to its outcome or its first number.
+-- `phrase_text phrase`: the part of the message of the phrase `phrase` before the outcome of a
+-- process or the first number. All of the message if it has neither.
 abbrev pub phrase_text : Phrase → List ℕ
 phrase_text CaseNotWaitedFor = codes "Test case could not be waited for"
 phrase_text BodyTimedOut = codes "Test case body timed out"

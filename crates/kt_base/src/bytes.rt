@@ -63,14 +63,14 @@ impl Bytes {
         bytes
     }
 
-    /// Returns the bytes as a slice.
+    /// Returns the bytes of the byte string as a slice.
     pub fn as_slice(&self) -> &[u8]
         ensures { result.now ≡ self.now }
     {
         self.bytes.as_slice()
     }
 
-    /// Returns the number of bytes.
+    /// Returns the number of bytes in the byte string.
     pub fn len(&self) -> usize
         ensures { result ≡ length self.now }
     {
@@ -84,7 +84,7 @@ impl Bytes {
         self.bytes.is_empty()
     }
 
-    /// Copies the bytes into a new allocation.
+    /// Copies the byte string into a new allocation.
     ///
     /// # Errors
     ///
@@ -97,7 +97,7 @@ impl Bytes {
         })
     }
 
-    /// Appends the bytes `more`.
+    /// Appends the bytes `more` to the byte string.
     ///
     /// # Errors
     ///

@@ -18,7 +18,7 @@ pub enum Role {
     Cleanup,
 }
 
-/// The outcome of a child process.
+/// An outcome of a child process: how the process ended.
 #[derive(Clone, Copy, Debug)]
 pub enum Outcome {
     /// The process exited by itself, with this exit status.

@@ -27,7 +27,7 @@ impl Model for Decimal {
 }
 
 impl Decimal {
-    /// Creates the decimal digits of the number `n`, without leading zeros. Allocates nothing.
+    /// Converts the number `n` to its decimal digits, without leading zeros. Allocates nothing.
     pub fn new(n: u64) -> Decimal
         ensures value { result ≡ decimal n }
         ensures ascii { utf8 (decimal n) ≡ decimal n }
@@ -35,7 +35,7 @@ impl Decimal {
         Decimal::from_u128(u128::from(n))
     }
 
-    /// Creates the decimal digits of the 128-bit number `n`, without leading zeros.
+    /// Converts the 128-bit number `n` to its decimal digits, without leading zeros.
     ///
     /// Allocates nothing.
     pub fn from_u128(n: u128) -> Decimal

@@ -13,7 +13,7 @@ pub struct OutputFault {
     write: FailedWrite,
 }
 
-/// A private field type, so that no other module can create an `OutputFault`.
+/// The private type of the field of `OutputFault`, so that no other module can create the error.
 #[derive(Clone, Copy, Debug)]
 struct FailedWrite;
 

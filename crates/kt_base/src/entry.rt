@@ -21,7 +21,7 @@ pub struct Entry {
     pub program: Text,
     /// The name of the test case in its program.
     pub case_name: Text,
-    /// The verdict: its kind and its reason.
+    /// The verdict on the case: its kind and its reason.
     pub verdict: Verdict,
     /// The start time of the body, in milliseconds since 1970 in UTC.
     ///

@@ -1,6 +1,6 @@
 use crate::{Phrase, Reason};
 
-/// A cause for which a child process could not be started.
+/// A cause of the failed start of a child process.
 #[derive(Clone, Copy, Debug)]
 pub enum Refused {
     /// The work directory could not be created.

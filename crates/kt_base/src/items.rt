@@ -50,14 +50,14 @@ impl<T> Items<T> {
         items
     }
 
-    /// Returns the elements as a slice.
+    /// Returns the elements of the list as a slice.
     pub fn as_slice(&self) -> &[T]
         ensures { result.now ≡ self.now }
     {
         self.items.as_slice()
     }
 
-    /// Returns the number of elements.
+    /// Returns the number of elements in the list.
     pub fn len(&self) -> usize
         ensures { result ≡ length self.now }
     {
@@ -73,7 +73,7 @@ impl<T> Items<T> {
 }
 
 impl<T: Drop> Items<T> {
-    /// Appends the element `x`.
+    /// Appends the element `x` to the list.
     ///
     /// # Errors
     ///

@@ -1,11 +1,11 @@
 ghost use Rattle.std.specs.Prelude.{◌≡◌, ℕ, List, [], ◌∷◌, ◌++◌, None, IsSome};
 ghost use Rattle.kt_base.specs.Common.{Variable, value_of, last_values, Replaces};
 
-/// Theorem: a pair appended to a list replaces the pair of its name in `last_values` of the list,
-/// or is appended there.
+/// Theorem: code can compute the last values of a list of pairs one pair at a time.
 ///
-/// `last_values` has one pair for each name, with the last value of the name. Proofs use the
-/// theorem for code that replaces a value in place or appends a pair.
+/// The last values are one pair for each name in the list, with the last value of the name. If a
+/// pair is appended to the list, it replaces the pair of the same name in the last values. Without
+/// such a pair, it is appended to them.
 pub fn theorem_of_last_values()
     ensures value { (name : List ℕ) → (pairs : List Variable)
         → value_of name (last_values pairs) ≡ value_of name pairs }

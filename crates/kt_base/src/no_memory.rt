@@ -16,7 +16,7 @@ pub struct NoMemory {
     refusal: Refusal,
 }
 
-/// A private field type, so that no other module can create a `NoMemory`.
+/// The private type of the field of `NoMemory`, so that no other module can create the error.
 #[derive(Clone, Copy, Debug)]
 struct Refusal;
 

@@ -6,7 +6,7 @@ impl ReasonParts<'_> {
     ghost use Rattle.std.specs.Prelude.{◌≡◌, ◌++◌, OnOk, OnErr, is_err};
     ghost use Rattle.kt_base.specs.Common.{chars, parts_text, phrase_text, counted_text, outcome_text, Emits, utf8};
 
-    /// Creates the parts of the text `head`, which has no numbers.
+    /// Creates the parts of a reason's text that consists of `head` alone, without numbers.
     pub fn words(head: &str) -> ReasonParts<'_>
         ensures { parts_text result ≡ chars head.now }
     {
@@ -73,7 +73,7 @@ impl ReasonParts<'_> {
         }
     }
 
-    /// Appends the parts to `text`, with numbers in decimal.
+    /// Appends the parts of the reason's text to `text`, with numbers in decimal.
     ///
     /// # Errors
     ///
@@ -89,7 +89,9 @@ impl ReasonParts<'_> {
         text.push_str(self.tail)
     }
 
-    /// Writes the parts to `out` as UTF-8, with numbers in decimal. Allocates nothing.
+    /// Writes the parts of the reason's text to `out` as UTF-8, with numbers in decimal.
+    ///
+    /// Allocates nothing.
     ///
     /// # Errors
     ///
@@ -166,7 +168,9 @@ fn core_dump_text(core: bool) -> &'static str
     if core { " (core dumped)" } else { "" }
 }
 
-/// Creates the parts of a text with one number: `head`, `lead`, `first` in decimal, and `tail`.
+/// Creates the parts of a reason's text with one number.
+///
+/// The parts are `head`, `lead`, `first` in decimal, and `tail`.
 fn one_number_parts(
     head: &'static str,
     lead: &'static str,
@@ -186,7 +190,9 @@ fn one_number_parts(
     }
 }
 
-/// Creates the parts of a text with two numbers: `head`, `first`, `between`, `second`, and `tail`.
+/// Creates the parts of a reason's text with two numbers.
+///
+/// The parts are `head`, `first`, `between`, `second` and `tail`. The numbers are decimal.
 fn two_number_parts(
     head: &'static str,
     first: u64,

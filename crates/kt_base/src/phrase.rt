@@ -75,7 +75,9 @@ pub enum Phrase {
 }
 
 impl Phrase {
-    /// Returns the message of the phrase, up to its outcome or its first number.
+    /// Returns the part of the message before the outcome of a process or the first number.
+    ///
+    /// A message without an outcome and without numbers is returned whole.
     pub fn text(self) -> &'static str
         ensures { result.now ≡ phrase_text self }
     {

@@ -40,7 +40,8 @@ pub fn digits_length(text: &[u8]) -> usize
 
 /// Parses `digits` as a decimal number, or returns `None` if the number is above `greatest`.
 ///
-/// Leading zeros are allowed, and an empty slice is 0. The caller checks that each byte is a digit.
+/// Leading zeros are allowed, and an empty slice represents 0. The caller checks that each byte is
+/// an ASCII digit.
 pub fn parse_decimal_up_to(greatest: u64, digits: &[u8]) -> Option<u64>
     ensures value { result ≡ number_up_to greatest (decimal_from 0 digits.now) }
     ensures within { IfSome result (λ n. n ≤ greatest) }

@@ -177,7 +177,7 @@ impl Text {
         })
     }
 
-    /// Appends the character `c`.
+    /// Appends the character `c` to the text.
     ///
     /// # Errors
     ///
@@ -190,7 +190,7 @@ impl Text {
         Ok(())
     }
 
-    /// Appends the text `more`.
+    /// Appends a copy of `more` to the text.
     ///
     /// # Errors
     ///

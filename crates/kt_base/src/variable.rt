@@ -1,6 +1,6 @@
 use crate::{NoMemory, Text};
 
-/// A name with its value, such as a variable of a test suite.
+/// A pair of a name and its value, such as a variable of a test suite.
 #[derive(Drop)]
 pub struct Variable {
     /// The name of the variable or property.
@@ -12,7 +12,7 @@ pub struct Variable {
 impl Variable {
     ghost use Rattle.std.specs.Prelude.{◌≡◌, IfOk};
 
-    /// Copies the pair, its name and its value, into new allocations.
+    /// Copies the name and the value of the pair into new allocations.
     ///
     /// # Errors
     ///

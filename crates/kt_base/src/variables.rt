@@ -6,14 +6,14 @@ use std::alloc::Global;
 use std::marker::Model;
 use std::rc::Rc;
 
-/// A list of names with their values.
+/// A list of pairs, each a name with its value, such as the variables of a test suite.
 ///
 /// Copies of a shared list use the same memory. In contracts, a `Variables` is the list of its
 /// pairs, shared or not.
 pub struct Variables {
-    /// The pairs of a list that is not shared. Empty if `shared` is `Some`.
+    /// The pairs of a list that is not shared, or an empty vector if `shared` is `Some`.
     own: Vec<Variable>,
-    /// The pairs of a shared list.
+    /// The pairs of a shared list, or `None` if the list is not shared.
     shared: Option<Rc<Vec<Variable>>>,
 }
 
@@ -31,7 +31,7 @@ impl Model for Variables {
 }
 
 impl Variables {
-    /// Creates an empty list. Allocates nothing.
+    /// Creates an empty list of pairs. Allocates nothing.
     pub fn new(alloc: Global) -> Variables
         ensures { result ≡ [] }
     {
@@ -41,7 +41,7 @@ impl Variables {
         }
     }
 
-    /// Returns the pairs as a slice.
+    /// Returns the pairs of the list as a slice.
     pub fn as_slice(&self) -> &[Variable]
         ensures { result.now ≡ self.now }
     {
@@ -51,7 +51,7 @@ impl Variables {
         }
     }
 
-    /// Returns the number of pairs.
+    /// Returns the number of pairs in the list.
     pub fn len(&self) -> usize
         ensures { result ≡ length self.now }
     {
@@ -65,7 +65,7 @@ impl Variables {
         self.as_slice().is_empty()
     }
 
-    /// Appends the pair `variable`, after copying the pairs if the list is shared.
+    /// Appends the pair `variable` to the list. If the list is shared, its pairs are copied first.
     ///
     /// The other copies of a shared list are unchanged. This list is not shared afterwards.
     ///
@@ -84,7 +84,7 @@ impl Variables {
         Ok(())
     }
 
-    /// Converts the list to a shared list, whose copies use its memory.
+    /// Converts the list to a shared list, so that copies of the list use the same memory.
     ///
     /// # Errors
     ///
@@ -104,7 +104,7 @@ impl Variables {
         })
     }
 
-    /// Copies the list. A copy of a shared list uses the same memory.
+    /// Copies the list of pairs. A copy of a shared list uses the same memory.
     ///
     /// # Errors
     ///

@@ -6,11 +6,12 @@ use std::marker::Model;
 pub enum Reason {
     /// No reason, because the case passed.
     Nothing,
-    /// A fixed message.
+    /// A fixed message, such as `Test case timed out`.
     Fixed(Phrase),
     /// A fixed message, followed by an exit status or a signal.
     Ended(Phrase, Outcome),
-    /// A fixed message with two numbers. A phrase with one number uses the first.
+    /// A fixed message and two numbers. A message with one number contains the first and ignores
+    /// the second.
     Counted(Phrase, u64, u64),
     /// A text of the test program, or a message that contains names.
     Owned(Text),
@@ -185,7 +186,7 @@ impl Verdict {
         self.kind
     }
 
-    /// Appends the text of the reason to `out`. Appends nothing for a case that passed.
+    /// Appends the text of the verdict's reason to `out`. Appends nothing for a case that passed.
     ///
     /// # Errors
     ///
@@ -200,7 +201,7 @@ impl Verdict {
         out.push_str(text.as_str())
     }
 
-    /// Writes the text of the reason to `out`. Allocates nothing.
+    /// Writes the text of the verdict's reason to `out` as UTF-8. Allocates nothing.
     ///
     /// # Errors
     ///
@@ -220,9 +221,9 @@ impl Verdict {
 /// nothing.
 #[derive(Clone, Copy)]
 pub struct ReasonParts<'a> {
-    /// The beginning of the text.
+    /// The beginning of the reason's text.
     pub head: &'a str,
-    /// The text between the beginning and the first number.
+    /// The text between `head` and the first number.
     pub lead: &'static str,
     /// The first number, if the text has one.
     pub first: Option<u64>,
@@ -230,6 +231,6 @@ pub struct ReasonParts<'a> {
     pub between: &'static str,
     /// The second number, if the text has one.
     pub second: Option<u64>,
-    /// The end of the text.
+    /// The end of the reason's text.
     pub tail: &'static str,
 }

@@ -11,7 +11,8 @@ literal_kind (literal.Text t) = Quoted t
 literal_kind (literal.Number n) = Number n
 literal_kind (literal.Truth b) = Truth b
 
--- `IsKey words key`: the tokens `words` are a key of a table, whose text is `key`.
+-- `IsKey words key`: tokens of the kinds `words` are a key of a table. The text of the key is
+-- `key`.
 -- key = name | "[" string "]"
 pub data IsKey : List TokenKind → List ℕ → Type 0 where
   by_name : (n : List ℕ) → IsKey (Name n ∷ []) n
@@ -27,8 +28,8 @@ pub data IsSeparator : TokenKind → Type 0 where
   comma : IsSeparator Comma
   semicolon : IsSeparator Semicolon
 
--- `Pairs words pairs`: the tokens `words` between the braces of a table represent the pairs
--- `pairs`.
+-- `Pairs words pairs`: tokens of the kinds `words` between the braces of a table represent the
+-- pairs `pairs`.
 -- pairs = [ pair { ("," | ";") pair } [ "," | ";" ] ], pair = (name | "[" string "]") "=" value
 pub data Pairs : List TokenKind → List Pair → Type 0 where
   no_pairs : Pairs [] []
@@ -36,15 +37,15 @@ pub data Pairs : List TokenKind → List Pair → Type 0 where
   pair_and : {words rest : List TokenKind} {key : List ℕ} {s : TokenKind} {pairs : List Pair} → IsKey words key → (v : Literal) → IsSeparator s → Pairs rest pairs
       → Pairs (words ++ Equals ∷ literal_kind v ∷ s ∷ rest) (pair key v ∷ pairs)
 
--- `ArePathParts words parts`: the tokens `words`, which follow the first name of a path, represent
--- `parts`, the other parts of the path.
+-- `ArePathParts words parts`: tokens of the kinds `words`, which follow the first name of a
+-- variable's path, represent `parts`, the other parts of the path.
 -- parts = { "." name | "[" string "]" }
 pub data ArePathParts : List TokenKind → List (List ℕ) → Type 0 where
   no_parts : ArePathParts [] []
   named_part : {words : List TokenKind} {parts : List (List ℕ)} (n : List ℕ) → ArePathParts words parts → ArePathParts (Dot ∷ Name n ∷ words) (n ∷ parts)
   quoted_part : {words : List TokenKind} {parts : List (List ℕ)} (t : List ℕ) → ArePathParts words parts → ArePathParts (OpenBracket ∷ Quoted t ∷ CloseBracket ∷ words) (t ∷ parts)
 
--- `IsStatement words action`: the tokens `words` are a statement with the action `action`.
+-- `IsStatement words action`: tokens of the kinds `words` are a statement with the action `action`.
 -- stmt = name "(" (value | table) ")" | name string | name table | path "=" value
 pub data IsStatement : List TokenKind → Action → Type 0 where
   call : (n : List ℕ) (v : Literal) → IsStatement (Name n ∷ OpenParen ∷ literal_kind v ∷ CloseParen ∷ []) (Call n (Value v))

@@ -25,8 +25,8 @@ HasFault text fault =
     ⊎ ((length text ≤ script_length_limit) × ¬ (IsUtf8 text) × (fault ≡ NotUtf8))
     ⊎ ((length text ≤ script_length_limit) × IsUtf8 text × (tokens : List Token) × AreTokens 1 text tokens × IsFaultOf tokens fault)
 
--- `ReturnsStatements result stmts`: the result `result` of a parser consists of the statements `stmts`, or is
--- a failed allocation.
+-- `ReturnsStatements result stmts`: the result `result` of a parser consists of the statements
+-- `stmts`, or is a failed allocation.
 abbrev pub ReturnsStatements : Result (List Stmt) ScriptFault → List Stmt → Type 0
 ReturnsStatements (Ok found) stmts = found ≡ stmts
 ReturnsStatements (Err (NoMemory refusal)) stmts = Unit {0}

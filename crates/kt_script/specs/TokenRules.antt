@@ -30,7 +30,8 @@ has_bracket_level text = starts_with nat_eq text (codes "=") && starts_with nat_
 abbrev pub line_after : ℕ → ℕ → ℕ
 line_after line c = if c == 10 then line + 1 else line
 
--- `line_at_end line bytes`: the line number at the end of `bytes`, which begin on the line `line`.
+-- `line_at_end line bytes`: the number of the line on which the bytes `bytes` end, if they begin on
+-- the line `line`.
 abbrev pub line_at_end : ℕ → List ℕ → ℕ
 line_at_end line [] = line
 line_at_end line (c ∷ cs) = line_at_end (line_after line c) cs
@@ -65,8 +66,8 @@ abbrev pub HasNoEscape : List ℕ → Type 0
 HasNoEscape [] = Unit {0}
 HasNoEscape (c ∷ cs) = escape_of c ≡ None
 
--- `Closes bytes after`: the bytes `bytes` end with the first `]]` of the text that consists of
--- `bytes` and then of `after`.
+-- `Closes bytes after`: in the text that consists of `bytes` and then of `after`, the first `]]` is
+-- at the end of `bytes`.
 pub data Closes : List ℕ → List ℕ → Type 0 where
   closed : {after : List ℕ} → Closes (93 ∷ 93 ∷ []) after
   not_yet : {c : ℕ} {cs after : List ℕ} → starts_with nat_eq ((c ∷ cs) ++ after) (codes "]]") ≡ false → Closes cs after → Closes (c ∷ cs) after
@@ -86,8 +87,8 @@ opens_long_comment text = starts_with nat_eq text (codes "[[")
 abbrev pub opens_leveled_comment : List ℕ → Bool
 opens_leveled_comment text = starts_with nat_eq text (codes "[") && has_bracket_level (drop 1 text)
 
--- `IsBlank bytes after`: the bytes `bytes`, which `after` follows, are one byte of white space or a
--- comment.
+-- `IsBlank bytes after`: the bytes `bytes` are one byte of white space or a comment, if the bytes
+-- `after` follow them.
 pub data IsBlank : List ℕ → List ℕ → Type 0 where
   space : {c : ℕ} {after : List ℕ} → is_space c ≡ true → IsBlank (c ∷ []) after
   line_comment : {words after : List ℕ} → opens_long_comment (words ++ after) ≡ false → opens_leveled_comment (words ++ after) ≡ false → AllSatisfy is_not_newline words → StopsAt is_not_newline after → IsBlank (45 ∷ 45 ∷ words) after
@@ -114,8 +115,8 @@ pub data HasFlaw : List ℕ → Flaw → Type 0 where
   lone_dash : {text : List ℕ} → starts_with nat_eq text (codes "-") ≡ false → HasFlaw (45 ∷ text) Bad
   invalid_first_byte : {c : ℕ} {cs : List ℕ} → IsInvalidFirstByte c → HasFlaw (c ∷ cs) Bad
 
--- `IsToken bytes after kind`: the bytes `bytes`, which `after` follows, are a token of the kind
--- `kind`.
+-- `IsToken bytes after kind`: the bytes `bytes` are a token of the kind `kind`, if the bytes
+-- `after` follow them.
 pub data IsToken : List ℕ → List ℕ → TokenKind → Type 0 where
   name_token : {c : ℕ} {cs after : List ℕ} → is_name_start c ≡ true → AllSatisfy is_name_byte cs → StopsAt is_name_byte after → IsToken (c ∷ cs) after (word (c ∷ cs))
   number_token : {c : ℕ} {cs after : List ℕ} → AllSatisfy is_digit (c ∷ cs) → StopsAt is_name_byte after → decimal_from 0 (c ∷ cs) < 2 ^ 64 → IsToken (c ∷ cs) after (Number (decimal_from 0 (c ∷ cs)))

@@ -10,7 +10,7 @@ use crate::{ScriptFault, Stmt};
 use kt_base::{Items, NoMemory};
 use std::alloc::Global;
 
-/// Updates `brackets`, the lines of the open brackets, after a token of the kind `kind` on `line`.
+/// Updates the lines of the open brackets, `brackets`, by a token of the kind `kind` on `line`.
 ///
 /// An opening bracket appends its line. A closing bracket removes the last line.
 fn update_brackets(brackets: &mut Vec<u32>, line: u32, kind: &TokenKind) -> Result<(), NoMemory>
@@ -52,16 +52,17 @@ impl Parser {
         }
     }
 
-    /// Reads a token of the kind `kind` on `line`, and returns the position after the token.
+    /// Reads a token of the kind `kind` on `line`, and returns the next position in the grammar.
     ///
-    /// `place` is the position before the token. If `kind` is `None`, the call changes nothing and
-    /// returns `place`.
+    /// `place` is the position in the grammar before the token. If `kind` is `None`, there is no
+    /// token: the call changes nothing and returns `place`.
     ///
     /// # Errors
     ///
     /// - `BadToken`: the token is broken with the flaw `Bad`.
     /// - `Unclosed`: the token is broken with the flaw `Unterminated`.
-    /// - `NotLiteral`: the grammar does not allow a token without these flaws at `place`.
+    /// - `NotLiteral`: the grammar does not allow the token at `place`, and the token has neither
+    ///   of these flaws.
     /// - `NoMemory`: an allocation fails.
     pub fn feed(
         &mut self,
@@ -88,7 +89,7 @@ impl Parser {
 
     /// Returns the statements of a script, after its last token was read.
     ///
-    /// `place` is the position after the last token.
+    /// `place` is the position in the grammar after the last token.
     ///
     /// # Errors
     ///

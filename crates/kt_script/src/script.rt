@@ -13,7 +13,7 @@ use std::alloc::Global;
 /// The maximum length of a script, in bytes.
 const MAX_SCRIPT_BYTES: usize = 1_048_576;
 
-/// Returns the line number at the end of `text`, which begins on the line `from`.
+/// Returns the number of the line on which `text` ends. `text` begins on the line `from`.
 fn line_at_end(from: u32, text: &[u8]) -> u32
     requires { from + length text.now < 2 ^ 32 }
     ensures value { result ≡ line_at_end from text.now }
@@ -81,7 +81,7 @@ pub fn parse(alloc: Global, text: &[u8]) -> Result<Items<Stmt>, ScriptFault>
     statements(alloc, text)
 }
 
-/// Theorem: by the rules, each text has exactly one result of parsing: its statements or its fault.
+/// Theorem: each text either is a script with one list of statements, or has exactly one fault.
 pub fn theorem_of_one_result(text: &[u8])
     ensures some { (answer : Result (List Stmt) ScriptFault) × IsResultOf text.now answer }
     ensures one { (a b : Result (List Stmt) ScriptFault) → IsResultOf text.now a
@@ -91,7 +91,7 @@ pub fn theorem_of_one_result(text: &[u8])
     let _ = text;
 }
 
-/// Theorem: by the rules for tokens, each text consists of exactly one list of tokens.
+/// Theorem: each text consists of exactly one list of tokens, by the rules for tokens.
 pub fn theorem_of_one_token_list(text: &[u8])
     ensures some { (tokens : List Token) × AreTokens 1 text.now tokens }
     ensures one { (a b : List Token) → AreTokens 1 text.now a → AreTokens 1 text.now b → a ≡ b }

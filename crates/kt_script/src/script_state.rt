@@ -30,11 +30,10 @@ impl Drop for ScriptState {
     }
 }
 
-/// Returns the position after the first token of a statement.
+/// Returns the position in the grammar after the first token of a statement.
 ///
-/// The token has the kind `kind` and is on the line `line`.
-///
-/// Returns `None` if the token is not a name.
+/// The token has the kind `kind` and is on the line `line`. Returns `None` if the token is not a
+/// name, since no other token can begin a statement.
 fn begin_statement(line: u32, kind: TokenKind) -> Option<ScriptState>
     ensures { result ≡ position_after (begin_statement line kind) }
 {
@@ -45,7 +44,9 @@ fn begin_statement(line: u32, kind: TokenKind) -> Option<ScriptState>
 }
 
 impl ScriptState {
-    /// Returns the position after `token`, or `None` if the grammar does not allow the token here.
+    /// Returns the position in the grammar after `token`.
+    ///
+    /// Returns `None` if the grammar does not allow `token` at this position.
     ///
     /// If the token completes a statement, the statement is appended to `statements`.
     ///

@@ -8,14 +8,14 @@ use crate::{Action, Arg, Literal, Pair};
 use kt_base::{Items, NoMemory, Text};
 use std::alloc::Global;
 
-/// A table that is the argument of a call, and whose `}` is not read yet.
+/// A table whose `}` is not read yet: the argument of a call, with its pairs so far.
 #[derive(Drop)]
 pub struct Table {
     /// The name of the function that is called.
     pub name: Text,
     /// `true` if the table is in parentheses.
     pub in_parens: bool,
-    /// The pairs of the table that were read so far.
+    /// The pairs of the table so far, in the order of the script.
     pub pairs: Items<Pair>,
 }
 
@@ -28,7 +28,7 @@ pub enum State {
     AfterParen(Text),
     /// After the argument of a call in parentheses, before the `)`.
     AfterArgument(Action),
-    /// After the `{` of a table, or after a separator in the table.
+    /// After the `{` of a table, or after a `,` or `;` in the table.
     Pairs(Table),
     /// After the `[` of a key.
     AfterKeyBracket(Table),
@@ -40,15 +40,15 @@ pub enum State {
     AfterKeyEquals(Table, Text),
     /// After a pair of a table.
     AfterPair(Table),
-    /// After a path and `.`.
+    /// After a variable's path and `.`.
     AfterDot(Items<Text>),
-    /// After a path and `[`.
+    /// After a variable's path and `[`.
     AfterPathBracket(Items<Text>),
-    /// After the string in the last part of a path, before the `]`.
+    /// After the string in the last part of a variable's path, before the `]`.
     AfterPathString(Items<Text>),
-    /// After a path of at least two parts.
+    /// After a variable's path of at least two parts.
     AfterPath(Items<Text>),
-    /// After a path and `=`.
+    /// After a variable's path and `=`.
     AfterPathEquals(Items<Text>),
 }
 
@@ -173,7 +173,7 @@ fn value(kind: TokenKind) -> Option<Literal>
     }
 }
 
-/// Creates a path whose only part is `name`.
+/// Creates the path of a variable whose only part is `name`.
 fn single_part_path(alloc: Global, name: Text) -> Result<Items<Text>, NoMemory>
     ensures { IfOk result (λ path. path ≡ name ∷ []) }
 {

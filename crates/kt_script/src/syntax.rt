@@ -36,7 +36,7 @@ impl Literal {
     }
 }
 
-/// A pair of a table: a name with its value.
+/// A pair in the table of a call: a name with its value.
 #[derive(Drop)]
 pub struct Pair {
     /// The name, written as `name` or `["name"]`.
@@ -59,7 +59,7 @@ pub enum Arg {
 pub enum Action {
     /// A call: the function's name and its only argument.
     Call(Text, Arg),
-    /// An assignment: the parts of a path, at least one, and the new value.
+    /// An assignment: the parts of the variable's path, such as `a.b`, at least one, and the value.
     Assign(Items<Text>, Literal),
 }
 
@@ -68,6 +68,6 @@ pub enum Action {
 pub struct Stmt {
     /// The line on which the statement begins, counted from 1.
     pub line: u32,
-    /// The call or assignment.
+    /// The action of the statement: a call or an assignment.
     pub action: Action,
 }

@@ -92,7 +92,7 @@ impl Lexeme {
         }
     }
 
-    /// Creates a broken token that consists of all bytes of `text`, with the reason `flaw`.
+    /// Creates a broken token of all bytes of `text`. `flaw` is the reason why it is broken.
     pub fn broken(text: &[u8], flaw: Flaw) -> Lexeme
         ensures { result ≡ broken text.now flaw }
     {

@@ -10,7 +10,7 @@ abbrev pub number_text : Option ℕ → List ℕ
 number_text None = []
 number_text (Some n) = decimal n
 
--- `parts_text p`: the text of the parts `p`: the concatenation of the fields of `p`, with numbers
--- in decimal.
+-- `parts_text p`: the text of the reason with the parts `p`: the concatenation of the fields of
+-- `p`, with numbers in decimal.
 abbrev pub parts_text : ReasonParts → List ℕ
 parts_text p = chars p.head.now ++ (chars p.lead.now ++ (number_text p.first ++ (chars p.between.now ++ (number_text p.second ++ chars p.tail.now))))

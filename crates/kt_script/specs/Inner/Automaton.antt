@@ -62,8 +62,8 @@ step (AfterPathEquals path) k = option_map (λ v. Accept (Assign path v)) (liter
 step _ _ = None
 
 -- `begin_statement line kind`: the transition for a statement's first token, of the kind `kind` on
--- the line `line`: the next position, and no completed statement. Nothing if the token is not a
--- name.
+-- the line `line`: the position in the grammar after the token, and no completed statement. Nothing
+-- if the token is not a name.
 abbrev pub begin_statement : ℕ → TokenKind → Option (ScriptState × Option Stmt)
 begin_statement line (Name n) = Some (InStatement line (AfterName n), None)
 begin_statement line _ = None
@@ -75,21 +75,22 @@ abbrev pub transition_after_statement : ℕ → TokenKind → Option (ScriptStat
 transition_after_statement line Semicolon = Some (Start, None)
 transition_after_statement line kind = begin_statement line kind
 
--- `transition_of_step line s`: the position after the step `s` in the statement that begins on the
--- line `line`, and that statement if the step completes it.
+-- `transition_of_step line s`: the position in the grammar after the step `s` in the statement that
+-- begins on the line `line`, and that statement if the step completes it.
 abbrev pub transition_of_step : ℕ → Step → ScriptState × Option Stmt
 transition_of_step line (Advance q) = (InStatement line q, None)
 transition_of_step line (Accept a) = (AfterStatement, Some (record { line = line; action = a }))
 
--- `next p t`: the transition from the position `p` for the token `t`: the position after `t`, and
--- the statement that `t` completes, if any. Nothing if the grammar does not allow `t` at `p`.
+-- `next p t`: the transition from the position `p` in the grammar for the token `t`: the position
+-- after `t`, and the statement that `t` completes, if any. Nothing if the grammar does not allow
+-- `t` at `p`.
 abbrev pub next : ScriptState → Token → Option (ScriptState × Option Stmt)
 next Start t = begin_statement t.line t.kind
 next AfterStatement t = transition_after_statement t.line t.kind
 next (InStatement line q) t = option_map (transition_of_step line) (step q t.kind)
 
--- `position_after to`: the position to which the transition `to` leads, or nothing if `to` is
--- absent.
+-- `position_after to`: the position in the grammar to which the transition `to` leads, or nothing
+-- if `to` is absent.
 abbrev pub position_after : Option (ScriptState × Option Stmt) → Option ScriptState
 position_after to = option_map (λ x. x.0) to
 
@@ -99,18 +100,19 @@ abbrev pub completed_statements : Option (ScriptState × Option Stmt) → List S
 completed_statements None = []
 completed_statements (Some to) = option_to_list to.1
 
--- `run p ts`: the position to which the tokens `ts` lead from the position `p`, and the statements
--- that they complete. Nothing if the grammar does not allow one of the tokens.
+-- `run p ts`: the position in the grammar to which the tokens `ts` lead from the position `p`, and
+-- the statements that they complete. Nothing if the grammar does not allow one of the tokens.
 abbrev pub run : ScriptState → List Token → Option (ScriptState × List Stmt)
 run p [] = Some (p, [])
 run p (t ∷ ts) = option_and_then (λ to. option_map (λ end. (end.0, option_to_list to.1 ++ end.1)) (run to.0 ts)) (next p t)
 
--- `IsInStatement p line`: the position `p` is within a statement that begins on the line `line`.
+-- `IsInStatement p line`: the position `p` in the grammar is within a statement that begins on the
+-- line `line`.
 abbrev pub IsInStatement : ScriptState → ℕ → Type 0
 IsInStatement (InStatement line q) n = line ≡ n
 IsInStatement _ n = ⊥
 
--- `IsBetweenStatements p`: the position `p` is not within a statement.
+-- `IsBetweenStatements p`: the position `p` in the grammar is not within a statement.
 abbrev pub IsBetweenStatements : ScriptState → Type 0
 IsBetweenStatements Start = Unit {0}
 IsBetweenStatements AfterStatement = Unit {0}

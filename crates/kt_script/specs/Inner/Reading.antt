@@ -6,14 +6,14 @@ use Rattle.kt_script.specs.Inner.Automaton.{run, next}
 use Rattle.kt_script.specs.Faults.{open_bracket_lines, token_kind_fault}
 
 -- `HasRead place parser tokens`: `parser` has read `tokens` from the start of a script, and `place`
--- is the position after `tokens`. `parser` contains the statements of `tokens` and the lines of
--- their open brackets.
+-- is the position in the grammar after `tokens`. `parser` contains the statements of `tokens` and
+-- the lines of their open brackets.
 pub record HasRead (place : ScriptState) (parser : Parser) (tokens : List Token) : Type 0 where
   pub runs : run Start tokens ≡ Some (place, parser.statements)
   pub brackets : parser.brackets.items ≡ open_bracket_lines [] tokens
 
 -- `IsUnexpectedToken place line kind fault`: the grammar does not allow a token of the kind `kind`
--- at the position `place`. `fault` is the fault of such a token on the line `line`. False if `kind`
+-- at its position `place`. `fault` is the fault of such a token on the line `line`. False if `kind`
 -- is absent.
 abbrev pub IsUnexpectedToken : ScriptState → ℕ → Option TokenKind → ScriptFault → Type 0
 IsUnexpectedToken place line None fault = ⊥

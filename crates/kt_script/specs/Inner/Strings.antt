@@ -46,8 +46,8 @@ quoted_token text (Err flaw) = broken text flaw
 abbrev pub quoted_at : ℕ → List ℕ → Lexeme
 quoted_at quote text = quoted_token text (decoded_string (string_at quote false (drop 1 text)))
 
--- `escape_element c`: the element of a string for an escape that represents the byte `c`, or a flaw if
--- `c` is absent, since the escape is unknown.
+-- `escape_element c`: the element of a string for an escape that represents the byte `c`, or a flaw
+-- if `c` is absent, since the escape is unknown.
 abbrev pub escape_element : Option ℕ → StringElement
 escape_element None = stop.Flawed Bad
 escape_element (Some c) = stop.Escape c
