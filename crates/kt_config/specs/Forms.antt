@@ -28,7 +28,7 @@ has_zero_byte value = list_any is_zero (utf8 value)
 abbrev pub is_variable_name : List ℕ → Bool
 is_variable_name name = not (is_empty name) && not (list_any is_invalid_name_byte (utf8 name))
 
--- `width_in_range n`: the number `n` as a width, or nothing if `n` is not 1 to 256.
+-- `width_in_range n`: the number `n`, or nothing if `n` is not a width, 1 to 256.
 abbrev pub width_in_range : ℕ → Option ℕ
 width_in_range n = if nat_le 1 n && nat_le n largest_width then Some n else None
 

@@ -70,7 +70,8 @@ pub record Holds (config : Values) (definitions : List Definition) : Type 0 wher
   pub parallelism : config.parallelism ≡ unwrap_or (last_value_by parallelism_in definitions) 1
   pub suites : (suite : List ℕ) → variables_of suite config.suites ≡ non_empty_list (last_values (variables_set_for suite definitions))
 
--- `Adds definition old new`: the values `new` are the values `old` after another definition,
--- `definition`. If definitions set `old`, the same definitions followed by `definition` set `new`.
+-- `Adds definition old new`: the definition `definition` changes the values `old` of a
+-- configuration to `new`. If definitions set `old`, the same definitions followed by `definition`
+-- set `new`.
 abbrev pub Adds : Definition → Values → Values → Type 0
 Adds definition old new = (before : List Definition) → Holds old before → Holds new (before ++ definition ∷ [])

@@ -18,17 +18,17 @@ pub record SetsSuiteVariable (suite : List ℕ) (variable : Variable) (old new :
   pub own : variables_of suite new ≡ Some (last_values (unwrap_or (variables_of suite old) [] ++ variable ∷ []))
   pub others : (other : List ℕ) → bytes_eq other suite ≡ false → variables_of other new ≡ variables_of other old
 
--- `MatchesDefinitions result outcome`: `result` corresponds to `outcome`, the definitions of a file
--- or its first fault. Both are the same fault, or `result` has the values that these definitions
--- set.
+-- `MatchesDefinitions result outcome`: `result` is the result of reading a file whose definitions,
+-- or first fault, are `outcome`. Both are the same fault, or `result` has the values that these
+-- definitions set.
 abbrev pub MatchesDefinitions : Result Values ConfigFault → DefinitionsOrFault → Type 0
 MatchesDefinitions (Ok config) (Ok definitions) = Holds config definitions
 MatchesDefinitions (Ok config) (Err fault) = ⊥
 MatchesDefinitions (Err found) (Ok definitions) = ⊥
 MatchesDefinitions (Err found) (Err fault) = found ≡ fault
 
--- `fault_of_script fault`: the fault of a configuration file whose fault as a script is `fault`. A
--- failed allocation remains `NoMemory`.
+-- `fault_of_script fault`: the configuration error for `fault`, the parser's error for a
+-- configuration file. A failed allocation remains `NoMemory`.
 abbrev pub fault_of_script : ScriptFault → ConfigFault
 fault_of_script (script.NoMemory refusal) = NoMemory refusal
 fault_of_script script.NotUtf8 = Script script.NotUtf8

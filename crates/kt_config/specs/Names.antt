@@ -34,8 +34,8 @@ runner_definition name value =
     else if bytes_eq name (codes "parallelism") then width_definition (width_of value)
     else Err UnknownVariable
 
--- `is_suite_variable root suite name`: a name with the parts `root`, `suite` and `name` is that of
--- a suite's variable: `test_suites.SUITE.NAME`.
+-- `is_suite_variable root suite name`: `root`, `suite` and `name` are the parts of the name of a
+-- suite's variable, `test_suites.SUITE.NAME`.
 abbrev pub is_suite_variable : List ℕ → List ℕ → List ℕ → Bool
 is_suite_variable root suite name = bytes_eq root (codes "test_suites") && not (is_empty suite) && is_variable_name name
 
@@ -49,8 +49,8 @@ suite_definition root suite name value =
     then if has_zero_byte value then Err BadValue else Ok (SuiteVariable suite (record { name = name; value = value }))
     else Err UnknownVariable
 
--- `definition_of parts value`: the definition that sets a variable to `value`, or the fault of the
--- name or the value. `parts` are the parts of the variable's name.
+-- `definition_of parts value`: the definition that sets the variable whose name has the parts
+-- `parts` to `value`, or the fault of the name or the value.
 abbrev pub definition_of : List (List ℕ) → List ℕ → DefinitionResult
 definition_of [] value = Err UnknownVariable
 definition_of (name ∷ []) value = runner_definition name value

@@ -1,4 +1,4 @@
--- The definitions in a configuration file, and the results of calls.
+-- The definitions in a configuration file, and the results of reading the file.
 use Rattle.std.specs.Prelude.{ℕ, ◌≡◌, Bool, false, ◌==◌, ◌&&◌, List, [], ◌∷◌, Result, Ok, Err, bytes_eq, codes, if◌then◌else◌, ◌⊎◌}
 use Rattle.kt_script.specs.declared.fault.ScriptFault.{ScriptFault}
 use Rattle.kt_script.specs.declared.syntax.Action.{Action}
@@ -63,8 +63,8 @@ abbrev pub definitions_of_file : List Stmt → DefinitionsOrFault
 definitions_of_file [] = Err NoSyntax
 definitions_of_file (stmt ∷ stmts) = if is_syntax_call stmt.action then definitions_in stmts else Err NoSyntax
 
--- `HasFault text fault`: the bytes `text` are not a configuration file, and `fault` is their fault.
--- `fault` is that of `text` as a script, or the first fault of its statements.
+-- `HasFault text fault`: the bytes `text` are not a configuration file, and `fault` is their fault:
+-- the fault of the script, or that of the first faulty statement.
 abbrev pub HasFault : List ℕ → ConfigFault → Type 0
 HasFault text fault =
     ((cause : ScriptFault) × HasScriptFault text cause × (fault ≡ Script cause))
@@ -84,15 +84,15 @@ IfFault (Ok x) P = Unit {0}
 IfFault (Err (NoMemory refusal)) P = Unit {0}
 IfFault (Err fault) P = P fault
 
--- `SucceedsWith result definitions`: the result `result` of a call has the values that
--- `definitions` set, or is a failed allocation.
+-- `SucceedsWith result definitions`: the result `result` of reading a configuration file has the
+-- values that `definitions` set, or is a failed allocation.
 abbrev pub SucceedsWith : Result Values ConfigFault → List Definition → Type 0
 SucceedsWith (Ok config) definitions = Holds config definitions
 SucceedsWith (Err (NoMemory refusal)) definitions = Unit {0}
 SucceedsWith (Err fault) definitions = ⊥
 
--- `FailsWith result fault`: the result `result` of a call is the fault `fault` or a failed
--- allocation.
+-- `FailsWith result fault`: the result `result` of reading a configuration file is the fault
+-- `fault` or a failed allocation.
 abbrev pub FailsWith : {T : Type 0} → Result T ConfigFault → ConfigFault → Type 0
 FailsWith (Ok x) fault = ⊥
 FailsWith (Err (NoMemory refusal)) fault = Unit {0}

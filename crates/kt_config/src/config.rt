@@ -21,7 +21,7 @@ pub struct Config {
     platform: Option<Text>,
     /// The maximum number of test cases that run at the same time.
     parallelism: Width,
-    /// The variables of the test suites.
+    /// The variables of each test suite that has variables.
     suites: Suites,
 }
 
@@ -63,8 +63,7 @@ impl Config {
         }
     }
 
-    /// Sets the variable of `definition` to the value in `definition`, in place of an earlier
-    /// value.
+    /// Sets the variable that `definition` defines to the new value, in place of an earlier value.
     ///
     /// A definition of `unprivileged_user` has no effect.
     ///

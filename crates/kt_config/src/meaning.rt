@@ -9,18 +9,18 @@ use kt_base::{NoMemory, Text, Variable};
 /// A definition in a configuration: a variable with its new value.
 #[derive(Drop)]
 pub enum Definition {
-    /// The architecture of the host, a text that is not empty.
+    /// A definition of `architecture`. The field is its value, which is not empty.
     Architecture(Text),
-    /// The platform of the host, a text that is not empty.
+    /// A definition of `platform`. The field is its value, which is not empty.
     Platform(Text),
-    /// The maximum number of test cases that run at the same time.
+    /// A definition of `parallelism`, the maximum number of test cases that run at the same time.
     Parallelism(Width),
-    /// The user for tests that require an unprivileged user.
+    /// A definition of `unprivileged_user`, the user for tests that require an unprivileged user.
     ///
     /// The value has no effect, because this profile runs each test as the user of the runner.
     UnprivilegedUser,
-    /// A variable of a test suite. The fields are the name of the suite, and the variable with its
-    /// value.
+    /// A definition of a test suite's variable. The fields are the name of the suite, and the
+    /// variable with its value.
     SuiteVariable(Text, Variable),
 }
 
@@ -68,8 +68,7 @@ fn runner_definition(name: &Text, value: Text) -> Result<Definition, ConfigFault
     }
 }
 
-/// Returns `true` if a name with the parts `root`, `suite` and `name` is that of a suite's
-/// variable.
+/// Returns `true` if `root`, `suite` and `name` are the parts of the name of a suite's variable.
 ///
 /// Such a name is `test_suites.SUITE.NAME`. `SUITE` is not empty, and `NAME` consists of one or
 /// more ASCII letters, digits, `_` and `-`.
@@ -110,8 +109,7 @@ fn suite_definition(
     Ok(Ok(Definition::SuiteVariable(suite, Variable { name, value })))
 }
 
-/// Returns the definition that sets a variable to `value`. `parts` are the parts of the variable's
-/// name.
+/// Returns the definition that sets the variable whose name has the parts `parts` to `value`.
 ///
 /// Returns `UnknownVariable` if no variable has this name, or `BadValue` if the variable does not
 /// accept `value`.

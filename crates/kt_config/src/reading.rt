@@ -7,7 +7,7 @@ use kt_base::NoMemory;
 use kt_script::{Action, Arg, Literal, ScriptFault, Stmt, parse};
 use std::alloc::Global;
 
-/// Returns the fault of a configuration file whose fault as a script is `fault`.
+/// Converts `fault`, the parser's error for a configuration file, to a configuration error.
 ///
 /// A failed allocation remains `NoMemory`.
 pub fn script_fault(fault: ScriptFault) -> ConfigFault
@@ -77,7 +77,8 @@ fn apply_statement(
     }
 }
 
-/// Creates a configuration from the statements `stmts`, or returns the first fault among them.
+/// Creates a configuration from the statements `stmts`, or returns the fault of the first faulty
+/// statement.
 ///
 /// `stmts` are the statements after `syntax(2)` in a file.
 fn read_statements(alloc: Global, stmts: &[Stmt]) -> Result<Result<Config, ConfigFault>, NoMemory>
@@ -119,7 +120,8 @@ impl Config {
     ///
     /// # Errors
     ///
-    /// The fault of the script comes first, then the fault of the first faulty statement.
+    /// A fault of the script takes precedence over a fault of a statement. If several statements
+    /// are faulty, the fault of the first one is returned.
     ///
     /// - `Script`: `text` is not a script of literals.
     /// - `NoSyntax`: there is no statement, or the first statement is not `syntax(2)`.

@@ -9,11 +9,11 @@ use std::marker::Model;
 
 /// A map from the names of a test suite's variables to their last values.
 ///
-/// The variables are in the order of their first definitions, which never depends on hashes. In
-/// contracts, a `SuiteVariables` is the list of its variables, with each name once.
+/// The variables are in the order of their first definitions, not of hashes. In contracts, a
+/// `SuiteVariables` is the list of its variables, with each name once.
 #[derive(Drop)]
 pub struct SuiteVariables {
-    /// The values by name.
+    /// The last value of each variable, by the name of the variable.
     values: IndexMap<String, Text>,
 }
 
@@ -35,7 +35,7 @@ impl SuiteVariables {
         }
     }
 
-    /// Sets `variable`: replaces the value of the variable of the same name, or appends `variable`.
+    /// Replaces the value of the variable that has the name of `variable`, or appends `variable`.
     ///
     /// # Errors
     ///

@@ -6,7 +6,7 @@ ghost use Rattle.kt_base.specs.Limits.{largest_width};
 use kt_base::{Text, is_digit, parse_decimal_up_to};
 use std::marker::Model;
 
-/// The largest width that the configuration accepts, in test cases.
+/// The greatest number of test cases at the same time that the configuration accepts.
 const MAX_WIDTH_CASES: u64 = 256;
 
 /// A maximum number of test cases that run at the same time, 1 to 256.
@@ -33,7 +33,7 @@ fn has_non_digit(bytes: &[u8]) -> bool
     bytes.iter().any(|c| !is_digit(*c))
 }
 
-/// Returns `number` as a width, or `None` if `number` is not 1 to 256.
+/// Converts `number` to a number of test cases, or returns `None` if it is not 1 to 256.
 fn width_in_range(number: u64) -> Option<u32>
     ensures { result ≡ width_in_range number }
 {

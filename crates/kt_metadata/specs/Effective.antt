@@ -10,7 +10,7 @@ use Rattle.kt_metadata.specs.declared.meta.Meta.{Meta}
 use Rattle.kt_metadata.specs.Properties.{value_of_text}
 
 -- `texts_of definitions name`: the text of the last definition of the property `name` in the list
--- `definitions`, or nothing if the list has none.
+-- `definitions`, or nothing if the list does not define the property.
 abbrev pub texts_of : List Variable → List ℕ → Option (List ℕ)
 texts_of definitions name = value_of name definitions
 
@@ -19,22 +19,23 @@ texts_of definitions name = value_of name definitions
 abbrev pub given : (List ℕ → Option (List ℕ)) → List ℕ → Option Value
 given texts name = option_and_then (value_of_text name) (texts name)
 
--- `words_in value`: the elements of the optional value `value`, or an empty list if it is absent.
+-- `words_in value`: the elements of the value `value`, or an empty list if `value` is absent or
+-- isn't a list.
 abbrev pub words_in : Option Value → List (List ℕ)
 words_in (Some (Words found)) = found
 words_in other = []
 
--- `truth_in value`: the truth value in the optional value `value`, or false if it is absent.
+-- `truth_in value`: the truth value `value`, or false if `value` is absent or isn't a truth value.
 abbrev pub truth_in : Option Value → Bool
 truth_in (Some (Truth b)) = b
 truth_in other = false
 
--- `size_in value`: the size in bytes in the optional value `value`, or 0 if it is absent.
+-- `size_in value`: the size `value`, in bytes, or 0 if `value` is absent or isn't a size.
 abbrev pub size_in : Option Value → ℕ
 size_in (Some (Size bytes)) = bytes
 size_in other = 0
 
--- `user_in value`: the required user in the optional value `value`, or any user if it is absent.
+-- `user_in value`: the required user `value`, or `Any` if `value` is absent or isn't a user.
 abbrev pub user_in : Option Value → RequiredUser
 user_in (Some (OfUser user)) = user
 user_in other = Any
@@ -43,8 +44,8 @@ user_in other = Any
 abbrev pub default_timeout_seconds : ℕ
 default_timeout_seconds = 300
 
--- `timeout_in value`: the timeout in seconds in the optional value `value`, or the default timeout
--- if it is absent.
+-- `timeout_in value`: the timeout `value`, in seconds, or the default timeout if `value` is absent
+-- or isn't a timeout.
 abbrev pub timeout_in : Option Value → ℕ
 timeout_in (Some (Timeout seconds)) = seconds
 timeout_in other = default_timeout_seconds

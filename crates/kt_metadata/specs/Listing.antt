@@ -20,25 +20,26 @@ abbrev pub space_prefixed : List (List ℕ) → List ℕ
 space_prefixed [] = []
 space_prefixed (word ∷ words) = 32 ∷ (word ++ space_prefixed words)
 
--- `space_joined words`: the concatenation of the elements `words`, with one space between two elements.
+-- `space_joined words`: the concatenation of the elements `words`, with one space between two
+-- elements.
 abbrev pub space_joined : List (List ℕ) → List ℕ
 space_joined [] = []
 space_joined (word ∷ words) = word ++ space_prefixed words
 
--- `truth_text value`: the text by which a listing shows the truth value `value`.
+-- `truth_text value`: the text of the truth value `value` in a listing of properties.
 abbrev pub truth_text : Bool → List ℕ
 truth_text true = codes "true"
 truth_text false = codes "false"
 
--- `user_text user`: the text by which a listing shows the required user `user`. It is empty for any
--- user.
+-- `user_text user`: the text of the required user `user` in a listing of properties. It is empty
+-- for `Any`.
 abbrev pub user_text : RequiredUser → List ℕ
 user_text Any = []
 user_text Root = codes "root"
 user_text Unprivileged = codes "unprivileged"
 
--- `listing_text value text`: the text by which a listing shows the value `value`, which was parsed from
--- the text `text`.
+-- `listing_text value text`: the text of the value `value` in a listing of properties. The value
+-- was parsed from the text `text`.
 abbrev pub listing_text : Value → List ℕ → List ℕ
 listing_text (value.Words words) text = space_joined words
 listing_text value.Text text = text
@@ -58,9 +59,9 @@ default_value form.Size = value.Size 0
 default_value form.RequiredUser = value.RequiredUser Any
 default_value form.Timeout = value.Timeout default_timeout_seconds
 
--- `property_text texts r`: the text by which a listing shows the property of the table row `r`: the
--- text of its value, or of its default if the property isn't set. The function `texts` returns the
--- text to which a property is set, or nothing if it isn't set.
+-- `property_text texts r`: the text of the property of the table row `r` in a listing: the text of
+-- its value, or of its default if the property isn't set. The function `texts` returns the text to
+-- which a property is set, or nothing if it isn't set.
 abbrev pub property_text : (List ℕ → Option (List ℕ)) → PropertyRow → List ℕ
 property_text texts r = listing_text (unwrap_or (given texts r.name) (default_value r.form)) (unwrap_or (texts r.name) [])
 
@@ -74,8 +75,7 @@ property_pair texts r = record { name = r.name; value = property_text texts r }
 abbrev pub has_value : Variable → Bool
 has_value pair = not (is_empty pair.value)
 
--- `is_custom_pair pair`: the name in the pair `pair` of a name and a text is that of a custom
--- property.
+-- `is_custom_pair pair`: the name in the pair `pair` is the name of a custom property.
 abbrev pub is_custom_pair : Variable → Bool
 is_custom_pair pair = is_custom pair.name
 

@@ -78,8 +78,8 @@ abbrev pub is_found : Need → Host → List ℕ → Bool
 is_found File host word = contains_text host.files (utf8 word)
 is_found Program host word = contains_text host.programs (utf8 word)
 
--- `is_same_need need word other_need other`: the required object `word` of the kind `need` is the
--- object `other` of the kind `other_need`.
+-- `is_same_need need word other_need other`: the object `word` of the kind `need` and the object
+-- `other` of the kind `other_need` are the same required file or program.
 abbrev pub is_same_need : Need → List ℕ → Need → List ℕ → Bool
 is_same_need File path File other = bytes_eq (utf8 path) (utf8 other)
 is_same_need Program name Program other = bytes_eq (utf8 name) (utf8 other)
@@ -93,7 +93,8 @@ pub record RecordsAsFound (need : Need) (word : List ℕ) (old new : Host) : Typ
   pub memory : new.memory ≡ old.memory
   pub disk : new.disk ≡ old.disk
 
--- `need_text need`: the beginning of the reason for a missing object of the kind `need`.
+-- `need_text need`: the beginning of the reason to skip a case because an object of the kind `need`
+-- is missing.
 abbrev pub need_text : Need → List ℕ
 need_text File = codes "Required file '"
 need_text Program = codes "Required program '"
@@ -131,7 +132,7 @@ rows meta config suite host =
     ∷ platform_reason_text meta config ∷ host_reason_texts meta host
 
 -- `first_reason rows`: the first reason that is present in the list `rows` of optional reasons, or
--- nothing if none is.
+-- nothing if all are absent.
 abbrev pub first_reason : List (Option (List ℕ)) → Option (List ℕ)
 first_reason [] = None
 first_reason (None ∷ rest) = first_reason rest

@@ -46,9 +46,8 @@ unit_of c =
     if c == 75 || c == 107 then Some 1024 else if c == 77 || c == 109 then Some (1024 ^ 2)
     else if c == 71 || c == 103 then Some (1024 ^ 3) else if c == 84 || c == 116 then Some (1024 ^ 4) else None
 
--- `factor_of rest`: the factor by which the number of a size is multiplied. `rest` are the bytes
--- after the number's digits. The factor is 1 if `rest` is empty, or the number of bytes in the unit
--- `rest`. Nothing if `rest` isn't a unit.
+-- `factor_of rest`: the number of bytes that the unit `rest` of a size represents, or 1 if `rest`
+-- is empty. `rest` are the bytes of the size after its digits. Nothing if `rest` isn't a unit.
 abbrev pub factor_of : List ℕ → Option ℕ
 factor_of [] = Some 1
 factor_of (c ∷ []) = unit_of c

@@ -12,7 +12,7 @@ pub enum PropFault {
     NoMemory(NoMemory),
     /// No property has the given name.
     UnknownProperty,
-    /// The given text isn't a value of the property.
+    /// The property does not accept the given text as its value (kyuafile(5)).
     BadValue,
 }
 

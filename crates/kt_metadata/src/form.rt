@@ -26,14 +26,14 @@ pub enum Form {
     Size,
     /// A required user: an empty text, `root` or `unprivileged`.
     RequiredUser,
-    /// A timeout: a number of seconds from 0 to 1,000,000.
+    /// A timeout: a number of seconds from 0 to 1,000,000, where 0 represents 1,000,000.
     Timeout,
 }
 
 /// The timeout of a case without a `timeout` property, in seconds.
 pub const DEFAULT_TIMEOUT_SECONDS: u32 = 300;
 
-/// Returns the list value with the elements `words`, or `None` if `wrong` is `true`.
+/// Returns a list value with the elements `words`, or `None` if `wrong` is `true`.
 ///
 /// The caller passes `true` if one of the elements is invalid.
 fn words_unless_invalid(wrong: bool, words: Items<Text>) -> Option<Value>
@@ -73,7 +73,7 @@ impl Form {
         }
     }
 
-    /// Returns the default of a property of this form: the value if the property isn't set.
+    /// Returns the default value of a property of this form, for a property that isn't set.
     ///
     /// Allocates nothing.
     pub fn default_value(self, alloc: Global) -> Value

@@ -25,7 +25,7 @@ impl Need {
         &NEEDS
     }
 
-    /// Returns the beginning of the reason for a missing object of this kind (this profile).
+    /// Returns the beginning of the reason to skip a case whose file or program is missing.
     pub(crate) fn text(self) -> &'static str
         ensures { chars result.now ≡ need_text self }
     {
@@ -58,7 +58,7 @@ impl Host {
     ghost use Rattle.std.specs.Prelude.{◌≡◌, List, ℕ, OnOk, false};
     ghost use Rattle.kt_metadata.specs.Common.{is_found, RecordsAsFound, Need};
 
-    /// Creates the description of a host, with no required file or program found yet.
+    /// Creates the description of a host on which no required file or program was found yet.
     ///
     /// `root` is `true` if the runner is root. `memory` and `disk` are in bytes, or `None` if they
     /// are unknown. Allocates nothing.
@@ -77,7 +77,7 @@ impl Host {
         }
     }
 
-    /// Records that `word`, a required object of the kind `need`, was found.
+    /// Records that the file or program `word`, an object of the kind `need`, was found.
     ///
     /// # Errors
     ///
@@ -98,7 +98,7 @@ impl Host {
         }
     }
 
-    /// Returns `true` if `word`, a required object of the kind `need`, was recorded as found.
+    /// Returns `true` if the file or program `word`, an object of the kind `need`, was found.
     pub(crate) fn has(&self, need: Need, word: &Text) -> bool
         ensures { result ≡ is_found need self.now word.now }
     {

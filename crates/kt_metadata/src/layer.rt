@@ -30,7 +30,7 @@ impl Model for Layer {
 }
 
 impl Layer {
-    /// Creates an empty layer.
+    /// Creates a layer without definitions.
     ///
     /// Allocates nothing.
     pub fn new(alloc: Global) -> Layer

@@ -178,8 +178,7 @@ impl Props {
         pairs.into_shared()
     }
 
-    /// Creates a shared layer from copies of all properties, and from the listing of the
-    /// properties.
+    /// Creates a shared layer that contains copies of all properties, with their listing.
     fn shared_layer(&self) -> Result<SharedLayer, NoMemory>
         ensures { IfOk result (λ layer. layer ≡ self.now) }
     {
@@ -188,7 +187,7 @@ impl Props {
         Ok(SharedLayer::new(layer, pairs))
     }
 
-    /// Copies the properties into memory that all overlays over the copy share.
+    /// Copies the properties, so that all overlays over the copy share its memory.
     ///
     /// The call also computes the listing of the properties. If an overlay adds no property,
     /// [`Props::listing`] shares the memory of this listing.
@@ -231,7 +230,7 @@ impl Props {
 }
 
 impl Props {
-    /// Returns the text that a listing has for the property of the table row `row`.
+    /// Returns the text of the property of the table row `row` in a listing of properties.
     ///
     /// A property that isn't set has the text of its default value.
     fn listing_text(&self, row: &PropertyRow) -> Result<Text, NoMemory>
@@ -272,7 +271,7 @@ impl Props {
         all.add_custom_properties(pairs)
     }
 
-    /// Creates a new listing of the properties, which shares no memory.
+    /// Creates a listing of the properties in newly allocated memory.
     fn create_listing(&self) -> Result<Variables, NoMemory>
         ensures { IfOk result (λ pairs. pairs ≡ listing self.now) }
     {

@@ -42,7 +42,7 @@ impl SharedLayer {
         &self.layer
     }
 
-    /// Copies the listing. The copy shares the memory of the listing.
+    /// Copies the listing of the layer. The copy shares the memory of the listing.
     ///
     /// # Errors
     ///

@@ -22,11 +22,11 @@ pub enum Value {
     Words(Items<Text>),
     /// Any text. The text itself is stored in [`PropertyDefinition`].
     Text,
-    /// A truth value.
+    /// A truth value: `true` or `false`.
     Truth(bool),
     /// A size in bytes.
     Size(u64),
-    /// A required user.
+    /// A requirement on the user that runs the case.
     RequiredUser(RequiredUser),
     /// A timeout in seconds, 1 to 1,000,000.
     Timeout(u32),
@@ -78,7 +78,7 @@ fn truth_keyword(value: bool) -> &'static str
 
 /// Returns the text of the required user `user` in a listing of properties.
 ///
-/// The text for any user is empty.
+/// The text is empty for `Any`.
 fn user_keyword(user: RequiredUser) -> &'static str
     ensures { chars result.now ≡ user_text user }
 {

@@ -138,11 +138,9 @@ fn unit_bytes(c: u8) -> Option<u64>
     }
 }
 
-/// Returns the factor by which the number of a size is multiplied. `rest` are the bytes after its
-/// digits.
+/// Returns the number of bytes that the unit `rest` of a size represents, or 1 if `rest` is empty.
 ///
-/// The factor is 1 if `rest` is empty, or the number of bytes in the unit `rest`. Returns `None` if
-/// `rest` isn't a unit.
+/// `rest` are the bytes of the size after its digits. Returns `None` if `rest` isn't a unit.
 fn factor(rest: &[u8]) -> Option<u64>
     ensures { result ≡ factor_of rest.now }
 {
@@ -210,7 +208,7 @@ fn is_not_absolute(word: &Text) -> bool
     !is_absolute(word.as_str())
 }
 
-/// Returns `true` if `word` is a relative path with a slash.
+/// Returns `true` if `word` is a relative path that contains a slash.
 fn is_not_program_name(word: &Text) -> bool
     ensures { result ≡ is_not_program_name word.now }
 {

@@ -19,13 +19,13 @@ pair_in entry = record { name = chars (string_bytes entry.0); value = entry.1.te
 abbrev pub pairs_in : {Z : Type 0} → List (String Z × PropertyDefinition) → List Variable
 pairs_in entries = map pair_in entries
 
--- `IsConsistent name it`: the definition `it` of the property `name` is consistent: its value is
--- the value that its text represents.
+-- `IsConsistent name it`: in the definition `it` of the property `name`, the value is the value
+-- that the text represents.
 abbrev pub IsConsistent : List ℕ → PropertyDefinition → Type 0
 IsConsistent name it = value_of_text name it.text ≡ Some it.value
 
--- `HaveParsedValues entries`: each of the entries `entries` of a layer's map is consistent: the
--- value in its definition is the value that its text represents.
+-- `HaveParsedValues entries`: in the definition of each of the entries `entries` of a layer's map,
+-- the value is the value that the text represents.
 abbrev pub HaveParsedValues : {Z : Type 0} → List (String Z × PropertyDefinition) → Type 0
 HaveParsedValues [] = Unit {0}
 HaveParsedValues (entry ∷ entries) = IsConsistent (chars (string_bytes entry.0)) entry.1 × HaveParsedValues entries
@@ -36,8 +36,8 @@ pub record AreConsistent {Z : Type 0} (entries : List (String Z × PropertyDefin
   pub settled : pairs_in entries ≡ last_values (pairs_in entries)
   pub read : HaveParsedValues entries
 
--- `program_layer program`: the names and texts in the optional shared layer `program`, or an empty
--- list if it is absent.
+-- `program_layer program`: the names and texts of the properties in the shared layer `program`, or
+-- an empty list if it is absent.
 abbrev pub program_layer : {Z : Type 0} → Option (Rc (List Variable) Z) → List Variable
 program_layer None = []
 program_layer (Some layer) = rc_value layer
