@@ -22,8 +22,8 @@ has_property pairs name = list_any (is_named name) pairs
 abbrev pub empty_case : List ℕ → CaseDef
 empty_case name = record { name = name; props = []; fault = None }
 
--- `with_property block name value`: the test case `block` with the property `name` and its value
--- `value` appended.
+-- `with_property block name value`: the test case `block` with the property `name` appended, whose
+-- value is `value`.
 abbrev pub with_property : CaseDef → List ℕ → List ℕ → CaseDef
 with_property block name value = record { name = block.name; props = block.props ++ record { name = name; value = value } ∷ []; fault = block.fault }
 

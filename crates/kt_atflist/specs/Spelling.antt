@@ -17,7 +17,7 @@ use Rattle.kt_atflist.specs.declared.list_fault.ListFault.{ListFault}
 use Rattle.kt_atflist.specs.declared.listing.CaseDef.{CaseDef}
 use Rattle.kt_atflist.specs.Read.{Read}
 
--- `Outcome`: the cases of a list, or its fault.
+-- `Outcome`: the result of parsing a list: the cases of the list, or its fault.
 abbrev pub Outcome : Type 0
 Outcome = Result (List CaseDef) ListFault
 
@@ -43,9 +43,9 @@ pub data IsNextState (cases : List CaseDef) (line : List ℕ) : Option CaseDef �
       → IsNextState cases line (Some block) (record { cases = cases; block = Some (with_property block property (lossy value)) })
   ends : (block : CaseDef) → is_empty line ≡ true → IsNextState cases line (Some block) (record { cases = cases ++ block ∷ []; block = None })
 
--- `IsBlockSequence cases block lines all`: the lines `lines` are valid and complete a list of the
--- cases `all`. Before them, the finished blocks have the cases `cases`, and `block` is the block
--- that has begun, or nothing between two blocks.
+-- `IsBlockSequence cases block lines all`: the lines `lines` are valid, and a list that ends with
+-- them has the cases `all`. Before them, the finished blocks have the cases `cases`, and `block` is
+-- the block that has begun, or nothing between two blocks.
 pub data IsBlockSequence : List CaseDef → Option CaseDef → List (List ℕ) → List CaseDef → Type 0 where
   no_block : (cases : List CaseDef) → IsBlockSequence cases None [] cases
   last_block : (cases : List CaseDef) (block : CaseDef) → IsBlockSequence cases (Some block) [] (cases ++ block ∷ [])
@@ -54,8 +54,8 @@ pub data IsBlockSequence : List CaseDef → Option CaseDef → List (List ℕ) �
 
 -- ---- faulty lines
 
--- `is_repeated_property pairs name`: one of the properties `pairs` already has the name `name`. False if
--- `name` is absent.
+-- `is_repeated_property pairs name`: one of the properties `pairs` already has the name `name`.
+-- False if `name` is absent.
 abbrev pub is_repeated_property : List Variable → Option (List ℕ) → Bool
 is_repeated_property pairs None = false
 is_repeated_property pairs (Some property) = has_property pairs property

@@ -8,7 +8,7 @@ use kt_metadata::{PropFault, Props};
 use std::alloc::Global;
 use std::marker::Model;
 
-/// A block of a list, as far as the block was read: a test case with its properties so far.
+/// A block of a list of test cases, up to the last line read: one case with its properties so far.
 ///
 /// In contracts, a `Block` is the test case, without a fault.
 #[derive(Drop)]
@@ -70,7 +70,7 @@ impl Block {
         self.props.set(name, value)
     }
 
-    /// Converts the finished block to its test case.
+    /// Converts the finished block to the test case that it describes.
     pub fn into_case(self) -> CaseDef
         ensures { result ≡ self }
     {

@@ -6,7 +6,7 @@ use kt_base::{NoMemory, Text};
 use std::alloc::Global;
 use std::marker::Model;
 
-/// A set of case names, with lookup in constant time.
+/// A set of the names of test cases, with lookup in constant time.
 ///
 /// In contracts, a `NameSet` is the list of the names in the order of their insertion.
 #[derive(Drop)]

@@ -12,7 +12,7 @@ use std::alloc::Global;
 /// The name of the only case of a TAP or plain program.
 const MAIN_CASE_NAME: &str = "main";
 
-/// The name of the case of a program whose list can't be used.
+/// The name of the only case of a program whose list can't be used.
 const LIST_CASE_NAME: &str = "__test_cases_list__";
 
 /// Appends `case` to `cases`, with the properties `props` of its program added.
@@ -47,10 +47,10 @@ fn overlay_each(
     Ok(cases)
 }
 
-/// Adds the properties `props` of the program to each case in `found`. The cases share one
-/// reference-counted copy of `props`.
+/// Adds the properties `props` of the program to each case in `found`.
 ///
-/// A property of a case replaces the same property of the program.
+/// The cases share one reference-counted copy of `props`. A property of a case replaces the same
+/// property of the program.
 fn overlay_shared(
     alloc: Global,
     props: &Props,
@@ -125,10 +125,10 @@ pub fn cases(
     }
 }
 
-/// Theorem: by the rules, a list's text has at most one result, and a program at most one list of
+/// Theorem: the text of a list has at most one result of parsing, and a program at most one list of
 /// cases.
 ///
-/// The result of a text consists of the cases of its list, or is its first fault.
+/// The result of parsing consists of the cases of the list, or is the first fault of the text.
 pub fn theorem_of_one_case_list()
     ensures text { (text : List ℕ) → (first : Result (List CaseDef) ListFault)
         → (second : Result (List CaseDef) ListFault) → IsResult text first → IsResult text second

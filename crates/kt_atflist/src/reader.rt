@@ -9,7 +9,7 @@ use crate::{CaseDef, ListCause, ListFault};
 use kt_base::{Items, line_length};
 use std::alloc::Global;
 
-/// Splits `text` after its first line: returns the line without its newline, and the rest.
+/// Splits `text` into its first line, without the newline, and the bytes after that line.
 ///
 /// Returns `None` if `text` is empty.
 fn split_first_line(text: &[u8]) -> Option<(&[u8], &[u8])>
@@ -30,7 +30,7 @@ fn split_first_line(text: &[u8]) -> Option<(&[u8], &[u8])>
 /// The first line of each list of test cases, without its newline (atf-test-program(1)).
 const LIST_HEADER: &[u8] = b"Content-Type: application/X-atf-tp; version=\"1\"";
 
-/// Parses `text`, the blocks of a list from line 3 on, and returns the cases.
+/// Parses `text`, the lines of a list of test cases from line 3 on, and returns the cases.
 fn read_rest(alloc: Global, text: &[u8]) -> Result<Items<CaseDef>, ListFault>
     ensures { IsResultOrOutOfMemory result (read_rest 3 initial_state (lines text.now)) }
 {
@@ -49,7 +49,7 @@ fn read_rest(alloc: Global, text: &[u8]) -> Result<Items<CaseDef>, ListFault>
     Ok(cases)
 }
 
-/// Parses `text`, the lines of a list from line 3 on, and returns the cases.
+/// Parses `text`, the blocks of a list of test cases from line 3 on, and returns the cases.
 ///
 /// Fails with `EmptyList` if line 3 is missing.
 fn read_blocks(alloc: Global, text: &[u8]) -> Result<Items<CaseDef>, ListFault>
@@ -64,7 +64,7 @@ fn read_blocks(alloc: Global, text: &[u8]) -> Result<Items<CaseDef>, ListFault>
     read_rest(alloc, text)
 }
 
-/// Parses `text`, the lines of a list from line 2 on, and returns the cases.
+/// Parses `text`, the lines of a list of test cases from line 2 on, and returns the cases.
 ///
 /// Fails with `BadHeader` if line 2 is missing or not empty.
 fn read_from_line_2(alloc: Global, text: &[u8]) -> Result<Items<CaseDef>, ListFault>

@@ -8,7 +8,7 @@ use kt_base::Items;
 use std::alloc::Global;
 use std::marker::Model;
 
-/// A state of the reader of a list, between two lines.
+/// A state of the reader of a list of test cases, between two lines of the list.
 ///
 /// In contracts, a `ListReader` is a `Read`: the cases of the finished blocks, and the block that
 /// has begun, if any.
@@ -49,7 +49,7 @@ impl ListReader {
     }
 }
 
-/// A result of reading one line of a list.
+/// A result of reading one line of a list of test cases.
 #[derive(Drop)]
 pub enum ListStep {
     /// The line is valid. The field is the state of the reader after the line.

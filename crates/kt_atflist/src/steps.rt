@@ -95,10 +95,10 @@ fn try_set(block: &mut Block, name: &Text, value: &Text) -> Result<bool, NoMemor
     }
 }
 
-/// Sets the property `name` of `block` to `value`. Returns the cause of the fault, or `None` if
-/// there is no fault.
+/// Sets the property `name` of `block` to `value`.
 ///
-/// If `name` is `None`, no property has the key of the line, and the cause is `UnknownKey`.
+/// Returns the cause of the fault, or `None` if there is no fault. If `name` is `None`, no property
+/// has the key of the line, and the cause is `UnknownKey`.
 fn set_property(
     block: &mut Block,
     name: &Option<Text>,
@@ -122,7 +122,7 @@ fn set_property(
     }
 }
 
-/// Sets a property of `block` to `value`. `key` is the key of the property in a list.
+/// Sets the property of `block` whose key in a list is `key` to `value`.
 ///
 /// Returns the cause of the fault, or `None` if there is no fault.
 fn set_key(
@@ -142,8 +142,7 @@ fn set_key(
     set_property(block, &name, value)
 }
 
-/// Decodes `key` and `value` as UTF-8, and sets the property of `block` with this key to this
-/// value.
+/// Decodes `key` and `value` as UTF-8, and sets the property of `block` with the decoded key.
 ///
 /// Returns the cause of the fault, or `None` if there is no fault.
 fn set_decoded_key(
@@ -161,7 +160,7 @@ fn set_decoded_key(
     set_key(alloc, block, &key, &value)
 }
 
-/// Parses `line` as `KEY: VALUE`, and sets the property of `block` with this key to this value.
+/// Parses `line` as `KEY: VALUE`, and sets the property of `block` with the key `KEY` to `VALUE`.
 ///
 /// Returns the cause of the fault in the line, or `None` if the line has no fault.
 fn set_from_line(
@@ -186,7 +185,7 @@ fn set_from_line(
     }
 }
 
-/// Processes `line`, a line that sets a property of `block`.
+/// Processes `line`, a line of `block` that sets a property.
 ///
 /// `cases` are the cases of the earlier blocks. `names` are the names of these cases and of
 /// `block`. Returns the state after the line, or the cause of the fault in the line.

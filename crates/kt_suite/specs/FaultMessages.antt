@@ -39,8 +39,8 @@ cause_message other = fixed_message other
 abbrev pub message_with_line : SuiteFault → List ℕ
 message_with_line fault = fault.path ++ codes ":" ++ decimal fault.line ++ codes ": " ++ cause_message fault.cause
 
--- `message_by_cause cause fault`: the message of the error `fault`, whose cause is `cause`. If the cause is
--- `NoMemory`, the message has no path and no line.
+-- `message_by_cause cause fault`: the message of the error `fault`, whose cause is `cause`. If the
+-- cause is `NoMemory`, the message has no path and no line.
 abbrev pub message_by_cause : SuiteCause → SuiteFault → List ℕ
 message_by_cause (cause.NoMemory refusal) fault = codes "out of memory"
 message_by_cause _ fault = message_with_line fault
@@ -63,7 +63,7 @@ abbrev pub select_message : SelectFault → List ℕ
 select_message (select.NoMemory refusal) = codes "out of memory"
 select_message select.TooMany = codes "too many cases"
 
--- `read_message fault`: the message of the error `fault`, with which the read of a file failed.
+-- `read_message fault`: the message of the error `fault` of reading a file.
 abbrev pub read_message : ReadFault → List ℕ
 read_message read.Missing = codes "no such file"
 read_message read.Failed = codes "file could not be read"

@@ -15,8 +15,8 @@ counts component = not (is_empty component) && not (bytes_eq component (codes ".
 abbrev pub components : List ℕ → List (List ℕ)
 components path = filter counts (slice_split is_slash path)
 
--- `normalized_path path`: the path `path` without the components that are empty or `.`. A slash (47)
--- separates the others.
+-- `normalized_path path`: the path `path` without the components that are empty or `.`. A slash
+-- (47) separates the other components.
 abbrev pub normalized_path : List ℕ → List ℕ
 normalized_path path = join_with_byte 47 (components path)
 

@@ -31,8 +31,8 @@ pub data Mark : Type 0 where
   ProgramMark : Site → Program → Mark
   Fault : SuiteFault → Mark
 
--- `Part`: a part of the events of one file: a mark, or a statement at a site that includes the file
--- at a path.
+-- `Part`: a part of the events of reading one file: a mark, or an `include` statement with its site
+-- and the path of the included file.
 pub data Part : Type 0 where
   OneMark : Mark → Part
   Includes : Site → List ℕ → Part
@@ -44,8 +44,8 @@ abbrev pub lookup_mark : Site → Program → Bool → Mark
 lookup_mark at program true = ProgramMark at program
 lookup_mark at program false = Fault (site_fault at MissingProgram)
 
--- `statement_parts at there meaning`: the parts of a statement at the site `at` with the meaning `meaning`.
--- `there` is true if a file is at the path of the program that the statement registers.
+-- `statement_parts at there meaning`: the parts of a statement at the site `at` with the meaning
+-- `meaning`. `there` is true if a file is at the path of the program that the statement registers.
 abbrev pub statement_parts : Site → Bool → Meaning → List Part
 statement_parts at there (meaning.Wrong cause) = OneMark (Fault (site_fault at cause)) ∷ []
 statement_parts at there (meaning.Suite name) = []
@@ -93,9 +93,9 @@ include_fault files path =
     if list_any (bytes_eq path) files then Some IncludeLoop
     else if nat_le depth_limit (length files) then Some TooDeep else None
 
--- `Unfolds files parts marks`: the parts `parts` have the marks `marks` if the files `files` are
--- open. An include has its error as its mark, or the mark of a file and the marks of reading that
--- file.
+-- `Unfolds files parts marks`: reading the parts `parts` while the files `files` are open has the
+-- marks `marks`. The mark of an include is its error. If it has none, its marks are that of the
+-- file and those of reading the file.
 pub data Unfolds : List (List ℕ) → List Part → List Mark → Type 0 where
   end : (files : List (List ℕ)) → Unfolds files [] []
   says : (files : List (List ℕ)) (mark : Mark) (parts : List Part) (marks : List Mark)

@@ -42,8 +42,8 @@ faults_in [] = []
 faults_in (Fault fault ∷ marks) = fault ∷ faults_in marks
 faults_in (other ∷ marks) = faults_in marks
 
--- `DecidesNothing marks`: none of the marks `marks` decides the result: none is an error, and no file
--- or program exceeds its limit.
+-- `DecidesNothing marks`: none of the marks `marks` decides the result: none is an error, and the
+-- files and the programs don't exceed their limits.
 pub record DecidesNothing (marks : List Mark) : Type 0 where
   pub faultless : faults_in marks ≡ []
   pub files : files_in marks ≤ file_limit
@@ -68,8 +68,8 @@ pub data Registered (asked : List Asked) (root : List ℕ) : Outcome → Type 0 
       → Decides (files_in front) (length (programs_in front)) mark fault → asked ≡ calls_in front
       → Registered asked root (Err fault)
 
--- `IsAtMostNextCall marks asked`: the list `asked` of calls is empty, or contains only the call with which
--- the marks `marks` begin, with any result.
+-- `IsAtMostNextCall marks asked`: the list `asked` of calls is empty, or contains only the call
+-- with which the marks `marks` begin, with any result.
 pub data IsAtMostNextCall : List Mark → List Asked → Type 0 where
   no_question : (marks : List Mark) → IsAtMostNextCall marks []
   thrown_away : (question other : Asked) (marks : List Mark) → IsSameCall question other

@@ -12,7 +12,7 @@ use Rattle.kt_suite.specs.declared.table.Key.{Key}
 use Rattle.kt_suite.specs.declared.table.Key.TheVariants as key
 use Rattle.kt_suite.specs.Calls.{key_named}
 
--- `definition pair`: the key in the pair `pair` of a table, with its value as a text.
+-- `definition pair`: the key of the pair `pair` of a table, with the pair's value as a text.
 abbrev pub definition : Pair → Variable
 definition pair = record { name = pair.name; value = text_of pair.value }
 
@@ -59,7 +59,7 @@ table_of pairs = record {
   props = last_values (filter is_property pairs);
 }
 
--- `cause_or_value cause value`: the error with the cause `cause` if the cause is present, otherwise the
+-- `cause_or_value cause value`: the error with the cause `cause` if it is present, otherwise the
 -- value `value`.
 abbrev pub cause_or_value : {T : Type 0} → Option SuiteCause → T → Result T SuiteCause
 cause_or_value None there = Ok there

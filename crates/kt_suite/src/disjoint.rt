@@ -23,14 +23,14 @@ fn do_overlap(filter: &Filter, other: &Filter) -> bool
     covers(filter, other) || covers(other, filter)
 }
 
-/// Returns the first filter in `earlier` that overlaps with `filter`, if any.
+/// Returns the first filter in `earlier` that overlaps with `filter`, or `None` without an overlap.
 fn first_overlap<'a>(filter: &Filter, earlier: &'a [Filter]) -> Option<&'a Filter>
     ensures { option_copied result ≡ find (do_overlap filter.now) earlier.now }
 {
     earlier.iter().find(|other| do_overlap(filter, *other))
 }
 
-/// Returns the error of the filter at `position` in `filters`, or `None` without an error.
+/// Returns the error of the filter at `position` in `filters`, or `None` if it has no error.
 ///
 /// A filter has an error if it overlaps with an earlier filter.
 fn overlap_fault(filters: &[Filter], position: usize) -> Option<FilterFault>
@@ -51,8 +51,10 @@ fn overlap_fault(filters: &[Filter], position: usize) -> Option<FilterFault>
 ///
 /// # Errors
 ///
-/// - `Repeated`: that filter is equal to the first earlier filter with which it overlaps.
-/// - `NotDisjoint`: that filter is not equal to the first earlier filter with which it overlaps.
+/// - `Repeated`: the filter at this position is equal to the first earlier filter that overlaps
+///   with it.
+/// - `NotDisjoint`: the filter at this position is not equal to the first earlier filter that
+///   overlaps with it.
 pub fn check_disjoint(filters: &[Filter]) -> Result<(), FilterFault>
     ensures ok { OnOk result (IsDisjoint filters.now) }
     ensures first { IfErr result (IsFirstFault filters.now) }

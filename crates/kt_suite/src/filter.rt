@@ -10,8 +10,8 @@ use thiserror::Error;
 
 /// Errors returned by [`Filter::parse`] and [`check_disjoint`](crate::check_disjoint).
 ///
-/// A number is a position in the list of filters, from 0. `Display` prints the message without the
-/// filter (this profile).
+/// The field of a variant is a position in the list of filters, from 0. `Display` prints the
+/// message without the filter (this profile).
 #[derive(Clone, Copy, Debug, Error)]
 #[error("{}", self.message())]
 pub enum FilterFault {
@@ -25,7 +25,7 @@ pub enum FilterFault {
     EmptyCase,
     /// The filter at this position is equal to an earlier filter.
     Repeated(usize),
-    /// The filter at this position is not equal to an earlier filter, but both match some case.
+    /// The filter at this position differs from an earlier filter, but both match some case.
     NotDisjoint(usize),
 }
 
@@ -106,7 +106,7 @@ impl Filter {
         }
     }
 
-    /// Returns `true` if the filter matches some case that the program at `path` could have.
+    /// Returns `true` if the program at `path` could have a case that the filter matches.
     ///
     /// Allocates nothing.
     pub fn may_match(&self, path: &Text) -> bool
@@ -129,10 +129,9 @@ fn case_fault(case_name: &Option<Text>) -> Option<FilterFault>
     }
 }
 
-/// Returns the first error of a filter's text with the path `path` and the case `case_name`, if
-/// any.
+/// Returns the first error of a filter with the path `path` and the case `case_name`, else `None`.
 ///
-/// The errors are an empty path, an absolute path, and an empty name of the case.
+/// The errors are an empty path, an absolute path, and an empty name of the case, in this order.
 fn parts_fault(path: &Text, case_name: &Option<Text>) -> Option<FilterFault>
     ensures { result ≡ parts_fault path.now case_name.now }
 {

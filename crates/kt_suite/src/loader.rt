@@ -20,7 +20,7 @@ fn fault_of_read(alloc: Global, file: &Text, why: ReadFault) -> SuiteFault
     }
 }
 
-/// Returns the line of the error `why` of a script, from 1, or 0 if the error has no line.
+/// Returns the number of the line with the error `why` of a script, or 0 if the error has no line.
 fn script_fault_line(why: ScriptFault) -> u32
     ensures { result ≡ script_line why }
 {
@@ -79,7 +79,7 @@ pub fn parse_kyuafile<T: Tree>(
     }
 }
 
-/// Appends `file` to the open files of `registry`, and returns the registry.
+/// Appends the path `file` to the open files of `registry`, and returns the registry.
 fn push_open_file(registry: Registry, file: &Text) -> Result<Registry, NoMemory>
     ensures { IfOk result (λ next. next
         ≡ (record registry { reading = registry.reading ++ file.now ∷ [] })) }

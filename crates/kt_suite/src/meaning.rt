@@ -2,9 +2,10 @@ use crate::SuiteCause;
 use kt_base::{Interface, Text};
 use kt_metadata::Props;
 
-/// A meaning of a statement after the first statement of a Kyuafile: its effect, or its error.
+/// A meaning of a statement of a Kyuafile: the effect of the statement, or its error.
 ///
-/// The meaning does not depend on the files of the tree.
+/// The statement is not the first of its file. The meaning does not depend on the files of the
+/// tree.
 #[derive(Drop)]
 pub enum Meaning {
     /// The statement sets this test suite for the programs after it.

@@ -28,7 +28,7 @@ impl Drop for Registry {
 }
 
 impl Registry {
-    /// Returns the registered programs.
+    /// Converts the registry to the list of its registered programs.
     pub fn into_programs(self) -> Items<Program>
         ensures { result ≡ self.programs }
     {
@@ -40,7 +40,7 @@ impl Registry {
         programs
     }
 
-    /// Removes the last open file, whose statements were all executed, and returns the registry.
+    /// Removes the last open file, whose statements are executed, and returns the registry.
     pub fn end(self) -> Registry
         ensures { result ≡ (record self { reading = take (length self.reading - 1) self.reading }) }
     {
@@ -59,7 +59,7 @@ impl Registry {
     }
 }
 
-/// A step of the loader after a statement.
+/// A next step of the loader, after it executed a statement.
 #[derive(Drop)]
 pub enum LoadStep {
     /// The next statement of the file is executed, with this registry.

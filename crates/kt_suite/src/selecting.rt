@@ -18,7 +18,7 @@ use thiserror::Error;
 pub enum SelectFault {
     /// An allocation failed.
     NoMemory(NoMemory),
-    /// There are more than 100,000 items.
+    /// There are more than 100,000 items to select from.
     TooMany,
 }
 

@@ -28,7 +28,7 @@ fn contains_path(files: &[Text], path: &Text) -> bool
     files.iter().any(|file| *path == *file)
 }
 
-/// Returns the cause of the error if the file at `path` is included while `files` are open.
+/// Returns the cause of the error of including the file at `path` while `files` are open.
 ///
 /// Returns `None` if the file may be included.
 fn include_cause(files: &[Text], path: &Text) -> Option<SuiteCause>
@@ -43,8 +43,9 @@ fn include_cause(files: &[Text], path: &Text) -> Option<SuiteCause>
     }
 }
 
-/// Returns `registry` with the included file at `path` counted, or the error if the file may not be
-/// included.
+/// Counts the included file at `path` in `registry`, and returns the registry.
+///
+/// Fails if the file is open or a limit of the profile is reached.
 ///
 /// The `include` statement is in the line `line` of `file`.
 fn count_include(
@@ -67,11 +68,11 @@ fn count_include(
     Ok(registry)
 }
 
-/// Returns the step that reads the included file `name`, or the error if the file may not be
-/// included.
+/// Returns the step of the loader that reads the included file `name`.
 ///
 /// The step has `registry`, with the included file counted. The `include` statement is in the line
-/// `line` of `file`. `name` is relative to the directory of `file`.
+/// `line` of `file`. `name` is relative to the directory of `file`. Fails if the file may not be
+/// included, or if an allocation fails.
 fn include(
     alloc: Global,
     file: &Text,
@@ -93,7 +94,7 @@ fn include(
     }
 }
 
-/// Registers the program `named`, and returns the registry with this program.
+/// Registers the program `named` in `registry`, and returns the registry.
 ///
 /// The path in `named` is a name in the directory of `file`. The statement that registers the
 /// program is in the line `line` of `file`. Fails if no regular file is at the path of the program,

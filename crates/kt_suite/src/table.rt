@@ -24,8 +24,7 @@ enum Key {
     Unknown,
 }
 
-/// Returns the kind of a key that is spelled `name`, in the table of a call that registers a
-/// program.
+/// Returns the kind of the key `name` in the table of a call that registers a program.
 #[tactic(auto, unfolding(crate::proofs::Common::chars))]
 fn key_kind(name: &Text) -> Key
     ensures { result ≡ key_named name.now }
@@ -41,7 +40,7 @@ fn key_kind(name: &Text) -> Key
     }
 }
 
-/// A table of a call that registers a program, with the last value of each key.
+/// A table in a call that registers a program, with the last value of each key.
 pub struct ProgramTable {
     /// The name of the program, which may be empty, or `None` if the table has no key `name`.
     pub name: Option<Text>,
@@ -97,9 +96,9 @@ impl ProgramTable {
     }
 }
 
-/// Returns the table `found` with the property `name` set to `value`, or the cause `BadValue`.
+/// Returns the table `found` with the property `name` set to `value`.
 ///
-/// The cause is returned if the property does not accept `value`.
+/// Returns the cause `BadValue` if the property does not accept `value`.
 fn set_property(
     found: ProgramTable,
     name: &Text,
@@ -117,9 +116,9 @@ fn set_property(
     }
 }
 
-/// Returns the table `found` with the declaration of `pair`, or the cause of the error in `pair`.
+/// Returns the table `found` with the key of `pair` set, or the cause of the error in `pair`.
 ///
-/// The declaration replaces an earlier declaration of its key.
+/// The value of `pair` replaces an earlier value of the same key.
 fn set_pair(
     alloc: Global,
     found: ProgramTable,

@@ -3,9 +3,9 @@ ghost use Rattle.kt_suite.specs.Common.{is_within};
 
 use kt_base::Text;
 
-/// Returns `true` if the byte of `path` at the index `place` is a slash, or if there is no byte.
+/// Returns `true` if a component of `path` can end before the index `place`.
 ///
-/// A component of `path` can end only at such an index.
+/// The byte at this index is a slash, or `path` has no such byte.
 fn ends_component_at(path: &[u8], place: usize) -> bool
     ensures { result ≡ is_within [] (drop place path.now) }
 {
@@ -15,7 +15,8 @@ fn ends_component_at(path: &[u8], place: usize) -> bool
     }
 }
 
-/// Returns `true` if `rest` is empty or begins with a slash, so that a component can end before it.
+/// Returns `true` if a component of a path can end before `rest`: it is empty or begins with a
+/// slash.
 fn ends_component(rest: &str) -> bool
     ensures { result ≡ is_within [] (chars rest.now) }
 {

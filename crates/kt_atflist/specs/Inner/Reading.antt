@@ -22,7 +22,7 @@ abbrev pub begin_block : List CaseDef → List ℕ → ListStep
 begin_block cases name = if is_listed cases name then FaultyLine RepeatedIdent else NextState (record { cases = cases; block = Some (empty_case name) })
 
 -- `case_name_in ident`: the name of a case whose bytes are `ident`, or the cause of a fault if
--- `ident` is absent or isn't a name.
+-- `ident` is absent or can't be the name of a case.
 abbrev pub case_name_in : Option (List ℕ) → Result (List ℕ) ListCause
 case_name_in None = Err NoIdent
 case_name_in (Some ident) = if is_case_name ident then Ok (lossy ident) else Err BadValue
@@ -33,7 +33,8 @@ abbrev pub first_line_step : List CaseDef → Result (List ℕ) ListCause → Li
 first_line_step cases (Err cause) = FaultyLine cause
 first_line_step cases (Ok name) = begin_block cases name
 
--- `BlockResult`: the result of a line that sets a property: the changed block, or the cause of a fault.
+-- `BlockResult`: the result of a line that sets a property: the changed block, or the cause of the
+-- line's fault.
 abbrev pub BlockResult : Type 0
 BlockResult = Result CaseDef ListCause
 
@@ -58,9 +59,9 @@ set_property block (Some name) value =
 abbrev pub set_key : CaseDef → List ℕ → List ℕ → BlockResult
 set_key block key value = if bytes_eq key (codes "ident") then Err RepeatedKey else set_property block (name_of_key key) value
 
--- `set_from_line block key value`: the block `block` after a line that sets a property, or the cause of
--- the line's fault. `key` are the bytes of the key in the line, and `value` are those of the value.
--- If `value` is absent, the cause is `BadLine`.
+-- `set_from_line block key value`: the block `block` after a line that sets a property, or the
+-- cause of the line's fault. `key` are the bytes of the key in the line, and `value` are those of
+-- the value. If `value` is absent or `key` is empty, the cause is `BadLine`.
 abbrev pub set_from_line : CaseDef → List ℕ → Option (List ℕ) → BlockResult
 set_from_line block key None = Err BadLine
 set_from_line block key (Some value) = if is_empty key then Err BadLine else set_key block (lossy key) (lossy value)

@@ -29,8 +29,8 @@ with_props found (Err cause) = Err cause
 abbrev pub table_with : List Variable → Variable → Result ProgramTable SuiteCause
 table_with before pair = cause_or_value (pair_fault pair) (table_of (before ++ pair ∷ []))
 
--- `path_and_component path component`: the path `path` with the component `component` appended. A slash (47)
--- separates them unless `path` is empty.
+-- `path_and_component path component`: the path `path` with the component `component` appended. A
+-- slash (47) separates them unless `path` is empty.
 abbrev pub path_and_component : List ℕ → List ℕ → List ℕ
 path_and_component [] component = component
 path_and_component (c ∷ path) component = c ∷ path ++ 47 ∷ component
@@ -59,8 +59,8 @@ is_match filters item place = option_map_or (matches_item item) (slice_get filte
 abbrev pub is_miss : List Filter → Item → ℕ → Bool
 is_miss filters item place = not (is_match filters item place)
 
--- `IsFaultAt file line cause fault`: `fault` is the error with the cause `cause` in the line `line` of
--- the file `file`, or the error of a failed allocation.
+-- `IsFaultAt file line cause fault`: `fault` is the error with the cause `cause` in the line `line`
+-- of the file `file`, or the error of a failed allocation.
 abbrev pub IsFaultAt : List ℕ → ℕ → SuiteCause → SuiteFault → Type 0
 IsFaultAt file line cause fault = IsNoMemory fault ⊎ (fault ≡ fault_at file line cause)
 

@@ -13,8 +13,8 @@ use Rattle.kt_suite.specs.Marks.{Site, site_fault, lookup_mark, Mark, CallMark, 
 use Rattle.kt_suite.specs.Meanings.{opening_fault}
 use Rattle.kt_suite.specs.Registered.{file_limit, program_limit, calls_in, Decides, IsAtMostNextCall}
 
--- `AddsMarks r marks after`: the registry `after` is the registry `r` with the files and programs of
--- `marks` added. No mark is an error, and no file or program exceeds its limit.
+-- `AddsMarks r marks after`: the registry `after` is the registry `r` with the files and programs
+-- of `marks` added. No mark is an error, and no file or program exceeds its limit.
 abbrev pub AddsMarks : Registry → List Mark → Registry → Type 0
 AddsMarks r [] after = after ≡ r
 AddsMarks r (CallMark question ∷ marks) after = AddsMarks r marks after
@@ -54,9 +54,9 @@ pub record MeaningGives (files : List (List ℕ)) (at : Site) (meaning : Meaning
   pub unfolds : Unfolds files (statement_parts at there meaning) marks
 
 module _ {S : Type 0} (leads : S → Asked → S → Type 0) (old new : S) where
-  -- `RegistersProgram at r program result`: the statement at the site `at` registers the program `program`.
-  -- `result` is the registry `r` with the program appended, or an error: the program's file is
-  -- missing, the program exceeds the limit, or an allocation failed.
+  -- `RegistersProgram at r program result`: the statement at the site `at` registers the program
+  -- `program`. `result` is the registry `r` with the program appended, or an error: the program's
+  -- file is missing, the program exceeds the limit, or an allocation failed.
   abbrev pub RegistersProgram : Site → Registry → Program → Result Registry SuiteFault → Type 0
   RegistersProgram at r program result =
       LoadsMarks leads old new (λ marks. (there : Bool) × (marks ≡ CallMark (Exists program.path there) ∷ lookup_mark at program there ∷ [])) r result
