@@ -18,7 +18,7 @@ three_digits n = digit (n / 100) ∷ digit (n / 10) ∷ digit n ∷ []
 abbrev pub four_digits : ℕ → List ℕ
 four_digits n = digit (n / 1000) ∷ digit (n / 100) ∷ digit (n / 10) ∷ digit n ∷ []
 
--- `seconds millis`: a duration of `millis` milliseconds in seconds, with three digits after the
--- point.
+-- `seconds millis`: the bytes that are printed for a duration of `millis` milliseconds: seconds
+-- with three digits after the point.
 abbrev pub seconds : ℕ → List ℕ
 seconds millis = decimal (millis / 1000) ++ codes "." ++ three_digits (millis % 1000)

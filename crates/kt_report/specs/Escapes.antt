@@ -1,4 +1,4 @@
--- The characters of XML.
+-- Characters and texts, escaped for XML.
 use Rattle.std.specs.Prelude.{ℕ, Bool, if◌then◌else◌, ◌==◌, nat_lt, ◌||◌, List, [], ◌∷◌, codes, flat_map}
 
 -- `other c`: the character `c`, or a question mark if `c` is below 32, U+FFFE or U+FFFF. The

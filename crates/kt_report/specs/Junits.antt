@@ -52,6 +52,7 @@ ending = codes "</testsuite>\n"
 abbrev pub junit_bytes : Run → List ℕ
 junit_bytes run = heading run ++ flat_map case_bytes run.entries ++ ending
 
--- `junit_layout run`: the layout of the JUnit report of `run` over its entries.
+-- `junit_layout run`: the bytes of the JUnit report of `run`, as functions of the entries that were
+-- read so far.
 abbrev pub junit_layout : Run → Layout
 junit_layout run = record { first = λ shown. heading run ++ flat_map case_bytes shown; next = λ shown e. []; last = ending }

@@ -38,7 +38,7 @@ title ExpectedFailure = codes "Expected failures"
 title Broken = codes "Broken tests"
 title Failed = codes "Failed tests"
 
--- `order`: the kinds in the order of their sections.
+-- `order`: the kinds of verdicts, in the order of their sections in the text report.
 abbrev pub order : List Kind
 order = Passed ∷ Skipped ∷ ExpectedFailure ∷ Broken ∷ Failed ∷ []
 
@@ -91,9 +91,9 @@ abbrev pub titled_lines : Bool → Option Kind → List Entry → List ℕ
 titled_lines verbose before [] = []
 titled_lines verbose before (e ∷ entries) = title_line_after before e.verdict.kind ++ (entry_bytes verbose e ++ titled_lines verbose (Some e.verdict.kind) entries)
 
--- `sections_layout verbose before end`: the layout of the lines of entries with their titles.
--- `before` is the kind of the entry before them, and the bytes `end` follow them. The lines have
--- properties if `verbose` is true.
+-- `sections_layout verbose before end`: the `Layout` of a report with a line for each entry and a
+-- title for each section. `before` is the kind of the entry before them, and the bytes `end` follow
+-- them. The lines have properties if `verbose` is true.
 abbrev pub sections_layout : Bool → Option Kind → List ℕ → Layout
 sections_layout verbose before end = record { first = titled_lines verbose before; next = λ shown e. title_line_after (last_kind before shown) e.verdict.kind; last = end }
 
@@ -154,8 +154,8 @@ summary date run = summary_title_bytes date run ++ totals_bytes run.entries ++ c
 abbrev pub text_bytes : Date → List Kind → Bool → Run → List ℕ
 text_bytes date kinds verbose run = sections verbose kinds run.entries ++ summary date run
 
--- `text_layout date verbose run`: the layout of the text report of `run` over the entries of its
--- sections. `date` is the date of the start. If `verbose` is true, the sections have the properties
--- of each case.
+-- `text_layout date verbose run`: the bytes of the text report of `run`, as functions of the
+-- entries that were read so far. `date` is the date of the start. If `verbose` is true, the
+-- sections have the properties of each case.
 abbrev pub text_layout : Date → Bool → Run → Layout
 text_layout date verbose run = sections_layout verbose None (summary date run)

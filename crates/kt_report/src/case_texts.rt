@@ -14,7 +14,7 @@ pub struct CaseTexts {
     pub err: Text,
 }
 
-/// Written out instead of derived, so that a drop is one call.
+/// Implemented instead of derived, so that a drop is one call for the prover.
 impl Drop for CaseTexts {
     fn drop(self) {
         let CaseTexts {

@@ -9,7 +9,8 @@ pub struct EntryOutputs {
     pub cleanup: Output,
 }
 
-/// An interface to the parts of entries that a report reads one entry at a time.
+/// An interface to the properties and the outputs of entries, which a report reads one entry at a
+/// time.
 pub trait Details {
     ghost use Rattle.std.specs.Prelude.{Result};
     ghost use Rattle.kt_base.specs.declared.entry.Entry.{Entry};
@@ -18,12 +19,14 @@ pub trait Details {
     /// The error of a failed read.
     type Fault: Copy;
 
-    /// Specification: reading the properties of an entry leads from the first state to the last,
-    /// and gives the entry with these properties, or an error.
+    /// Specification of a read of properties. `reads_pairs old entry result new`: the read leads
+    /// from the state `old` to `new`. `result` is `entry` with the properties that were read, or an
+    /// error.
     ghost reads_pairs: { Self → Entry → Result Entry Self.Fault → Self → Type 0 };
 
-    /// Specification: reading the outputs of an entry leads from the first state to the last, and
-    /// gives the entry with these outputs, or an error.
+    /// Specification of a read of outputs. `reads_outputs old entry result new`: the read leads
+    /// from the state `old` to `new`. `result` is `entry` with the outputs that were read, or an
+    /// error.
     ghost reads_outputs: { Self → Entry → Result Entry Self.Fault → Self → Type 0 };
 
     /// Reads the properties of `entry`. Returns `None` if `entry` itself contains them.

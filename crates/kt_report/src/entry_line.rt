@@ -5,7 +5,8 @@ use crate::moments::write_seconds;
 use kt_base::{Entry, Kind, OutputFault, Verdict, emit, emit_all};
 use std::io::Write;
 
-/// Writes a colon and the reason of `verdict`, or nothing for a passed case, which has no reason.
+/// Writes a colon, a space and the reason of `verdict`, or nothing for the verdict of a passed
+/// case.
 fn write_reason<W: Write>(verdict: &Verdict, out: &mut W) -> Result<(), OutputFault>
     ensures { Emits (W.contents out.old) (W.contents out.new) (is_err result)
         (printable_reason verdict.now.kind verdict.now.reason) }
@@ -19,8 +20,10 @@ fn write_reason<W: Write>(verdict: &Verdict, out: &mut W) -> Result<(), OutputFa
     }
 }
 
-/// Writes the line of `entry`: program and case, kind and reason of the verdict, and the duration
-/// in seconds (this profile).
+/// Writes the line of `entry` in the output of `test` and in the text report (this profile).
+///
+/// The line has the program and the case, the kind and the reason of the verdict, and the duration
+/// in seconds.
 ///
 /// The function doesn't allocate.
 ///

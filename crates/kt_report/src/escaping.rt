@@ -39,7 +39,8 @@ fn is_unescaped(attribute: bool, byte: u8) -> bool
     is_blank | (byte >= b' ') & !is_named & (byte != 239)
 }
 
-/// Returns `true` if `is_unescaped` returns `true` for each byte of `bytes`.
+/// Returns `true` if each byte of `bytes` is written to XML unchanged, as `is_unescaped` defines
+/// it.
 ///
 /// `attribute` is `true` for an attribute, and `false` for content.
 fn are_unescaped(attribute: bool, bytes: &[u8; 32]) -> bool
@@ -53,7 +54,8 @@ fn are_unescaped(attribute: bool, bytes: &[u8; 32]) -> bool
     all
 }
 
-/// Returns the number of leading bytes of a short `text` for which `is_unescaped` returns `true`.
+/// Returns the number of leading bytes of `text` that are written to XML unchanged
+/// (`is_unescaped`).
 ///
 /// `attribute` is `true` for an attribute, and `false` for content.
 fn short_unescaped_length(attribute: bool, text: &[u8]) -> usize
@@ -66,10 +68,11 @@ fn short_unescaped_length(attribute: bool, text: &[u8]) -> usize
         .count()
 }
 
-/// Returns the number of leading bytes of `text` for which `is_unescaped` returns `true`.
+/// Returns the number of leading bytes of `text` that are written to XML unchanged
+/// (`is_unescaped`).
 ///
-/// `attribute` is `true` for an attribute, and `false` for content. The bytes are tested in chunks
-/// of 32, and the rest one by one.
+/// `attribute` is `true` for an attribute, and `false` for content. Chunks of 32 unchanged bytes
+/// are tested at once, and the bytes after the last such chunk one by one.
 fn unescaped_length(attribute: bool, text: &[u8]) -> usize
     ensures { result ≡ prefix_len
         (λ b. bytes_eq (escaped attribute b) (b ∷ []) && not (b == 239)) text.now }
@@ -116,7 +119,7 @@ fn escape_attribute(alloc: Global, text: &Text) -> Result<Text, NoMemory>
     Ok(escaped)
 }
 
-/// Appends the output `bytes` to `escaped`, escaped for the content of XML.
+/// Appends the output `bytes` to `escaped`, escaped for the content of an XML element.
 ///
 /// Bytes that are not UTF-8 become U+FFFD. An output in UTF-8 is not copied before it is escaped.
 fn push_escaped_output(alloc: Global, escaped: &mut Text, bytes: &[u8]) -> Result<(), NoMemory>
@@ -131,7 +134,7 @@ fn push_escaped_output(alloc: Global, escaped: &mut Text, bytes: &[u8]) -> Resul
     }
 }
 
-/// Returns the outputs `body` of a body and `cleanup` of its cleanup, joined and escaped for XML.
+/// Joins `body` and `cleanup`, the outputs of a body and of its cleanup, and escapes them for XML.
 ///
 /// The escapes are those for content.
 fn escape_outputs(alloc: Global, body: &Bytes, cleanup: &Bytes) -> Result<Text, NoMemory>
@@ -143,7 +146,10 @@ fn escape_outputs(alloc: Global, body: &Bytes, cleanup: &Bytes) -> Result<Text, 
     Ok(escaped)
 }
 
-/// Returns the texts of `entry` with the outputs `body` and `cleanup`, escaped for XML.
+/// Returns the texts of `entry` in the JUnit report, escaped for XML.
+///
+/// `body` and `cleanup` are the outputs of its body and of its cleanup. The outputs in `entry`
+/// itself are not used.
 ///
 /// # Errors
 ///

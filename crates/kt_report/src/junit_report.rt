@@ -11,10 +11,10 @@ use kt_base::{Decimal, Entry, Kind, Output, OutputFault, Run, Text, emit, emit_a
 use std::alloc::Global;
 use std::io::Write;
 
-/// Writes the element for a verdict of the kind `kind` in the JUnit report, if the kind has an
-/// element.
+/// Writes the `skipped`, `failure` or `error` element of a case in the JUnit report, if it has one.
 ///
-/// `reason` is the reason of the verdict, escaped for XML.
+/// `kind` is the kind of the case's verdict. A passed case and an expected failure have no such
+/// element. `reason` is the reason of the verdict, escaped for XML.
 fn write_result_element<W: Write>(kind: Kind, reason: &Text, out: &mut W) -> Result<(), OutputFault>
     ensures { Emits (W.contents out.old) (W.contents out.new) (is_err result)
         (result_element kind reason.now) }
@@ -101,7 +101,7 @@ fn write_heading<W: Write>(run: &Run, out: &mut W) -> Result<(), OutputFault>
 
 /// Writes the element of `entry` in the JUnit report, with the outputs `body` and `cleanup`.
 ///
-/// They are the outputs of the body and of the cleanup of the entry's case.
+/// `body` is the output of the case's body, and `cleanup` is that of its cleanup.
 fn write_with_details<W: Write>(
     alloc: Global,
     entry: &Entry,
@@ -147,7 +147,7 @@ fn write_case<D: Details, W: Write>(
 ///
 /// # Errors
 ///
-/// - `Details`: a read fails. The cases before this entry were written.
+/// - `Details`: reading the outputs of an entry fails. The cases before this entry were written.
 /// - `Report`: an allocation or a write fails. A proper prefix of the report was written.
 pub fn write_junit_report<D: Details, W: Write>(
     alloc: Global,

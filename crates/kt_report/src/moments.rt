@@ -34,7 +34,7 @@ pub fn four_digits(n: u64) -> [u8; 4]
     [digit(n / 1000), digit(n / 100), digit(n / 10), digit(n)]
 }
 
-/// Writes a duration of `millis` milliseconds, in seconds with three digits after the point.
+/// Writes a duration of `millis` milliseconds in seconds, with three digits after the point.
 ///
 /// # Errors
 ///
@@ -50,9 +50,9 @@ pub fn write_seconds<W: Write>(millis: u128, out: &mut W) -> Result<(), OutputFa
 /// The length of a day, in milliseconds.
 const MILLIS_PER_DAY: u64 = 86_400_000;
 
-/// Returns the timestamp that is printed for `moment`.
+/// Returns the timestamp `moment`, or the last timestamp of the year 9999 if `moment` is later.
 ///
-/// This is `moment`, or the last timestamp of the year 9999 if `moment` is later.
+/// Both are in milliseconds since 1970 in UTC.
 fn printable_moment(moment: u64) -> u64
     ensures { result ≡ printable_moment moment }
 {
@@ -76,7 +76,7 @@ pub fn date_of(moment: u64) -> Date
     date_after(printable_moment(moment) / MILLIS_PER_DAY)
 }
 
-/// Writes the time of day that is `millis` milliseconds after midnight.
+/// Writes the time of day that is `millis` milliseconds after midnight, in the form `22:13:20.123`.
 fn write_time_of_day<W: Write>(millis: u64, out: &mut W) -> Result<(), OutputFault>
     ensures { Emits (W.contents out.old) (W.contents out.new) (is_err result) (time_of_day_bytes
         millis) }
@@ -100,8 +100,8 @@ fn write_date<W: Write>(date: Date, out: &mut W) -> Result<(), OutputFault>
 
 /// Writes the timestamp `moment`, whose date is `date`, as `2023-11-14T22:13:20.123Z`.
 ///
-/// `moment` is in milliseconds since 1970 in UTC. The last timestamp of the year 9999 is written
-/// for a later one.
+/// `moment` is in milliseconds since 1970 in UTC. For a timestamp after the year 9999, the last
+/// timestamp of that year is written.
 ///
 /// # Errors
 ///

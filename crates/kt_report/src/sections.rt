@@ -62,9 +62,11 @@ fn title(kind: Kind) -> &'static [u8]
     }
 }
 
-/// Writes the title of the section of `kind` in the text report, if the section begins.
+/// Writes the title of the section of `kind` in the text report, unless the title was written
+/// before.
 ///
-/// `before` is the kind of the preceding entry. If it is `kind`, the section has begun already.
+/// `before` is the kind of the preceding entry, or `None` for the first entry. The title was
+/// written before if it is `kind`.
 fn write_title<W: Write>(before: Option<Kind>, kind: Kind, out: &mut W) -> Result<(), OutputFault>
     ensures { Emits (W.contents out.old) (W.contents out.new) (is_err result)
         (title_line_after before kind) }
@@ -136,8 +138,8 @@ fn write_section<D: Details, W: Write>(
 ///
 /// # Errors
 ///
-/// - `Details`: a read fails. The entries before this entry and the title of its section were
-///   written.
+/// - `Details`: reading the properties of an entry fails. The entries before this entry and the
+///   title of its section were written.
 /// - `Report`: a write fails.
 pub fn write_sections<D: Details, W: Write>(
     verbose: bool,

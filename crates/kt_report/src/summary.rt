@@ -18,14 +18,14 @@ fn total_millis(entries: &[Entry]) -> u128
     total
 }
 
-/// Returns the number of `entries` whose verdict is of the kind `kind`, in decimal.
+/// Returns the number of `entries` whose verdict is of the kind `kind`, as decimal digits.
 pub fn decimal_count(kind: Kind, entries: &[Entry]) -> Decimal
     ensures { result ≡ kind_count_bytes kind entries.now }
 {
     Decimal::new(count(kind, entries) as u64)
 }
 
-/// Writes `, unfinished` if `finished` is `false`, so if the run is not finished.
+/// Writes `, unfinished`, unless the run is finished. `finished` is `true` for a finished run.
 fn write_unfinished<W: Write>(finished: bool, out: &mut W) -> Result<(), OutputFault>
     ensures { Emits (W.contents out.old) (W.contents out.new) (is_err result)
         (unfinished_bytes finished) }
@@ -52,7 +52,7 @@ fn write_summary_title<W: Write>(date: Date, run: &Run, out: &mut W) -> Result<(
     write_unfinished(run.finished, out)
 }
 
-/// Writes the number of `entries`, and the number of them of each kind except `passed`.
+/// Writes the number of `entries`, and the numbers of those with each kind of verdict but `passed`.
 fn write_counts<W: Write>(entries: &[Entry], out: &mut W) -> Result<(), OutputFault>
     ensures { Emits (W.contents out.old) (W.contents out.new) (is_err result)
         (totals_bytes entries.now) }

@@ -21,8 +21,8 @@ use std::io::Write;
 ///
 /// # Errors
 ///
-/// - `Details`: a read fails. The entries before this entry and the title of its section were
-///   written.
+/// - `Details`: reading the properties of an entry fails. The entries before this entry and the
+///   title of its section were written.
 /// - `Report`: a write fails. A proper prefix of the report was written.
 pub fn write_text_report<D: Details, W: Write>(
     run: &Run,

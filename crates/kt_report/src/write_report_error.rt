@@ -8,7 +8,7 @@ use kt_base::OutputFault;
 /// Errors returned by [`write_text_report`] and [`write_junit_report`].
 #[derive(Clone, Copy)]
 pub enum WriteReportError<F, E> {
-    /// The details of an entry could not be read.
+    /// The properties or the outputs of an entry could not be read.
     Details(F),
     /// A write or an allocation failed.
     Report(E),

@@ -1,4 +1,4 @@
--- The steps of a report whose details are read one entry at a time.
+-- The steps of writing a report whose properties or outputs are read one entry at a time.
 use Rattle.std.specs.Prelude.{ℕ, Bool, true, false, List, [], ◌≡◌, Option, Result, Ok, Err}
 use Rattle.kt_base.specs.Emits.{Emits}
 use Rattle.kt_base.specs.declared.entry.Entry.{Entry}
