@@ -37,15 +37,14 @@ impl ExampleOutput {
         self.made(text.to_string(self.alloc));
     }
 
-    /// Appends `separator`, unless nothing was appended before.
+    /// Appends `separator`, unless the output is empty.
     pub fn separate(&mut self, separator: &str) {
         if !self.text.is_empty() {
             self.push(separator);
         }
     }
 
-    /// Appends `text` as a new line: a newline, unless nothing was appended before, and then
-    /// `text`.
+    /// Appends `text` as a new line: a newline, unless the output is empty, and then `text`.
     pub fn line(&mut self, text: &str) {
         self.separate("\n");
         self.push(text);
@@ -62,8 +61,7 @@ impl ExampleOutput {
         }
     }
 
-    /// Appends the text `before`, and then the name of `pair`, the text `sign` and the value of
-    /// `pair`.
+    /// Appends `before`, the name of `pair`, `sign` and the value of `pair`, such as ` a=1`.
     pub fn pair(&mut self, before: &str, pair: &Variable, sign: &str) {
         let (name, value) = (pair.name.as_str(), pair.value.as_str());
         write!(self, "{before}{name}{sign}{value}");

@@ -1,5 +1,4 @@
-//! Examples of lists of ATF test cases, and of the cases of a program for each result of its
-//! listing.
+//! Examples of lists of ATF test cases, and of a program's cases by the result of listing them.
 
 use crate::answer::ExampleOutput;
 use crate::escapes::unescape;

@@ -10,14 +10,14 @@ use crate::verdicts::push_verdict;
 use kt_base::{Bytes, Entry, Items, Kind, LATEST_MOMENT_MILLIS, Output, Run, Verdict};
 use std::alloc::Global;
 
-/// Returns the text after the keyword `word` in `lines`, with its escapes decoded to bytes. Returns
-/// no bytes if there is no such line.
+/// Returns the text of the first of `lines` with the keyword `word`, with its escapes decoded to
+/// bytes. Returns no bytes if there is no such line.
 fn decode_bytes(alloc: Global, lines: &[ExampleLine<'_>], word: &str) -> Result<Bytes> {
     unescape(alloc, text_in(lines, word).unwrap_or("")).map(Bytes::from_vec)
 }
 
-/// Returns the standard output and the standard error of a body or a cleanup. The keywords of their
-/// lines in `lines` are `out` and `err`.
+/// Parses the standard output and the standard error of a body or a cleanup. `out` and `err` are
+/// the keywords of their lines in `lines`.
 fn parse_outputs(alloc: Global, lines: &[ExampleLine<'_>], out: &str, err: &str) -> Result<Output> {
     let (out, err) = zip_results(
         decode_bytes(alloc, lines, out),
@@ -57,15 +57,14 @@ pub fn parse_verdict_kinds(alloc: Global, words: &str) -> Result<Vec<Kind>> {
     Ok(kinds)
 }
 
-/// Parses `text` as a verdict, a kind and a reason, such as `failed: x`. Without `: `, the reason
-/// is empty.
+/// Parses `text` as a verdict in the form `KIND: REASON`. Without `: `, the reason is empty.
 fn parse_verdict(alloc: Global, text: &str) -> Result<Verdict> {
     let (word, reason) = text.split_once(": ").unwrap_or((text, ""));
     Ok(Verdict::of(parse_kind(word)?, unescape_lossy(alloc, reason)?))
 }
 
-/// Creates the entry at the position `position` with the verdict `verdict`. `content` are the lines
-/// that describe the entry.
+/// Creates an entry at the position `position` with the verdict `verdict`. `content` are the lines
+/// that describe the rest of the entry.
 ///
 /// These lines are `program TEXT`, `case TEXT`, `started MILLISECONDS`, `took MILLISECONDS`, `out
 /// TEXT`, `err TEXT`, `cleanup-out TEXT`, `cleanup-err TEXT`, and `meta NAME=VALUE` for each
@@ -126,7 +125,8 @@ pub fn parse_storable_entry(
     Ok(entry)
 }
 
-/// Returns `true` if `line` describes the entry above it, by a keyword such as `program` or `out`.
+/// Returns `true` if `line` describes an entry of an example, by a keyword such as `program` or
+/// `out`.
 pub fn is_entry_line(line: &ExampleLine<'_>) -> bool {
     match line.word {
         "program" | "case" | "started" | "took" | "meta" | "times" => true,
@@ -135,8 +135,7 @@ pub fn is_entry_line(line: &ExampleLine<'_>) -> bool {
     }
 }
 
-/// Returns the lines that describe an entry: those directly below its line, which has the index
-/// `place` in `lines`.
+/// Returns the lines directly after index `place` of `lines` that describe the entry at this index.
 pub fn entry_lines_at<'a, 'b>(lines: &'b [ExampleLine<'a>], place: usize) -> &'b [ExampleLine<'a>] {
     let (_, rest) = lines.split_at(place.saturating_add(1).min(lines.len()));
     let length = rest.iter().take_while(|line| is_entry_line(*line)).count();
@@ -248,7 +247,8 @@ fn push_entry(out: &mut ExampleOutput, word: &str, entry: &Entry) {
     }
 }
 
-/// Appends the properties of all entries, one property per line, after the position of its entry.
+/// Appends the properties of all entries, one per line. The position of its entry precedes each
+/// property.
 fn push_pairs(out: &mut ExampleOutput, entries: &[Entry]) {
     let mut separator = "";
     for entry in entries {

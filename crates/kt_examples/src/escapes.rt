@@ -2,7 +2,7 @@ use crate::example_fault::{ExampleFault, Result, convert_error, due};
 use kt_base::{Text, lossy};
 use std::alloc::Global;
 
-/// The greatest length of the copies that one repetition `\*N{TEXT}` makes, in bytes.
+/// The maximum total length of the copies that a repetition `\*N{TEXT}` makes, in bytes.
 const MAX_REPETITION_BYTES: usize = 33_554_432;
 
 /// A decoder of the escapes in a text, with the bytes still to decode and the bytes decoded so far.

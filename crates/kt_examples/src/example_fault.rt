@@ -3,8 +3,8 @@ use kt_base::NoMemory;
 /// A result of parsing or running an example.
 pub type Result<T, E = ExampleFault> = std::result::Result<T, E>;
 
-/// Errors returned by [`push_example_output`](crate::push_answer) and the functions that parse
-/// examples.
+/// Errors returned by [`push_example_output`](crate::push_example_output) and the functions that
+/// parse examples.
 #[derive(Clone, Copy)]
 pub enum ExampleFault {
     /// An allocation failed.
@@ -47,7 +47,7 @@ where
     Ok(made?)
 }
 
-/// Returns the value in `found`. The value is a part that an example must have. Allocates nothing.
+/// Returns the value in `found`, which is a part that an example must have. Allocates nothing.
 ///
 /// # Errors
 ///

@@ -32,7 +32,9 @@ pub use row_file::parse_rows;
 pub use scripted_writer::{ScriptedWriter, WriteFault};
 pub use verdicts::{parse_outcome, push_reason, push_verdict};
 
-/// Executes the example `row` of the subject `subject`, and appends its output to `out`.
+/// Executes the example `row`, and appends its output to `out`.
+///
+/// `subject` is the name of the example's file without `.rows`, such as `claims`.
 ///
 /// # Errors
 ///

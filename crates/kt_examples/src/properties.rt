@@ -121,8 +121,8 @@ impl PropertyState {
         convert_error(self.host.record_found(need, &unescape_text(alloc, raw)?))
     }
 
-    /// Executes a line of an example, and appends its output. The line changes the state or is a
-    /// query.
+    /// Executes a line of an example, which changes the state or is a query, and appends its
+    /// output.
     fn take(&mut self, out: &mut ExampleOutput, line: &ExampleLine<'_>) -> Result<()> {
         let (alloc, text) = (out.alloc, line.text);
         match line.word {

@@ -1,5 +1,5 @@
-/// Returns the result of the call `$call`. If an allocation in the call failed, the call is
-/// repeated once. A failed call must have changed nothing.
+/// Returns the result of the call `$call`, which is repeated once if it fails with
+/// `$fault::NoMemory`. A failed call must have changed nothing.
 #[macro_export]
 macro_rules! retry_once {
     ($fault:ident, $call:expr) => {

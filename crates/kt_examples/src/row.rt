@@ -16,7 +16,7 @@ pub struct ExampleLine<'a> {
 /// An example: the lines of its input, and the lines of its expected output.
 #[derive(Drop)]
 pub struct Example<'a> {
-    /// The number of the first line in the file, counted from 1.
+    /// The number of the example's first line in its `.rows` file, counted from 1.
     pub line: u64,
     /// The lines of the input, in order.
     pub entries: Vec<ExampleLine<'a>>,
@@ -24,15 +24,15 @@ pub struct Example<'a> {
     pub wanted: Vec<&'a str>,
 }
 
-/// Returns the text after the keyword `word` in `lines`, or `None` if there is no such line. Only
-/// the first line with the keyword counts. The escapes of the text are not decoded.
+/// Returns the text of the first of `lines` with the keyword `word`, or `None` if there is no such
+/// line. The escapes of the text are not decoded.
 pub fn text_in<'a>(lines: &[ExampleLine<'a>], word: &str) -> Option<&'a str> {
     let line = lines.iter().find(|line| line.word == word)?;
     Some(line.text)
 }
 
-/// Returns the number after the keyword `word` in `lines`, or `other` if there is no such line.
-/// Only the first line with the keyword counts. Allocates nothing.
+/// Returns the number in the first of `lines` with the keyword `word`, or `other` if there is no
+/// such line. Allocates nothing.
 ///
 /// # Errors
 ///
@@ -51,8 +51,8 @@ pub fn append(alloc: Global, bytes: &mut Vec<u8>, raw: &str) -> Result<()> {
     convert_error(bytes.extend_from_slice(&unescape(alloc, raw)?))
 }
 
-/// Parses `raw` as `NAME=VALUE`, split at the first `=`, and decodes the escapes of both parts. The
-/// value is empty without `=`.
+/// Parses `raw` as `NAME=VALUE`, split at the first `=`, and decodes the escapes of both parts.
+/// Without `=`, the value is empty.
 ///
 /// # Errors
 ///
@@ -64,8 +64,8 @@ pub fn parse_pair(alloc: Global, raw: &str) -> Result<Variable> {
     Ok(Variable { name, value })
 }
 
-/// Parses the texts after the keyword `word` in `lines` as `NAME=VALUE`, and returns these pairs in
-/// order.
+/// Parses the text of each of `lines` with the keyword `word` as `NAME=VALUE`, and returns these
+/// pairs in order.
 ///
 /// # Errors
 ///
@@ -97,8 +97,8 @@ impl<'a> Example<'a> {
         text_in(self.entries.as_slice(), word)
     }
 
-    /// Returns the number after the keyword `word`, or `other` if there is no such line. Only the
-    /// first line with the keyword counts. Allocates nothing.
+    /// Returns the number in the first line with the keyword `word`, or `other` if there is no such
+    /// line. Allocates nothing.
     ///
     /// # Errors
     ///
@@ -156,11 +156,11 @@ fn append_numbered(alloc: Global, bytes: &mut Vec<u8>, raw: &str) -> Result<()> 
     Ok(())
 }
 
-/// Returns `bytes` with the copies that the lines `numbered COUNT TEXT` of the example add at the
-/// end.
+/// Returns `bytes`, followed by the copies that the lines `numbered COUNT TEXT` of the example
+/// describe.
 ///
-/// Each line adds COUNT copies of its text. Each `#` in a copy is replaced by the copy's number,
-/// counted from 0.
+/// Each of these lines describes COUNT copies of its text. Each `#` in a copy is replaced by the
+/// copy's number, counted from 0.
 ///
 /// # Errors
 ///

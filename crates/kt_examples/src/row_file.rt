@@ -26,7 +26,8 @@ fn is_last_incomplete(rows: &[Example<'_>]) -> bool {
     rows.last().is_some_and(|row| row.wanted.is_empty())
 }
 
-/// Appends the line `wanted` to the expected output of the last example.
+/// Appends the line `wanted` to the expected output of the last example. Fails if there is no
+/// example yet.
 fn push_output_line<'a>(rows: &mut Vec<Example<'a>>, wanted: &'a str) -> Result<()> {
     let fault = ExampleFault::InvalidExample("an answer without a question");
     convert_error(rows.last_mut().ok_or(fault)?.wanted.push(wanted))

@@ -14,8 +14,8 @@ pub enum WriteFault {
     Nothing,
 }
 
-/// A `Write` that stores the bytes that are written to it. Each write accepts a limited number of
-/// bytes, and the writes can fail from one of them on.
+/// A `Write` that stores the bytes that are written to it. Each write accepts at most `at_most`
+/// bytes. If `failing` isn't 0, write number `failing` and all later writes fail.
 #[derive(Drop)]
 pub struct ScriptedWriter {
     /// The bytes that were written.

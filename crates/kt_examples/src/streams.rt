@@ -9,7 +9,7 @@ use kt_base::NoMemory;
 use kt_claim::{Claim, ClaimReader, Tap, TapReader, read_claim, read_tap};
 use std::alloc::Global;
 
-/// The greatest length of an input that is split at each position, in bytes.
+/// The maximum length of an input that is split at each of its indexes, in bytes.
 const MAX_SPLIT_BYTES: usize = 1_000;
 
 /// A reader of evidence in pieces: of a result file or of a TAP stream.
@@ -36,7 +36,8 @@ impl EvidenceReader {
         }
     }
 
-    /// Reads `bytes` in pieces: the first has `first` bytes, the others have at most `length`.
+    /// Reads `bytes` in pieces. The first piece has at most `first` bytes, and each other piece at
+    /// most `length` bytes, or 1 if `length` is 0.
     fn feed_pieces(&mut self, bytes: &[u8], first: usize, length: usize) -> Result<(), NoMemory> {
         let (front, back) = bytes.split_at(first.min(bytes.len()));
         self.take(front)?;

@@ -8,7 +8,7 @@ use kt_claim::{Claim, Evidence, Tap, TapFault, read_claim, read_tap};
 use kt_status::{CleanupEnd, body_verdict, refused_verdict, with_cleanup};
 use std::alloc::Global;
 
-/// Appends the kind of a verdict, and a colon unless the kind is `passed`.
+/// Appends the kind of a verdict, followed by `: ` unless the kind is `passed`.
 fn push_kind(out: &mut ExampleOutput, verdict: &Verdict) {
     let kind = verdict.kind();
     out.push(kind.word());
@@ -25,7 +25,7 @@ pub fn push_verdict(out: &mut ExampleOutput, verdict: &Verdict) {
     out.text(written.map(|()| reason));
 }
 
-/// Returns the reason of `verdict` as `print_reason` prints it. Its writer is a buffer.
+/// Returns the reason of `verdict` as `print_reason` prints it to a writer.
 fn capture_printed_reason(alloc: Global, verdict: &Verdict) -> Result<String> {
     let mut page = ScriptedWriter::new(alloc);
     let _ = verdict.print_reason(&mut page);
