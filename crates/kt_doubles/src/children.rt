@@ -8,7 +8,8 @@ ghost use Rattle.kt_doubles.specs.Children.{shown};
 
 use kt_base::{Interface, Role};
 
-/// The number of positions of a scripted launcher. Cases at later positions can't be started.
+/// The number of cases for which a scripted launcher stores a state. Cases at position 2,048 and
+/// above can't be started.
 pub const MAX_POSITIONS: u32 = 2_048;
 
 /// The state of a case in a scripted launcher.
@@ -32,7 +33,7 @@ pub type ChildSlots = [ChildSlot; 2048];
 /// A running child: its role, its interface, and `true` if its case declares a cleanup.
 pub type SlotChild = (Role, Interface, bool);
 
-/// Creates states in which no child runs and no cleanup is pending.
+/// Creates the states of 2,048 cases, in which no child runs and no cleanup is pending.
 pub fn free_slots() -> ChildSlots
     ensures { (k : ℕ) → slice_index_or result k TheFree ≡ TheFree }
 {

@@ -1,7 +1,7 @@
 use std::io;
 use std::io::{ErrorKind, Read};
 
-/// A `Read` without an end. After `reads` reads, each further read fails.
+/// A `Read` that never reaches the end of its data. After `reads` reads, all later reads fail.
 #[derive(Drop)]
 pub struct EndlessReader {
     /// The maximum number of bytes that a read returns.

@@ -29,7 +29,7 @@ pub trait ExampleStore {
     fn put(&mut self, run: u64, entry: &Entry) -> Result<(), StoreFault>
         requires { IsStorable entry.now };
 
-    /// Finishes the run number `run`.
+    /// Marks the run number `run` as finished. Entries can't be added to a finished run.
     ///
     /// # Errors
     ///

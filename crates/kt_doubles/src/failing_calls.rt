@@ -13,8 +13,8 @@ pub struct FailingCalls {
     refused: (u64, u64),
     /// The error of the calls that a line `refused` makes fail.
     failed: DatabaseFailure,
-    /// The error that calls return under a line `refused-memory`, or `None` if the example has no
-    /// such line.
+    /// The error of the calls that a line `refused-memory` makes fail, or `None` if the example has
+    /// no such line.
     shortage: Option<NoMemory>,
 }
 

@@ -6,7 +6,7 @@ use kt_examples::{
 use kt_suite::{Filter, FilterFault, Item, check_disjoint, select};
 use std::alloc::Global;
 
-/// The state of an example: its cases and its filters.
+/// The cases and the filters that the lines of an example have added so far.
 #[derive(Drop)]
 struct FilterExample {
     /// The cases, in the order of their lines.

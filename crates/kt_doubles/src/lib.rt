@@ -29,7 +29,9 @@ pub use scripted_system::ScriptedSystem;
 pub use store_calls::{push_call, push_runs, state_text};
 pub use systems::push_calls;
 
-/// Executes the example `row` of `subject`, and appends its output to `out`.
+/// Executes the example `row`, and appends its output to `out`.
+///
+/// `subject` is the name of the example's file without `.rows`, such as `filters`.
 ///
 /// # Errors
 ///

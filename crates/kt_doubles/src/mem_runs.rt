@@ -68,7 +68,7 @@ impl MemRuns {
         }
     }
 
-    /// Returns the index of run `number` in the list.
+    /// Returns the index of run `number` in the store's list of runs.
     ///
     /// Fails with `NoRun` if there is no such run.
     fn place(&self, number: u64) -> Result<usize, StoreFault>
@@ -223,7 +223,7 @@ ghost use Rattle.kt_doubles.specs.Common.{find, option_copied, IsDatabaseFault, 
 ghost use Rattle.kt_base.specs.declared.entry.Entry.{Entry as Recorded};
 ghost use Rattle.kt_base.specs.declared.entry.Run.{Run as RunValue};
 
-/// Converts a failed allocation to a fault of the store.
+/// Converts the failed allocation `refusal` to the error that a store returns for it.
 fn short(refusal: NoMemory) -> StoreFault
     ensures { IsDatabaseFault result }
 {
@@ -242,7 +242,7 @@ fn head(run: &Run) -> RunHead
     }
 }
 
-/// Returns the first run with `number`, or `None` if there is no such run.
+/// Returns the first of `runs` with the number `number`, or `None` if there is no such run.
 fn find_run(runs: &[Run], number: u64) -> Option<&Run>
     ensures found { option_copied result ≡ find (λ (r : RunValue). r.number == number) runs.now }
     ensures numbered { IfSome (option_copied result) (λ r. r.number ≡ number) }
@@ -250,7 +250,7 @@ fn find_run(runs: &[Run], number: u64) -> Option<&Run>
     runs.iter().find(|run| run.number == number)
 }
 
-/// Returns the index at which an entry with `position` is inserted.
+/// Returns the index of `entries` at which an entry with the position `position` is inserted.
 ///
 /// The index is the number of entries before the first entry with a greater position.
 fn insert_index(entries: &[Entry], position: u32) -> usize
@@ -266,8 +266,8 @@ fn insert_index(entries: &[Entry], position: u32) -> usize
     place
 }
 
-/// Inserts an entry before the first entry with a greater position. If the allocation fails,
-/// `entries` is unchanged.
+/// Inserts `entry` into `entries`, before the first entry with a greater position. If the
+/// allocation fails, `entries` is unchanged.
 fn insert_entry(alloc: Global, entries: &mut Items<Entry>, entry: Entry) -> Result<(), NoMemory>
     ensures ok { OnOk result (entries.new ≡ insert_by_position entry entries.old) }
     ensures err { OnErr result (entries.new ≡ entries.old) }
@@ -280,8 +280,8 @@ fn insert_entry(alloc: Global, entries: &mut Items<Entry>, entry: Entry) -> Resu
     Ok(())
 }
 
-/// Inserts a copy of an entry before the first entry with a greater position. If an allocation
-/// fails, `entries` is unchanged.
+/// Inserts a copy of `entry` into `entries`, before the first entry with a greater position. If an
+/// allocation fails, `entries` is unchanged.
 fn add_copy(alloc: Global, entries: &mut Items<Entry>, entry: &Entry) -> Result<(), NoMemory>
     ensures ok { OnOk result (entries.new ≡ insert_by_position entry.now entries.old) }
     ensures err { OnErr result (entries.new ≡ entries.old) }
@@ -291,22 +291,23 @@ fn add_copy(alloc: Global, entries: &mut Items<Entry>, entry: &Entry) -> Result<
     Ok(())
 }
 
-/// Returns the first entry with `position`, or `None` if there is no such entry.
+/// Returns the first of `entries` with the position `position`, or `None` if there is no such
+/// entry.
 fn entry_at(entries: &[Entry], position: u32) -> Option<&Entry>
     ensures { option_copied result ≡ find (λ (e : Recorded). e.position == position) entries.now }
 {
     entries.iter().find(|x| x.position == position)
 }
 
-/// Returns `true` if an entry has `position`.
+/// Returns `true` if one of `entries` has the position `position`.
 fn has_position(entries: &[Entry], position: u32) -> bool
     ensures { result ≡ has_position position entries.now }
 {
     entries.iter().any(|x| x.position == position)
 }
 
-/// Returns the fault of a put of an entry with `position` into a run, the first that applies.
-/// Returns `None` if the run accepts the entry.
+/// Returns the first error that applies to a put of an entry with `position` into a run. Returns
+/// `None` if the run accepts the entry.
 fn put_fault(run: &Run, position: u32) -> Option<StoreFault>
     ensures { result ≡ entry_refusal run.now position }
 {
@@ -322,7 +323,7 @@ fn put_fault(run: &Run, position: u32) -> Option<StoreFault>
     None
 }
 
-/// Returns the fault of finishing a run, the first that applies. Returns `None` if the run can be
+/// Returns the first error that applies to finishing a run. Returns `None` if the run can be
 /// finished.
 fn finish_fault(run: &Run) -> Option<StoreFault>
     ensures { result ≡ closing_refusal run.now }

@@ -2,12 +2,12 @@ use kt_base::NoMemory;
 use kt_child::Polled;
 use std::alloc::Global;
 
-/// A script of a child: the number of polls that find it running, and its end.
+/// A script of a child: the number of polls that find it running, and the result of later polls.
 #[derive(Clone, Copy)]
 pub struct ChildScript {
     /// The number of polls that find the child running.
     pub running: u32,
-    /// The end that later polls return.
+    /// The result of later polls: an exit status or a signal.
     pub ending: Polled,
 }
 

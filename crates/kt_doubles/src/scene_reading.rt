@@ -1,4 +1,4 @@
-//! Parses the lines of an example into a scene, the script for a system and host files.
+//! Parses the lines of an example as a scene, which is the script for a system and for host files.
 
 use crate::scene::{ChildScript, PartFault, SceneFile};
 use crate::{Scene, fail_allocation};
@@ -72,7 +72,7 @@ fn add_line(scene: &mut Scene, raw: &str) -> Result<()> {
     convert_error(file.bytes.push(b'\n'))
 }
 
-/// Adds the path in `line` to `scene`, with the keyword of the line.
+/// Adds the keyword and the path in `line` to the paths of `scene`.
 fn add_path(scene: &mut Scene, line: &ExampleLine<'_>) -> Result<()> {
     let word = convert_error(String::from_str(scene.alloc, line.word));
     let path = unescape_text(scene.alloc, line.text).map(Text::into_string);

@@ -17,8 +17,8 @@ use std::alloc::Global;
 pub struct ScriptedLauncher<'a> {
     /// The letters of the plan, which select the starts that fail.
     pub letters: &'a [u8],
-    /// The positions whose children end, in order. At a position without a child, and after the
-    /// last position, the first running child ends.
+    /// The positions of the cases whose children end, in the order of their ends. At a position
+    /// without a child, and after the last position, the first running child ends.
     pub ends: &'a [u64],
     /// The timestamps of the calls, in milliseconds since 1970 in UTC. The last timestamp is
     /// repeated.

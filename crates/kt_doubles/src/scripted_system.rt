@@ -18,7 +18,7 @@ pub struct ScriptedSystem<'a> {
     /// The children in the order of their starts, each with the number of polls that found it
     /// running.
     children: Vec<(Child, u32)>,
-    /// The number of the scene's timestamps that `now` has returned.
+    /// The count of timestamps of the scene that `now` has returned so far.
     told: usize,
     /// The last timestamp that was returned, in milliseconds since 1970 in UTC.
     moment: u64,
@@ -29,8 +29,8 @@ pub struct ScriptedSystem<'a> {
     pub spawned: ExampleOutput,
 }
 
-/// Returns the script in `lives` of the child with index `number` in the order of starts. Later
-/// children have the last script.
+/// Returns the script of the child with index `number` in the order of starts. `lives` are the
+/// scripts of the first children, and later children have the last script.
 fn child_script(lives: &[ChildScript], number: usize) -> ChildScript {
     let ending = Polled::Exited(0);
     let life = lives.get(number).or(lives.last());

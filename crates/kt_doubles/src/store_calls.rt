@@ -16,8 +16,10 @@ fn push_done_or_error(out: &mut ExampleOutput, done: Result<(), StoreFault>) {
     }
 }
 
-/// Parses `text`, which is `TOTAL MOMENT`, begins `times` runs in `results`, and appends the number
-/// of the last run or the error. The default of MOMENT is 0, in milliseconds since 1970 in UTC.
+/// Begins `times` runs in `results`, and appends the number of the last run or the error.
+///
+/// `text` is `TOTAL MOMENT`: the number of cases and the start of each run, in milliseconds since
+/// 1970 in UTC. The default of MOMENT is 0.
 fn begin<R: ExampleStore>(
     out: &mut ExampleOutput,
     results: &mut R,
@@ -40,9 +42,11 @@ fn begin<R: ExampleStore>(
     Ok(())
 }
 
-/// Parses `text`, which is `RUN POSITION VERDICT`, and puts `times` entries from this position on
-/// into `results`. The lines `content` describe the entries. Appends `done` or the error of the
-/// first put that fails.
+/// Puts `times` entries into `results`, and appends `done` or the error of the first put that
+/// fails.
+///
+/// `text` is `RUN POSITION VERDICT`: the run, the position of the first entry and the verdict of
+/// each entry. The lines `content` describe the rest of the entries.
 fn put<R: ExampleStore>(
     out: &mut ExampleOutput,
     results: &mut R,
@@ -120,9 +124,9 @@ fn push_run_entries<R: ExampleStore>(
     }
 }
 
-/// Executes the call of `line` on the store `results`, and appends its output. The lines `content`
-/// below it have the number of repetitions and describe the entry of a put. An error of the store
-/// is part of the output.
+/// Executes the call in `line` on the store `results`, and appends its output. The lines `content`
+/// have the number of repetitions and describe the entry of a put. An error of the store is part of
+/// the output.
 ///
 /// # Errors
 ///

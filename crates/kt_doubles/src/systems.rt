@@ -1,4 +1,4 @@
-//! Examples of a scripted system: the cases of a plan, the list of a program, the bytes of a file.
+//! Examples of a scripted system, which executes a plan, lists a program's cases or reads a file.
 
 ghost use Rattle.kt_sched.specs.Plan.{IsPlan, IsWidth};
 
@@ -25,7 +25,7 @@ use std::alloc::Global;
 /// may have.
 const SCRIPT_READ_BYTES: usize = 1_048_577;
 
-/// The result of a run over a driver.
+/// The result of executing a plan by a driver over a system.
 #[derive(Drop)]
 struct DriverRun<O: Drop> {
     /// The system after the run.
@@ -48,8 +48,8 @@ fn select_call<'a>(shown: &str, line: &'a str) -> Option<&'a str> {
     }
 }
 
-/// Appends the calls in `log`, with repetitions folded. `shown` is `calls` for whole lines, `words`
-/// for their first words, or `watching` for polls, kills and pauses.
+/// Appends the calls in `log`, with repeated lines folded, as `poll 0 x3`. `shown` is `calls` for
+/// whole lines, `words` for their first words, or `watching` for polls, kills and pauses.
 ///
 /// # Errors
 ///
@@ -284,8 +284,8 @@ fn list(out: &mut ExampleOutput, row: &Example<'_>, scene: &Scene) -> Result<()>
     Ok(())
 }
 
-/// Returns the number of bytes that are read of `file`, an endless file, and `true` if more bytes
-/// are known to follow. With `limit`, `read_and_peek` reads the file as an output. Without it,
+/// Reads the endless file `file`, and returns the number of bytes, and `true` if more bytes are
+/// known to follow. With `limit`, `read_and_peek` reads the file as an output. Without it,
 /// `read_up_to` reads the file as a Kyuafile. Returns `None` if the read fails.
 fn front(alloc: Global, file: &mut EndlessReader, limit: Option<u64>) -> Option<(usize, bool)> {
     let Some(limit) = limit else {

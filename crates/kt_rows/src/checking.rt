@@ -59,7 +59,8 @@ fn check_example(
     convert_error(text).map(Some)
 }
 
-/// Prints the error of an example that has no output, with its file and line.
+/// Prints `fault`, the error of an example or of parsing the file `file`, with the file and the
+/// line.
 fn print_fault<R: Eprint>(rt: &R, file: &str, line: u64, fault: ExampleFault) -> io::Result<()> {
     let text = fault.text();
     eprintln!(rt; "{file}:{line}: {text}")

@@ -19,7 +19,7 @@ use kt_os::OsFault;
 use kt_store::StoreFault;
 use std::alloc::Global;
 
-/// The limit of `writes each`: the writes with a number below it are made to fail in turn.
+/// The number of the first write that `writes each` doesn't make fail. Writes are counted from 1.
 const MAX_TRIALS: u64 = 10_000;
 
 /// Parses the error of a results store: `no-memory`, `failed` or `unknown-schema`.
@@ -132,9 +132,11 @@ fn push_result_and_state(
     Ok(())
 }
 
-/// Checks `cut`, the state after a failed write: the output is a proper prefix of that of `whole`,
-/// the last exit status is 2, and the runs are those of `whole`. Returns a message if one of these
-/// facts is false, else `None`.
+/// Checks the effects of a failed write of a command, and returns a message for a violation, else
+/// `None`.
+///
+/// In `cut`, the state after the failed write, the output must be a proper prefix of that of
+/// `whole`. The last exit status must be 2, and the runs must be those of `whole`.
 fn find_violation(
     alloc: Global,
     whole: &mut CommandsRun<FailingStore>,

@@ -1,5 +1,5 @@
-//! Executes each command line as a process over a scripted results host, scripted files and a
-//! scripted system.
+//! Executes command lines over a scripted results host and scripted files. Each command line has a
+//! new scripted system.
 
 use crate::printing::push_page;
 use crate::scripted_files::ScriptedFiles;

@@ -48,8 +48,8 @@ struct Attempt {
     left: Vec<String>,
 }
 
-/// An execution of `test` on a disk that doesn't fail. Its store calls have numbers: 0 attaches the
-/// tables, 1 is `begin`, then comes a `put` for each entry, and then `finish`.
+/// An execution of `test` on a disk that doesn't fail. Its store calls are numbered: 0 attaches the
+/// tables, 1 is `begin`, from 2 on each `put` adds an entry, and the last is `finish`.
 #[derive(Drop)]
 struct BaselineRun {
     /// The outcome.
@@ -66,8 +66,8 @@ impl BaselineRun {
         self.left.len().saturating_sub(self.before.len())
     }
 
-    /// Returns the number of the last store call that was completed if a command left the runs
-    /// `left`. Returns `None` if no completed call leaves these runs.
+    /// Returns the number of the last completed store call of a command that left the runs `left`.
+    /// Returns `None` if no completed call leaves these runs.
     fn find_completed_call(&self, left: &[String]) -> Option<usize> {
         let (before, whole) = (self.before.as_slice(), self.left.as_slice());
         if left == before {
@@ -146,7 +146,7 @@ fn push_test_result(
 /// A trial of an example's command lines on disks whose log or database file fails.
 #[derive(Clone, Copy)]
 struct DiskTrial<'a> {
-    /// The example.
+    /// The example whose command lines are executed.
     row: &'a Example<'a>,
     /// The script of the host files and the systems.
     scene: &'a Scene,
@@ -154,7 +154,7 @@ struct DiskTrial<'a> {
     in_log: bool,
     /// `true` if the store has schema 1 at first, `false` if the files are empty.
     is_old: bool,
-    /// The number of frames from which on the log is copied into the database file.
+    /// The number of frames at which the log is copied into the database file.
     frames: usize,
 }
 

@@ -112,8 +112,8 @@ pub fn create_schema_1_files(alloc: Global, frames: usize) -> Result<Files<Memor
     Ok(Files { log, db })
 }
 
-/// Returns both files, and makes one of them fail after `calls` calls: the log if `in_log` is set,
-/// and otherwise the database file.
+/// Makes one of `files` fail after `calls` calls: the log if `in_log` is set, and otherwise the
+/// database file. Returns both files.
 pub fn add_fuse(files: Files<Memory>, in_log: bool, calls: u64) -> Files<Fuse<Memory>> {
     Files {
         log: Fuse::new(files.log, if in_log { calls } else { u64::MAX }),
@@ -121,7 +121,8 @@ pub fn add_fuse(files: Files<Memory>, in_log: bool, calls: u64) -> Files<Fuse<Me
     }
 }
 
-/// Returns the line, the outputs and the properties of the only entry in the list `entry`.
+/// Returns a text with the line, the outputs and the properties of the only entry in the list
+/// `entry`.
 fn full_entry_text(alloc: Global, entry: &[Entry]) -> Result<String> {
     let mut out = ExampleOutput::new(alloc);
     for word in ["cases", "outputs", "pairs"] {

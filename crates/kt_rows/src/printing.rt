@@ -38,9 +38,11 @@ fn print_whole(pieces: &[Vec<u8>], to_lines: bool, out: &mut ScriptedWriter) -> 
     }
 }
 
-/// Checks the writer `cut` after one of its writes failed: the failure was reported (`well` is
-/// `false`), no write followed it, and the written bytes are a proper prefix of `whole`. Returns a
-/// message if one of these facts is false, else `None`.
+/// Checks the effects of a failed write of the writer `cut`, and returns a message for a violation,
+/// else `None`.
+///
+/// The failure must be reported (`well` is `false`), and no write may follow it. The written bytes
+/// must be a proper prefix of `whole`.
 fn find_violation(
     whole: &[u8],
     cut: &ScriptedWriter,

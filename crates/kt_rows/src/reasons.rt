@@ -15,7 +15,7 @@ fn push_kind(out: &mut ExampleOutput, word: &str) -> Result<()> {
     Ok(())
 }
 
-/// Decodes bytes as text, after splitting, joining and copying them to exercise these calls.
+/// Decodes bytes as text. The bytes are split, joined and copied before, to exercise these calls.
 fn text_of_bytes(alloc: Global, bytes: &[u8]) -> Result<Text, NoMemory> {
     let (front, back) = bytes.split_at(bytes.len() / 2);
     let mut joined = Bytes::from_slice(alloc, front)?;

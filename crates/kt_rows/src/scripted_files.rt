@@ -12,9 +12,9 @@ const READ_LIMIT_BYTES: usize = 1_048_577;
 /// A `HostFiles` with the files, programs and clock of a scene.
 #[derive(Drop)]
 pub struct ScriptedFiles<'a> {
-    /// The script.
+    /// The scene whose files, programs and clock are used.
     pub scene: &'a Scene,
-    /// The number of timestamps that were returned.
+    /// The count of timestamps that `moment` has returned so far.
     pub told: usize,
 }
 

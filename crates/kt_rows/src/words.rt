@@ -42,8 +42,8 @@ fn push_values(out: &mut ExampleOutput, name: &str, values: &[Text]) {
     }
 }
 
-/// Appends a command over test cases: Kyuafile, work directory, results file, configuration,
-/// variables and filters.
+/// Appends the command `name`, which is `list`, `test` or `debug`, and its options: Kyuafile, work
+/// directory, results file, configuration, variables and filters.
 fn push_cases(out: &mut ExampleOutput, name: &str, options: &CaseOptions, results: &[Text]) {
     let (kyuafile, work) = (options.kyuafile.as_str(), options.work.as_str());
     write!(out, "{name} {kyuafile}, work {work}");
@@ -53,7 +53,8 @@ fn push_cases(out: &mut ExampleOutput, name: &str, options: &CaseOptions, result
     push_values(out, ", filter ", options.filters.as_slice());
 }
 
-/// Appends a report: its run, results file, configuration and variables.
+/// Appends the report command `name` and its options: run, results file, configuration and
+/// variables.
 fn push_report(out: &mut ExampleOutput, name: &str, options: &ReportOptions) {
     match options.run {
         Some(run) => write!(out, "{name} {run}"),

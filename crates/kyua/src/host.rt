@@ -1,4 +1,4 @@
-//! The implementation of `ResultsHost` for the host.
+//! The implementation of `ResultsHost` for the computer that runs `kyua`.
 
 use kt_base::Text;
 use kt_cli::ResultsHost;
@@ -21,7 +21,7 @@ impl InitialContents for Unknown {
     ghost path = { [] };
 }
 
-/// A `ResultsHost` of the host, whose results file is an SQLite database.
+/// A `ResultsHost` for the computer that runs `kyua`, whose results file is an SQLite database.
 ///
 /// Only contracts use `S`: it represents the initial contents of the results file.
 #[derive(Drop)]

@@ -42,8 +42,8 @@ fn run<S: InitialContents>(rt: &HostRuntime, start: S) -> ExitCode {
     execute(rt, &mut host)
 }
 
-/// The size of the block that `keep_large_blocks` allocates and frees, in bytes. glibc's threshold
-/// is at most twice this size.
+/// The size of the block that `keep_large_blocks` allocates and frees, in bytes. It is half of the
+/// greatest threshold for mapping that glibc sets by itself.
 const LARGE_BLOCK: usize = 16_777_216;
 
 /// Makes glibc serve large outputs from its heap, instead of mapping and unmapping each of them.
