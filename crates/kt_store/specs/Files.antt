@@ -1,4 +1,5 @@
--- Results in a file: opening and closing it. A view is the state of a store as contracts see it.
+-- The opening and the closing of a results file. A view is the state of a store as contracts see
+-- it.
 use Rattle.std.specs.Prelude.{◌≡◌, ◌≢◌, ◌⊎◌, ◌≤◌, ◌%◌, pos, length, List, IsTrue, ℕ, Bool, []}
 use Rattle.sqlite_disk.specs.declared.Disk as disk
 use Rattle.sqlite_disk.specs.declared.Files.{Files}
@@ -18,9 +19,9 @@ use Rattle.sqlite_store.specs.declared.catalog.Wanted.{Wanted}
 use Rattle.sqlite_wal.specs.PageSize.{IsPageSize}
 use Rattle.kt_store.specs.Types.{FileStore, HasCleanDisk, Held, HoldsDatabase, Image, IsClean, IsOpened, IsQuiet, PageMap, Recovers, Run, Trees, View, file_state, recovers, stored_size, view}
 
--- `HasTrees is_numbered trees image`: the two files with the content `image` recover to a sound
--- file with `trees`. If `is_numbered` is `true`, the trees are numbered: tree `t` is the object
--- with the rowid `t` + 1 in SQLite's schema list.
+-- `HasTrees is_numbered trees image`: the results file and its log, with the content `image`,
+-- recover to a sound database with the B-trees `trees`. If `is_numbered` is `true`, the trees are
+-- numbered: tree `t` is the object with the rowid `t` + 1 in SQLite's schema list.
 pub record HasTrees (is_numbered : Bool) (trees : Trees) (image : Image) : Type 0 where
   pub size : ℕ
   pub pages : PageMap
@@ -89,8 +90,8 @@ module _ {D : Type 0} {g : disk.Ghosts D} where
     pub whose : Lists image store ⊎ ((results : Held (FileStore D g)) × AreResultsOf image results × Follows results store)
     pub numbered : IsClean (view store) → MustBeChecked image → IsTrue (view store).is_numbered
 
-  -- `Ends store`: the close of `store` left two files, of which the database file alone has the
-  -- last commit, also after a crash
+  -- `Ends store`: the close of `store` left two files. The last commit of `store` is in the
+  -- database file alone, also after a crash.
   pub record Ends (store : FileStore D g) : Type 0 where
     pub last : FileStore D g
     pub quiet : IsQuiet view faults recovers is_shielded store last

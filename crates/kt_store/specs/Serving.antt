@@ -1,4 +1,4 @@
--- The effect of a store call on the represented runs, by the result of the call.
+-- The effect of a store call on the runs that the store represents, by the result of the call.
 use Rattle.std.specs.Prelude.{suc, List, [], ◌∷◌, ◌++◌, ◌≡◌, ◌<◌, ◌≤◌, ◌⊎◌, Some, None, Ok, Err, length, map}
 use Rattle.kt_store.specs.Ask.{IsDatabaseFault}
 use Rattle.kt_store.specs.Heads.{head_at, outline_entry, pairs_of, outputs_of, entry_at}

@@ -38,8 +38,7 @@ create_entries_sql = codes "CREATE TABLE entries (run INTEGER NOT NULL REFERENCE
 abbrev pub column : List ℕ → Kind → Bool → Column
 column name kind not_null = record { name = name; kind = kind; is_strict = true; not_null = not_null; default = Null; collation = Binary }
 
--- the list of the columns whose default is the current time, for a table without such columns: it
--- is empty
+-- an empty list of columns whose default is the current time
 abbrev pub no_time_defaults : Stamps
 no_time_defaults = record { places = []; terms = []; formats = [] }
 
@@ -48,7 +47,7 @@ abbrev pub bare_table : List ℕ → List Column → Table
 bare_table name columns =
     record { name = name; tree = 0; columns = columns; key = None; primary = []; uniques = []; orders = []; checks = []; references = []; computed = []; stamps = no_time_defaults; is_counted = false }
 
--- the table `meta`, which has the schema number, before it has a B-tree
+-- the table `meta`, which has the schema number, before SQLite assigns a B-tree to it
 abbrev pub meta : Table
 meta = record (bare_table (codes "meta") (column (codes "name") Text true ∷ column (codes "value") Integer true ∷ [])) { primary = 1 ∷ []; uniques = (1 ∷ []) ∷ []; orders = plain ∷ [] }
 
@@ -60,7 +59,7 @@ finished_check = op2 Or (op2 (Compare Eq Binary) (col 1 4) (lit (Int (pos 0)))) 
 abbrev pub runs_columns : List Column
 runs_columns = column (codes "id") Integer false ∷ column (codes "started") Integer true ∷ column (codes "total") Integer true ∷ column (codes "finished") Integer true ∷ []
 
--- the table `runs`, before it has a B-tree
+-- the table `runs`, before SQLite assigns a B-tree to it
 abbrev pub runs : Table
 runs = record (bare_table (codes "runs") runs_columns) { key = Some 0; primary = 0 ∷ []; checks = finished_check ∷ [] }
 
@@ -75,7 +74,7 @@ entries_columns =
     ∷ column (codes "reason") Text true ∷ column (codes "started") Integer true ∷ column (codes "millis") Integer true ∷ column (codes "body_out") Blob true ∷ column (codes "body_err") Blob true
     ∷ column (codes "clean_out") Blob true ∷ column (codes "clean_err") Blob true ∷ []
 
--- the table `entries`, before it has a B-tree
+-- the table `entries`, before SQLite assigns a B-tree to it
 abbrev pub entries : Table
 entries = record (bare_table (codes "entries") entries_columns) {
   primary = 1 ∷ 2 ∷ [];
@@ -93,11 +92,11 @@ create_props_sql = codes "CREATE TABLE props (run INTEGER NOT NULL, position INT
 abbrev pub props_columns : List Column
 props_columns = column (codes "run") Integer true ∷ column (codes "position") Integer true ∷ column (codes "place") Integer true ∷ column (codes "name") Text true ∷ column (codes "value") Text true ∷ []
 
--- the table `props`, which has the properties of entries, before it has a B-tree
+-- the table `props`, which has the properties of entries, before SQLite assigns a B-tree to it
 abbrev pub props : Table
 props = record (bare_table (codes "props") props_columns) { primary = 1 ∷ 2 ∷ 3 ∷ []; uniques = (1 ∷ 2 ∷ 3 ∷ []) ∷ []; orders = plain ∷ [] }
 
--- `index_of table tree`: the index of the primary key of `table`, stored in the B-tree with number
+-- `index_of table tree`: the index of the primary key of `table`, stored in the B-tree number
 -- `tree`
 abbrev pub index_of : Table → ℕ → Index
 index_of table tree = automatic table 0 (slice_index_or table.uniques 0 []) tree

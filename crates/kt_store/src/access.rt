@@ -11,9 +11,10 @@ pub enum Access {
 }
 
 impl Access {
-    /// Returns the maximum number of pages of the results file that are cached in memory. 1,100
-    /// pages of 1,024 bytes hold an output of 1 MiB. A reader needs fewer, since most pages are
-    /// read once.
+    /// Returns the maximum number of pages of the results file that are cached in memory.
+    ///
+    /// With a page size of 1,024 bytes, 1,100 pages can contain an output of 1 MiB. A reader needs
+    /// fewer pages, since most pages are read once.
     pub fn pages(self) -> usize {
         match self {
             Access::Record => 1_100,

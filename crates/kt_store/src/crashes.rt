@@ -3,9 +3,9 @@ ghost use Rattle.kt_store.specs.Common.{Run, Held, state, Survives, IsSchema2Of,
 
 use sqlite::Alter;
 
-/// Theorem: the lists of runs that a crash may leave follow from the calls. After a committed call,
-/// a crash leaves only the runs after this call. A later call that writes adds the runs after it to
-/// the possible outcomes. A query adds nothing.
+/// Theorem: the calls on a store determine the lists of runs that a crash may leave. After a
+/// committed call, a crash leaves only the runs after this call. A later call that writes adds the
+/// runs after it to these lists. A query adds nothing.
 pub fn theorem_of_crashes<S: Alter>()
     ensures done { (s : Held S) (runs : List Run) → Leaves (state S.Store s) (IsSchema2Of runs)
         → Leaves (state S.Store s) (IsSchema2OfOne (runs ∷ [])) }

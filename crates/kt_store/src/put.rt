@@ -74,8 +74,8 @@ fn insert_properties<S: Alter>(
     Ok(())
 }
 
-/// Inserts an entry and its properties into a run, inside a transaction. `reason` is the text of
-/// the verdict's reason.
+/// Inserts an entry and its properties into a run, inside a transaction. `run` is the run's key in
+/// the tables, and `reason` is the text of the verdict's reason.
 pub(crate) fn fill<S: Alter>(
     tx: &mut Transaction<'_, S>,
     run: u32,
@@ -134,8 +134,9 @@ impl Batch for EntryInsert<'_> {
     }
 }
 
-/// Inserts an entry and its properties into a run, in one commit. `reason` is the text of the
-/// verdict's reason. The caller has checked that the run accepts the entry.
+/// Inserts an entry and its properties into a run, in one commit. `run` is the run's key in the
+/// tables, and `reason` is the text of the verdict's reason. The caller has checked that the run
+/// accepts the entry.
 pub(crate) fn add_entry<S: Alter>(
     conn: &mut Connection<S>,
     run: u32,
@@ -153,8 +154,8 @@ pub(crate) fn add_entry<S: Alter>(
     commit(conn, &EntryInsert { run, entry, reason })
 }
 
-/// Checks that a run accepts an entry. Fails with the first of `NoRun`, `RunClosed`, `BadPosition`
-/// and `RepeatedPosition` that applies.
+/// Checks that the run with the number `run` accepts `entry`. Fails with the first of `NoRun`,
+/// `RunClosed`, `BadPosition` and `RepeatedPosition` that applies.
 pub(crate) fn check<S: Alter>(
     conn: &mut Connection<S>,
     run: u64,

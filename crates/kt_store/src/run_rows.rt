@@ -47,8 +47,8 @@ pub(crate) fn add_run<S: Alter>(
     Ok(conn.last_insert_rowid().unsigned_abs())
 }
 
-/// Checks that a run can be finished. Fails with the first of `NoRun`, `RunClosed` and `Incomplete`
-/// that applies.
+/// Checks that the run with the number `run` can be finished. Fails with the first of `NoRun`,
+/// `RunClosed` and `Incomplete` that applies.
 pub(crate) fn check<S: Alter>(conn: &mut Connection<S>, run: u64) -> Result<(), StoreFault>
     ensures small { OnOk result (run ≤ greatest_run_number) }
     ensures looked { OnlyReadsRuns S.Store conn.old conn.new }
@@ -69,7 +69,8 @@ pub(crate) fn check<S: Alter>(conn: &mut Connection<S>, run: u64) -> Result<(), 
     Ok(())
 }
 
-/// Marks a run as finished, in one commit. The caller has checked that the run has all its entries.
+/// Marks the run with the key `run` in the tables as finished, in one commit. The caller has
+/// checked that the run has all its entries.
 pub(crate) fn mark_finished<S: Alter>(
     conn: &mut Connection<S>,
     run: u32,

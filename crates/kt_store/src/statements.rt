@@ -53,7 +53,7 @@ pub(crate) fn execute_query<S: Alter>(
     Ok(rows)
 }
 
-/// Checks that each row has at least `width` columns.
+/// Checks that each of `rows` has at least `width` columns. Fails with `Failed` if a row has fewer.
 fn check_columns(rows: &[Row], width: usize) -> Result<(), DatabaseError>
     requires { 0 < width }
     ensures wide { OnOk result (AreWide width rows.now) }

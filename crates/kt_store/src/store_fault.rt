@@ -173,7 +173,7 @@ impl From<WriteError> for DatabaseError {
     }
 }
 
-/// Converts the error of opening the results file and its log to a `DatabaseError`.
+/// Converts `error`, the error of opening the results file and its log, to a `DatabaseError`.
 pub fn unopened(error: &OpenError) -> DatabaseError
     ensures short { IsAllocationFailure result → IsOutOfMemory error.now }
 {

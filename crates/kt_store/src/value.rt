@@ -29,7 +29,8 @@ pub fn blob(bytes: &Bytes) -> ValueRef<'_>
     ValueRef::Blob(bytes.as_slice())
 }
 
-/// Returns the number that represents a verdict's kind in the tables (docs/formats/store.md).
+/// Returns the number that represents the kind of verdict `kind` in the tables
+/// (docs/formats/store.md).
 pub fn code(kind: Kind) -> u64
     ensures value { result ≡ kind_code kind }
     ensures low { result < 5 }

@@ -36,7 +36,8 @@ MatchesSqlError error trouble = (IsAllocationFailure trouble × (error ≡ Sqlit
 abbrev pub MatchesTreeError : StoreError → DatabaseError → Type 0
 MatchesTreeError error trouble = (IsAllocationFailure trouble × (error ≡ OutOfMemory)) ⊎ (IsDatabaseFailure trouble × (error ≢ OutOfMemory))
 
--- `IsOutOfMemory error`: the error `error` of an open reports that memory ran out
+-- `IsOutOfMemory error`: `error`, the error of opening the results file, reports that memory ran
+-- out
 abbrev pub IsOutOfMemory : OpenError → Type 0
 IsOutOfMemory opening.OutOfMemory = ⊤
 IsOutOfMemory (opening.Io error) = error_kind error ≡ kind.OutOfMemory

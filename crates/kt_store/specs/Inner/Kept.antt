@@ -1,4 +1,4 @@
--- The parts of a state that a call keeps or changes, and the databases with a schema number.
+-- The effects of a call on a connection: what it reads, keeps, changes and commits.
 use Rattle.std.specs.Prelude.{ℤ, List, ⊤}
 use Rattle.kt_store.specs.Ask.{IsUnchangedOrRolledBack}
 use Rattle.kt_store.specs.Attaching.{InitialDatabase, Blank}

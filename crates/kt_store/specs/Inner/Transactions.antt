@@ -15,7 +15,7 @@ Statement = List ℕ × Row × List (List ℕ)
 abbrev pub IsOurs : List ℕ → Type 0
 IsOurs sql = (sql ≡ create_meta_sql) ⊎ (sql ≡ create_runs_sql) ⊎ (sql ≡ create_entries_sql) ⊎ (sql ≡ create_props_sql) ⊎ IsPlain (understood schema_2 sql)
 
--- the statement that inserts a property
+-- the statement that inserts a property of an entry into the table `props`
 abbrev pub insert_prop_sql : List ℕ
 insert_prop_sql = codes "INSERT INTO props (run, position, place, name, value) VALUES (?1, ?2, ?3, ?4, ?5)"
 
