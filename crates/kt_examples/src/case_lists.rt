@@ -80,7 +80,7 @@ fn push_cases(out: &mut ExampleOutput, row: &Example<'_>, found: Items<CaseDef>)
 ///
 /// The list is the text of the line `list TEXT`. Without this line, the list is the header, the
 /// text of the line `blocks TEXT`, and the copies of the lines `numbered COUNT TEXT`.
-fn list_text(alloc: Global, row: &Example<'_>) -> Result<Vec<u8>> {
+fn decode_case_list(alloc: Global, row: &Example<'_>) -> Result<Vec<u8>> {
     if let Some(text) = row.text("list") {
         return unescape(alloc, text);
     }
@@ -127,7 +127,7 @@ pub fn answer(out: &mut ExampleOutput, row: &Example<'_>) -> Result<()> {
     if let Some(word) = row.text("program") {
         return push_cases(out, row, program_cases(out.alloc, row, word)?);
     }
-    match parse_list(out.alloc, &list_text(out.alloc, row)?) {
+    match parse_list(out.alloc, &decode_case_list(out.alloc, row)?) {
         Ok(found) => return push_cases(out, row, found),
         Err(fault) => write!(out, "{fault}"),
     }

@@ -49,7 +49,7 @@ pub fn parse_numbers(alloc: Global, text: &str) -> Result<Vec<u64>> {
 }
 
 /// Returns `text` with each `#` replaced by `number`.
-fn copy_with_number(alloc: Global, text: &str, number: u32) -> Result<String> {
+fn insert_number(alloc: Global, text: &str, number: u32) -> Result<String> {
     let number = number.to_string(alloc)?;
     convert_error(text.replace(alloc, "#", number.as_str()))
 }
@@ -65,7 +65,7 @@ pub fn expand_numbered(alloc: Global, raw: &str) -> Result<Vec<String>> {
     let (times, text) = split_required(raw, " ", "a text stands after a number")?;
     let mut texts = Vec::new(alloc);
     for number in 0..count(times)? {
-        push_or_fail(&mut texts, copy_with_number(alloc, text, number))?;
+        push_or_fail(&mut texts, insert_number(alloc, text, number))?;
     }
     Ok(texts)
 }

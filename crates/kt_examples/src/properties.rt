@@ -47,7 +47,7 @@ pub fn set_valid_property(alloc: Global, props: &mut Props, raw: &str) -> Result
 
 /// Parses `raw` as `COUNT NAME=VALUE` and sets COUNT properties. Each `#` is replaced by the number
 /// of the property, counted from 0. Fails if a property is rejected.
-fn set_numbered(alloc: Global, props: &mut Props, raw: &str) -> Result<()> {
+fn set_numbered_properties(alloc: Global, props: &mut Props, raw: &str) -> Result<()> {
     for text in expand_numbered(alloc, raw)?.as_slice() {
         set_valid_property(alloc, props, text.as_str())?;
     }
@@ -88,7 +88,7 @@ fn set_variable(alloc: Global, config: &mut Config, raw: &str) -> Result<()> {
 ///
 /// `show` prints the value of the property `name`, `count` the number of properties, and `listing`
 /// all of them.
-fn push_listing_query(
+fn execute_listing_query(
     out: &mut ExampleOutput,
     word: &str,
     name: &str,
@@ -106,7 +106,7 @@ fn push_listing_query(
 impl PropertyState {
     /// Appends the reason of the first unmet requirement in `props`, or `met`. The case is in the
     /// suite `s`.
-    fn push_unmet(&self, out: &mut ExampleOutput, props: &Props) -> Result<()> {
+    fn push_unmet_requirement(&self, out: &mut ExampleOutput, props: &Props) -> Result<()> {
         let suite = Text::from_str(out.alloc, "s")?;
         let meta = props.effective()?;
         match unmet(out.alloc, &meta, &self.config, &suite, &self.host)? {
@@ -128,14 +128,14 @@ impl PropertyState {
         match line.word {
             "set" => return set_property(out, &mut self.program, text),
             "case" => return set_property(out, &mut self.case, text),
-            "numbered" => return set_numbered(alloc, &mut self.program, text),
+            "numbered" => return set_numbered_properties(alloc, &mut self.program, text),
             "config" => return set_variable(alloc, &mut self.config, text),
             "file" => return self.record_found(alloc, Need::File, text),
             "program" => return self.record_found(alloc, Need::Program, text),
             "memory" => return store_number(&mut self.host.memory, text),
             "disk" => return store_number(&mut self.host.disk, text),
             "root" => self.host.root = true,
-            _ => return self.push_case_query(out, line),
+            _ => return self.execute_case_query(out, line),
         }
         Ok(())
     }
@@ -144,7 +144,7 @@ impl PropertyState {
     ///
     /// The query reads the properties of the case. A property that the case doesn't set has the
     /// value of the program.
-    fn push_case_query(&self, out: &mut ExampleOutput, line: &ExampleLine<'_>) -> Result<()> {
+    fn execute_case_query(&self, out: &mut ExampleOutput, line: &ExampleLine<'_>) -> Result<()> {
         out.separate("\n");
         let props = convert_error(Props::overlay(&self.program, &self.case));
         let (name, props) = zip_results(unescape_text(out.alloc, line.text), props)?;
@@ -168,8 +168,8 @@ impl PropertyState {
             "kyuafile" if is_kyuafile_property(name) => out.push("yes"),
             "kyuafile" => out.push("no"),
             "get" => out.push(props.get(name).map_or("-", Text::as_str)),
-            "unmet" => return self.push_unmet(out, props),
-            _ => return push_listing_query(out, word, name.as_str(), &props.listing()?),
+            "unmet" => return self.push_unmet_requirement(out, props),
+            _ => return execute_listing_query(out, word, name.as_str(), &props.listing()?),
         }
         Ok(())
     }

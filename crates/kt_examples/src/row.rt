@@ -149,7 +149,7 @@ impl<'a> Example<'a> {
 
 /// Parses `raw` as `COUNT TEXT`, and appends COUNT copies of the text to `bytes`, with their
 /// escapes decoded. Each `#` in a copy is replaced by the copy's number, counted from 0.
-fn append_numbered(alloc: Global, bytes: &mut Vec<u8>, raw: &str) -> Result<()> {
+fn append_numbered_copies(alloc: Global, bytes: &mut Vec<u8>, raw: &str) -> Result<()> {
     for text in expand_numbered(alloc, raw)?.as_slice() {
         append(alloc, bytes, text.as_str())?;
     }
@@ -170,7 +170,7 @@ pub fn append_copies(alloc: Global, bytes: Result<Vec<u8>>, row: &Example<'_>) -
     let mut bytes = bytes?;
     for line in row.entries.as_slice() {
         if line.word == "numbered" {
-            append_numbered(alloc, &mut bytes, line.text)?;
+            append_numbered_copies(alloc, &mut bytes, line.text)?;
         }
     }
     Ok(bytes)

@@ -22,7 +22,7 @@ fn parts(line: &str) -> (&str, Option<&str>) {
 }
 
 /// Returns `true` if the last example has no expected output yet.
-fn is_last_incomplete(rows: &[Example<'_>]) -> bool {
+fn is_last_example_incomplete(rows: &[Example<'_>]) -> bool {
     rows.last().is_some_and(|row| row.wanted.is_empty())
 }
 
@@ -57,7 +57,7 @@ fn take<'a>(alloc: Global, rows: &mut Vec<Example<'a>>, line: u64, text: &'a str
     if let Some(wanted) = text.strip_prefix("->") {
         return push_output_line(rows, wanted.trim());
     }
-    if !is_last_incomplete(rows) {
+    if !is_last_example_incomplete(rows) {
         rows.push(Example {
             line,
             entries: Vec::new(alloc),
@@ -88,7 +88,7 @@ pub fn parse_rows<'a>(
             return Err((number, fault));
         }
     }
-    if is_last_incomplete(&rows) {
+    if is_last_example_incomplete(&rows) {
         return Err((
             number,
             ExampleFault::InvalidExample("the last row has no answer"),

@@ -128,7 +128,7 @@ fn read_in_pieces(
 /// `whole`. If the pieces give another text, appends that text.
 ///
 /// `word` is `tap` for a TAP stream.
-fn push_if_split_differs(
+fn check_split(
     out: &mut ExampleOutput,
     word: &str,
     bytes: &[u8],
@@ -155,7 +155,7 @@ fn push_checked_text(out: &mut ExampleOutput, word: &str, bytes: &[u8], whole: &
         bytes.len()
     };
     for cut in 0..cuts {
-        if !push_if_split_differs(out, word, bytes, cut, whole)? {
+        if !check_split(out, word, bytes, cut, whole)? {
             return Ok(());
         }
     }

@@ -58,7 +58,7 @@ fn are_unescaped(attribute: bool, bytes: &[u8; 32]) -> bool
 /// (`is_unescaped`).
 ///
 /// `attribute` is `true` for an attribute, and `false` for content.
-fn short_unescaped_length(attribute: bool, text: &[u8]) -> usize
+fn count_unescaped_bytes(attribute: bool, text: &[u8]) -> usize
     ensures length { result ≡ prefix_len
         (λ b. bytes_eq (escaped attribute b) (b ∷ []) && not (b == 239)) text.now }
     ensures within { result ≤ length text.now }
@@ -86,7 +86,7 @@ fn unescaped_length(attribute: bool, text: &[u8]) -> usize
         length += 32;
         rest = after;
     }
-    length + short_unescaped_length(attribute, rest)
+    length + count_unescaped_bytes(attribute, rest)
 }
 
 /// Appends `text` to `escaped`, escaped for an XML attribute if `attribute` is `true`, otherwise

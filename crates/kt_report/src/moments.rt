@@ -60,7 +60,7 @@ fn printable_moment(moment: u64) -> u64
 }
 
 /// Returns the civil date that is `days` days after the first of January 1970.
-fn date_after(days: u64) -> Date
+fn add_days_to_epoch(days: u64) -> Date
     requires { days < 2932897 }
     ensures { epoch_day result ≡ pos days }
 {
@@ -73,7 +73,7 @@ fn date_after(days: u64) -> Date
 pub fn date_of(moment: u64) -> Date
     ensures { IsDateOf moment result }
 {
-    date_after(printable_moment(moment) / MILLIS_PER_DAY)
+    add_days_to_epoch(printable_moment(moment) / MILLIS_PER_DAY)
 }
 
 /// Writes the time of day that is `millis` milliseconds after midnight, in the form `22:13:20.123`.

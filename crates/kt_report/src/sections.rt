@@ -16,7 +16,7 @@ const SECTION_ORDER: [Kind; 5] = [
 ];
 
 /// Returns the kinds in the order of their sections in the text report.
-fn order_of_sections() -> &'static [Kind]
+fn section_order() -> &'static [Kind]
     ensures { result.now ≡ order }
 {
     &SECTION_ORDER
@@ -132,7 +132,7 @@ fn write_section<D: Details, W: Write>(
 
 /// Writes the sections of the chosen `kinds`, and returns the kind of the last written entry.
 ///
-/// The sections contain `entries`, and are in the order of `order_of_sections`. If `verbose` is
+/// The sections contain `entries`, and are in the order of `section_order`. If `verbose` is
 /// `true`, the properties that `details` reads follow the line of each entry. The result is `None`
 /// if nothing is written.
 ///
@@ -154,7 +154,7 @@ pub fn write_sections<D: Details, W: Write>(
         (entries_by_section kinds.now entries.now) result }
 {
     let mut last = None;
-    for kind in order_of_sections() {
+    for kind in section_order() {
         last = write_section(verbose, kinds, entries, *kind, last, details, out)?;
     }
     Ok(last)

@@ -26,7 +26,7 @@ pub fn decimal_count(kind: Kind, entries: &[Entry]) -> Decimal
 }
 
 /// Writes `, unfinished`, unless the run is finished. `finished` is `true` for a finished run.
-fn write_unfinished<W: Write>(finished: bool, out: &mut W) -> Result<(), OutputFault>
+fn write_unfinished_note<W: Write>(finished: bool, out: &mut W) -> Result<(), OutputFault>
     ensures { Emits (W.contents out.old) (W.contents out.new) (is_err result)
         (unfinished_bytes finished) }
 {
@@ -49,7 +49,7 @@ fn write_summary_title<W: Write>(date: Date, run: &Run, out: &mut W) -> Result<(
         out,
     )?;
     write_moment(date, run.started, out)?;
-    write_unfinished(run.finished, out)
+    write_unfinished_note(run.finished, out)
 }
 
 /// Writes the number of `entries`, and the numbers of those with each kind of verdict but `passed`.

@@ -14,7 +14,7 @@ returns-in_err-last g c =
     let reads = reads_if_verbose c.args.verbose g.D.Details.reads_pairs in
     let v = c.args.verbose in
     let due = chosen_entries c.args.kinds.now c.args.entries.now in
-    let items = c.order_of_sections-kind-items in
+    let items = c.section_order-kind-items in
     error_is (WritesEntries reads _ _ _ _ v None _) _ _ c.from_residual.ensures.1
     (entries_as reads v (ap (flat_map due) items.ensures)
     (item_cut reads v due items.result.now c.loop-kind.kind-index _ c.loop-kind-test.true c.loop-kind.invariant c.in_err-last.ensures))
@@ -22,13 +22,13 @@ returns-in_err-last g c =
 pub loop-kind-preserved : goal.loop-kind-preserved
 loop-kind-preserved g c =
     item_next (reads_if_verbose c.args.verbose g.D.Details.reads_pairs) c.args.verbose (chosen_entries c.args.kinds.now c.args.entries.now)
-    c.order_of_sections-kind-items.result.now c.loop-kind.kind-index _ c.loop-kind-test.true c.loop-kind.invariant c.in_ok-last.ensures
+    c.section_order-kind-items.result.now c.loop-kind.kind-index _ c.loop-kind-test.true c.loop-kind.invariant c.in_ok-last.ensures
 
 pub returns : goal.returns
 returns g c =
     let reads = reads_if_verbose c.args.verbose g.D.Details.reads_pairs in
     let v = c.args.verbose in
     let due = chosen_entries c.args.kinds.now c.args.entries.now in
-    let items = c.order_of_sections-kind-items in
+    let items = c.section_order-kind-items in
     entries_as reads v (ap (flat_map due) items.ensures)
     (items_all reads v due items.result.now c.loop-kind.kind-index c.loop-kind-test.false c.loop-kind.invariant)

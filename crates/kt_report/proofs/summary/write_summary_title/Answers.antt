@@ -11,4 +11,4 @@ returns-in_err-write_moment g c =
 
 pub returns : goal.returns
 returns g c =
-    shows_both (shows_both (rw (c.as_bytes.ensures, c.new-number.ensures.value) at c.in_ok-emit_all.ensures) c.in_ok-write_moment.ensures) c.write_unfinished.ensures
+    shows_both (shows_both (rw (c.as_bytes.ensures, c.new-number.ensures.value) at c.in_ok-emit_all.ensures) c.in_ok-write_moment.ensures) c.write_unfinished_note.ensures

@@ -2,7 +2,7 @@ use Rattle.std.proofs.Common.{arith, w64, ◌<◌, ◌^◌, ℤ, subst, ◌∙�
 use Rattle.kt_report.proofs.Common.{IsOnly, Day}
 use Rattle.std.proofs.lemmas.Int.{to_z_pos}
 use Rattle.kt_report.proofs.Days.{first_day, days_after}
-use Rattle.kt_report.proofs.moments.date_after.Goals as goal
+use Rattle.kt_report.proofs.moments.add_days_to_epoch.Goals as goal
 
 pub unwrap-requires : goal.unwrap-requires
 unwrap-requires c =
