@@ -1,5 +1,4 @@
--- The calls of a machine (files and clock), and the paths at which a command looks up files and
--- programs.
+-- The calls to the host's files and clock, and the search for programs.
 use Rattle.std.specs.Prelude.{ℕ, Bool, true, false, List, [], ◌∷◌, ◌++◌, ◌==◌, ◌≡◌, ◌≤◌, ◌<◌, length, Option, Some, None, Result, codes}
 use Rattle.std.specs.List.{list_any, slice_split}
 use Rattle.kt_base.specs.Characters.{is_slash}
@@ -7,23 +6,25 @@ use Rattle.kt_os.specs.declared.machine.file_fault.FileFault.TheVariants as file
 use Rattle.kt_os.specs.declared.system.OsFault.TheVariants as fault
 use Rattle.kt_os.specs.Types.{FileFault, OsFault, is_absolute, utf8}
 
--- The maximum number of bytes that are read from a file: one more than a script may have.
+-- `read_limit`: the maximum number of bytes that are read from a file. It is one more than a script
+-- may have.
 abbrev pub read_limit : ℕ
 read_limit = 1048577
 
--- The maximum length of a path that the host accepts, in bytes.
+-- `longest_path`: the maximum length of a path that the host accepts, in bytes.
 abbrev pub longest_path : ℕ
 longest_path = 4095
 
--- `file_fault_of fault`: the fault of reading a regular file whose bytes could not be read, because of
+-- `file_fault_of fault`: the error of reading a regular file if a call to the system fails with
 -- `fault`.
 abbrev pub file_fault_of : OsFault → FileFault
 file_fault_of fault.Failed = file.Failed
 file_fault_of (fault.Memory refusal) = file.Memory refusal
 
--- A call of a machine with its result. `ReadsFile` reads the start of a file. `IsFile`, `PathExists` and
--- `IsProgram` check that a path names a regular file, any file or an executable file. `HasMoment`
--- reads the clock, in milliseconds since 1970-01-01 UTC. Paths are bytes.
+-- `HostResponse`: a call to the host with its result. `ReadsFile` reads the start of a file.
+-- `IsFile`, `PathExists` and `IsProgram` check that a path names a regular file, any file or an
+-- executable file. `HasMoment` reads the clock, in milliseconds since 1970-01-01 UTC. Paths are
+-- bytes.
 pub data HostResponse : Type 0 where
   ReadsFile : (path : List ℕ) (answer : Result (List ℕ) FileFault) → HostResponse
   IsFile : (path : List ℕ) (answer : Bool) → HostResponse
@@ -43,48 +44,49 @@ path_in (b ∷ bs) name = (b ∷ bs) ++ codes "/" ++ name
 
 module _ {M : Type 0} (answers : M → HostResponse → M → Type 0) where
   -- `CallsAtPath answers path asked Unasked old new`: the call `asked` about the joined path `path`
-  -- leads a machine from state `old` to `new`. If the path is too long, no call is made, and
-  -- `Unasked` holds. `answers` is the relation of the machine.
+  -- leads the host from state `old` to `new`. If the path is longer than `longest_path`, no call is
+  -- made, and `Unasked` holds. `answers` is the relation of the host's calls.
   pub data CallsAtPath (path : List ℕ) (asked : HostResponse) (Unasked : Type 0) (old new : M) : Type 0 where
     taken : length path ≤ longest_path → answers old asked new → CallsAtPath path asked Unasked old new
     too_long : longest_path < length path → Unasked → new ≡ old → CallsAtPath path asked Unasked old new
 
-  -- `HasProgram answers name directory answer old new`: a machine in state `old` returns `answer`,
-  -- whether `directory` has the program `name`. Its state is then `new`. `answers` is the relation
-  -- of the machine.
+  -- `HasProgram answers name directory answer old new`: `answer` is `true` if the host reports that
+  -- `directory` has the program `name`. The call leads the host from state `old` to `new`.
+  -- `answers` is the relation of the host's calls.
   abbrev pub HasProgram : List ℕ → List ℕ → Bool → M → M → Type 0
   HasProgram name directory answer old new = CallsAtPath (path_in directory name) (IsProgram (path_in directory name) answer) (answer ≡ false) old new
 
   -- `SearchesDirectories answers name directories answer old new`: the program `name` is looked up
-  -- in `directories`, in order, up to the first directory that has it. `answer` is whether one has
-  -- it. The calls lead the machine from state `old` to `new`. `answers` is the relation of the
-  -- machine.
+  -- in `directories`, in order, up to the first directory that has it. `answer` is `true` if one
+  -- has it. The calls lead the host from state `old` to `new`. `answers` is the relation of the
+  -- host's calls.
   pub data SearchesDirectories (name : List ℕ) : List (List ℕ) → Bool → M → M → Type 0 where
     nowhere : (old : M) → SearchesDirectories name [] false old old
     here : (directory : List ℕ) (others : List (List ℕ)) (old new : M) → HasProgram name directory true old new → SearchesDirectories name (directory ∷ others) true old new
     further : (directory : List ℕ) (others : List (List ℕ)) (answer : Bool) (old mid new : M) → HasProgram name directory false old mid → SearchesDirectories name others answer mid new
         → SearchesDirectories name (directory ∷ others) answer old new
 
-  -- `IsFoundInPath answers slash path name answer old new`: a machine in state `old` returns `answer`,
-  -- whether the program `name` is found, and its state is then `new`. If `slash` is `false`, `name`
-  -- is looked up in the directories of `path`, the value of `PATH`. A name with a slash is not
-  -- found, and no name is found if `PATH` is not set. `answers` is the relation of the machine.
+  -- `IsFoundInPath answers slash path name answer old new`: `answer` is `true` if the program
+  -- `name` is found. The calls lead the host from state `old` to `new`. If `slash` is `false`,
+  -- `name` is looked up in the directories of `path`, the value of `PATH`. A name with a slash is
+  -- not found, and no name is found if `PATH` is not set. `answers` is the relation of the host's
+  -- calls.
   abbrev pub IsFoundInPath : Bool → Option (List ℕ) → List ℕ → Bool → M → M → Type 0
   IsFoundInPath false (Some path) name answer old new = SearchesDirectories (utf8 name) (directories (utf8 path)) answer old new
   IsFoundInPath false None name answer old new = (answer ≡ false) × (new ≡ old)
   IsFoundInPath true path name answer old new = (answer ≡ false) × (new ≡ old)
 
-  -- `IsFoundByName answers absolute path name answer old new`: a machine in state `old` returns
-  -- `answer`, whether the program `name` is found, and its state is then `new`. If `absolute` is
-  -- `true`, `name` is looked up as a path, else by `IsFoundInPath` in the directories of `path`.
-  -- `answers` is the relation of the machine.
+  -- `IsFoundByName answers absolute path name answer old new`: `answer` is `true` if the program
+  -- `name` is found. The calls lead the host from state `old` to `new`. If `absolute` is `true`,
+  -- `name` is looked up as a path, else by `IsFoundInPath` in the directories of `path`. `answers`
+  -- is the relation of the host's calls.
   abbrev pub IsFoundByName : Bool → Option (List ℕ) → List ℕ → Bool → M → M → Type 0
   IsFoundByName true path name answer old new = answers old (IsProgram (utf8 name) answer) new
   IsFoundByName false path name answer old new = IsFoundInPath (list_any is_slash name) path name answer old new
 
-  -- `IsFoundByPath answers path name answer old new`: a machine in state `old` returns `answer`,
-  -- whether the required program `name` exists for the value `path` of `PATH`. Its state is then
+  -- `IsFoundByPath answers path name answer old new`: `answer` is `true` if the required program
+  -- `name` is found with `path`, the value of `PATH`. The calls lead the host from state `old` to
   -- `new`. A name that begins with a slash is an absolute path. `answers` is the relation of the
-  -- machine.
+  -- host's calls.
   abbrev pub IsFoundByPath : Option (List ℕ) → List ℕ → Bool → M → M → Type 0
   IsFoundByPath path name answer old new = IsFoundByName (is_absolute name) path name answer old new

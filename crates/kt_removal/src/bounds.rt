@@ -10,7 +10,7 @@ const CASE_LIMIT_MICROS: u64 = 5_000;
 /// The time that is counted for each step of a removal if the clock fails, in microseconds.
 const STEP_MICROS: u64 = 100;
 
-/// A time limit of a removal, with the number of its steps so far.
+/// A time limit of a removal, with the number of steps that the removal has taken.
 #[derive(Clone, Copy)]
 pub(crate) struct Bound {
     /// The start time of the removal, or `None` if the clock failed.
@@ -57,7 +57,7 @@ fn min_root_steps(waiting: u32) -> u64
 }
 
 impl Bound {
-    /// Creates a bound of `micros` microseconds that starts now.
+    /// Creates a time limit of `micros` microseconds from now.
     pub(crate) fn from_now<C: Clock>(clock: &C, micros: u64) -> Bound
         ensures micros { result.micros ≡ micros }
         ensures least { result.least ≡ 0 }
@@ -71,7 +71,7 @@ impl Bound {
         }
     }
 
-    /// Creates the bound for the removal of a case's directory: 5 milliseconds from now.
+    /// Creates the time limit for the removal of a case's directory: 5 milliseconds from now.
     pub(crate) fn case_limit<C: Clock>(clock: &C) -> Bound
         ensures micros { result.micros ≡ case_limit }
         ensures least { result.least ≡ 0 }
@@ -79,8 +79,8 @@ impl Bound {
         Bound::from_now(clock, CASE_LIMIT_MICROS)
     }
 
-    /// Creates the bound for the removal of the root directory, while `waiting` directories are in
-    /// the queue.
+    /// Creates the time limit for the removal of the root directory, while `waiting` directories
+    /// are in the queue.
     pub(crate) fn for_root<C: Clock>(clock: &C, waiting: u32) -> Bound
         ensures micros { result.micros ≡ closing_limit waiting }
         ensures least { result.least ≡ min_root_steps waiting }
@@ -94,14 +94,15 @@ impl Bound {
         }
     }
 
-    /// Returns the microseconds since the start of the bound, or `None` if the clock fails.
+    /// Returns the time since the start of the removal in microseconds, or `None` if the clock
+    /// failed.
     fn taken<C: Clock>(&self, clock: &C) -> Option<u128> {
         let started = self.started?;
         let now = Instant::now(clock).ok()?;
         Some(now.duration_since(started).as_micros())
     }
 
-    /// Returns the microseconds since the start of the bound, or 0 if the clock fails.
+    /// Returns the time since the start of the removal in microseconds, or 0 if the clock failed.
     pub(crate) fn passed<C: Clock>(&self, clock: &C) -> u64 {
         let taken = self.taken(clock).unwrap_or(0);
         u64::try_from(taken).unwrap_or(u64::MAX)

@@ -74,7 +74,7 @@ impl Removals {
         fs::remove_dir(rt, directory.as_str()).is_ok()
     }
 
-    /// Moves the directory `path` to `to`, the path of the next number in the queue.
+    /// Moves the directory `path` to `to`, the path in the queue with the next number.
     pub(crate) fn move_to<R: Files>(&self, rt: &R, path: &[u8], to: &Text) -> io::Result<()>
         requires from { MayRemove self.now path.now }
         requires to { to.now ≡ queued_dir self.now.place self.now.moved }

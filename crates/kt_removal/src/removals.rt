@@ -68,7 +68,7 @@ impl Removals {
         self.queue_identity.is_at(rt, self.place.as_str())
     }
 
-    /// Returns the path in the queue that the next moved directory gets.
+    /// Returns the path in the queue to which the next directory is moved.
     fn next_queued_path(&self, alloc: Global) -> Result<Text, NoMemory>
         ensures { IfOk result (λ path. path ≡ queued_dir self.now.place self.now.moved) }
     {
@@ -145,9 +145,10 @@ impl Removals {
         false
     }
 
-    /// Removes the directory `path` if it is empty, and otherwise moves it into the queue.
+    /// Removes the directory `path` if it is empty, and moves it into the queue if it has entries.
     ///
-    /// A mount point is left as it is: its removal fails because it is busy.
+    /// If the removal fails for another reason, the directory is left. So is a mount point, which
+    /// is busy.
     fn remove_directory<R: Files + AllocGlobal>(&mut self, rt: &R, path: &[u8])
         requires { MayRemove self.old path.now }
         ensures stays { KeepsQueue self.old self.new }
@@ -227,7 +228,7 @@ impl Removals {
         }
     }
 
-    /// Removes `path`, the directory of the queue that was emptied, and moves on to the next
+    /// Removes `path`, the queued directory that was just emptied, and advances the queue by one
     /// number.
     ///
     /// If the directory still has entries, it is moved to the end of the queue. It is left if
@@ -246,7 +247,7 @@ impl Removals {
         self.advance_queue();
     }
 
-    /// Moves on to the next number of the queue.
+    /// Advances the queue to its next number, and clears `progress`.
     fn advance_queue(&mut self)
         ensures root { self.new.root ≡ self.old.root }
         ensures place { self.new.place ≡ self.old.place }
@@ -257,8 +258,8 @@ impl Removals {
         self.done = self.done.saturating_add(1);
     }
 
-    /// Removes the entries of `directory` until all names are read or the time of `bound` is over.
-    /// An entry that is a directory with entries is moved into the queue.
+    /// Removes the entries of `directory` until all their names are read or the time limit `bound`
+    /// is over. An entry that is a directory with entries is moved into the queue.
     ///
     /// Returns `true` if all names were read, or if the directory can't be opened or read. The
     /// entries of the first read are removed even if the time is over.
@@ -477,8 +478,8 @@ impl Removals {
     }
 }
 
-/// Empties the queue of `removals` for `micros` microseconds, or sleeps for that time if the queue
-/// is empty.
+/// Empties the queue of `removals` for `micros` microseconds. Sleeps for that time if there is no
+/// queue or the queue is empty.
 ///
 /// Returns the microseconds that passed, or `micros` if fewer passed. More than `micros` pass if
 /// the system takes long to remove an entry.

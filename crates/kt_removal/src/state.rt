@@ -1,7 +1,7 @@
 use crate::identity::DirIdentity;
 use kt_base::Text;
 
-/// A queue of removals below a root directory, which proceeds in short steps.
+/// A queue of the directories below a root directory that are removed in short steps.
 ///
 /// A subdirectory with entries is moved into the queue directory, and renamed to `0`, `1` and so on
 /// there. So is the directory of a case that takes too long to empty. The directories of the queue
@@ -26,8 +26,8 @@ pub struct Removals {
     pub(crate) moved: u64,
     /// The number of the queue's directory that is emptied next.
     pub(crate) done: u64,
-    /// The numbers without a directory, since the move to them failed.
+    /// The numbers of the queue that have no directory, because the move to them failed.
     pub(crate) gaps: Vec<u64>,
-    /// `true` if an entry of the current directory was removed or moved.
+    /// `true` if an entry of the directory that is being emptied was removed or moved.
     pub(crate) progress: bool,
 }

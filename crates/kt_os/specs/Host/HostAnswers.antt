@@ -36,8 +36,8 @@ IsReadOf limit xs (Ok Missing) = ⊥
 IsReadOf limit xs (Ok (Part bytes true)) = (bytes ≡ take limit xs) × (limit < length xs)
 IsReadOf limit xs (Ok (Part bytes false)) = (bytes ≡ xs) × (length xs ≤ limit)
 
--- `ConsumesAtMost limit left rest`: a read consumes at most `limit` bytes of a file. `left` and `rest`
--- are the remaining bytes of the file before and after the read, if they are known.
+-- `ConsumesAtMost limit left rest`: a read consumes at most `limit` bytes of a file. `left` and
+-- `rest` are the remaining bytes of the file before and after the read, if they are known.
 abbrev pub ConsumesAtMost : ℕ → Option (List ℕ) → Option (List ℕ) → Type 0
 ConsumesAtMost limit left rest = IfSome left (λ xs. IsSomeAnd rest (λ ys. length xs ≤ length ys + limit))
 
@@ -46,10 +46,10 @@ abbrev pub IsNotMissing : Result FileRead OsFault → Type 0
 IsNotMissing (Ok Missing) = ⊥
 IsNotMissing answer = Unit {0}
 
--- `DecodesWaitStatus bits result`: `result` is the meaning of the wait status `bits` (wait(2)). If its low
--- 7 bits are 0, the child exited, and bits 8 to 15 are the exit status. Otherwise the low 7 bits
--- are the signal that ended the child, and bit 7 reports a core dump. If the low 7 bits are 127,
--- the child has not ended, and `result` is an error.
+-- `DecodesWaitStatus bits result`: `result` is the state of a child that the wait status `bits`
+-- reports (wait(2)). If its low 7 bits are 0, the child exited, and bits 8 to 15 are the exit
+-- status. Otherwise the low 7 bits are the signal that ended the child, and bit 7 reports a core
+-- dump. If the low 7 bits are 127, the child has not ended, and `result` is an error.
 abbrev pub DecodesWaitStatus : ℕ → Result Polled OsFault → Type 0
 DecodesWaitStatus bits (Ok Running) = ⊥
 DecodesWaitStatus bits (Ok (Exited code)) = (bits % 128 ≡ 0) × (code ≡ bits / 256 % 256)
@@ -57,10 +57,10 @@ DecodesWaitStatus bits (Ok (Signaled signal core)) =
     (signal ≡ bits % 128) × (bits % 128 ≢ 0) × (bits % 128 ≢ 127) × (core ≡ (bits / 128 % 2 == 1))
 DecodesWaitStatus bits (Err _) = bits % 128 ≡ 127
 
--- `ReportsEnd child old answer new IsLast`: a poll of `child` returns `answer`, the meaning of the
--- wait status of its process. The status is that in `old`, if `old` has one. `IsLast` is true of
--- `child` and the status. The states of the children go from `old` to `new`, in which `child` has
--- no process.
+-- `ReportsEnd child old answer new IsLast`: a poll of `child` returns `answer`, the state that the
+-- wait status of its process reports. The status is that in `old`, if `old` has one. `IsLast` is
+-- true of `child` and the status. The states of the children go from `old` to `new`, in which
+-- `child` has no process.
 abbrev pub ReportsEnd : Child → (Child → ProcessState) → Result Polled OsFault → (Child → ProcessState) → (Child → ExitStatus → Type 0) → Type 0
 ReportsEnd child old answer new IsLast =
     (status : ExitStatus) × IsSome (old child) × Proceeds (old child) (Some (Some status)) × DecodesWaitStatus (status_bits status) answer

@@ -13,7 +13,7 @@ is_same_role Body Body = true
 is_same_role Cleanup Cleanup = true
 is_same_role one other = false
 
--- `same_child a b`: `a` and `b` have the same number and role.
+-- `same_child a b`: the children `a` and `b` have the same attempt number and the same role.
 abbrev pub same_child : Child → Child → Bool
 same_child a b = (a.attempt == b.attempt) && is_same_role a.role b.role
 

@@ -25,13 +25,13 @@ abbrev pub IsFaultOf : ErrorKind → OsFault → Type 0
 IsFaultOf kind Failed = kind ≢ OutOfMemory
 IsFaultOf kind (Memory refusal) = kind ≡ OutOfMemory
 
--- `queue_path root`: the directory to which removals move the directories in the root directory
--- `root`.
+-- `queue_path root`: the path of the queue directory in the root directory `root`. Removals move
+-- other directories to it.
 abbrev pub queue_path : List ℕ → List ℕ
 queue_path root = root ++ codes "/kyua." ++ decimal 0
 
--- `setting_after_removals names name said`: the setting of the variable `name` in a command, after the
--- variables `names` were removed. `said` is its setting before the removal.
+-- `setting_after_removals names name said`: the setting of the variable `name` in a command, after
+-- the variables `names` were removed. `said` is its setting before the removal.
 abbrev pub setting_after_removals : List (List ℕ) → List ℕ → Option (Option (List ℕ)) → Option (Option (List ℕ))
 setting_after_removals [] name said = said
 setting_after_removals (gone ∷ names) name said = setting_after_removals names name (if bytes_eq (utf8 gone) name then Some None else said)
@@ -52,8 +52,8 @@ pub record IsCommandOf {A : Type 0} (path : List ℕ) (words : List (List ℕ)) 
   pub variables : (name : List ℕ) → command_var command name ≡ setting_after_sets env.set name (setting_after_removals env.removed name None)
   pub dir : command_dir command ≡ Some (utf8 work)
 
--- `SeeksTo from old new`: a seek to the byte `from` takes the position of a file from `old`, if that
--- is known, to `new`. If `from` is 0, there is no seek, and `new` is not specified.
+-- `SeeksTo from old new`: a seek to the byte `from` takes the position of a file from `old`, if
+-- that is known, to `new`. If `from` is 0, there is no seek, and `new` is not specified.
 abbrev pub SeeksTo : ℕ → Option ℕ → Option ℕ → Type 0
 SeeksTo from old new = 0 < from → IfSome old (λ position. new ≡ Some from)
 
@@ -69,17 +69,18 @@ abbrev pub IsInFirstHalf : ℕ → ℕ → Type 0
 IsInFirstHalf limit answers = answers + 1 ≤ 50 * limit
 
 -- `check_interval_micros children since`: the interval at which `children` children are checked for
--- an end, in microseconds. `since` is the time since a child last ended, in microseconds. With n
--- children, counted up to 512, the interval is the greatest of three times: `min (50 + since / 16)
--- 350`, `14 * (n - 8)` and `since * (n + 4) / 384`.
+-- an end, in microseconds. `since` is the time since a child last ended, in microseconds. The
+-- interval is the greatest of three times. With n children, counted up to 512, they are
+-- `min (50 + since / 16) 350`, `14 * (n - 8)` and `since * (n + 4) / 384`.
 abbrev pub check_interval_micros : ℕ → ℕ → ℕ
 check_interval_micros children since =
     max (max (min (50 + since / 16) 350) (14 * (min children 512 - 8))) (since * (min children 512 + 4) / 384)
 
 -- `next_slice children pauses micros`: the length of the next slice of a pause for `children`
--- children, in microseconds. `micros` of the pause have passed, and `pauses` pauses since a child
--- last ended. The length is `check_interval_micros` for at most eight children. It is at least 3
--- for each child after the eighth, counted up to 512, and at most the rest of the pause of 10,000.
+-- children, in microseconds. `micros` microseconds of the pause have passed, and `pauses` pauses
+-- since a child last ended. The length is `check_interval_micros` for at most eight children. It is
+-- at least 3 for each child after the eighth, counted up to 512, and at most the rest of the pause
+-- of 10,000.
 abbrev pub next_slice : ℕ → ℕ → ℕ → ℕ
 next_slice children pauses micros =
     min (max (check_interval_micros (min children 8) (10000 * pauses + micros)) (3 * (min children 512 - 8))) (10000 - micros)

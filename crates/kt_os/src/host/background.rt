@@ -1,5 +1,5 @@
 /// An interface to the program's other work while children run, such as writing its output.
 pub trait Background {
-    /// Advances the work by one part. Never waits.
+    /// Advances the program's other work by one part, without waiting.
     fn advance(&self);
 }

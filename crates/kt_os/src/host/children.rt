@@ -140,8 +140,8 @@ fn detect_new_end<P: OpenProcess + Drop>(children: &mut Children<P>, from: usize
     false
 }
 
-/// Waits at most one pause, nominally 10 milliseconds, until a child has ended. Returns `true` if
-/// an end was found.
+/// Waits until a child has ended, for at most one pause of nominally 10 milliseconds. Returns
+/// `true` if an end was found.
 ///
 /// `pauses` is the number of pauses since the end of a child was last found. A pause has slices, in
 /// which the removals of `removals` continue. The newest children are checked after each slice, and

@@ -16,7 +16,8 @@ use std::process::{ExitStatus, Processes};
 use std::rt::{Clock, Files};
 use std::time::SystemTime;
 
-/// The number of turns without an end after which the check for late children is repeated.
+/// The number of turns in which no child ended, after which the check for late children is
+/// repeated.
 const TURNS_PER_LATE_CHECK: u32 = 8;
 
 /// An `Os` of the host, with the processes, files and clocks of the standard library.
@@ -76,7 +77,7 @@ impl<R: Processes + AllocGlobal + Drop, B> HostOs<R, B> {
     ghost use Rattle.kt_os.specs.Common.{process_state_in};
     ghost use Rattle.kt_os.specs.declared.system.Child.{Child as Name};
 
-    /// Creates the system of the host without children. `background` is the program's other work
+    /// Creates an `Os` of the host that has no children. `background` is the program's other work
     /// while children run.
     pub fn new(rt: R, background: B) -> HostOs<R, B>
         ensures { (c : Name) → process_state_in result.children.entries c ≡ None }

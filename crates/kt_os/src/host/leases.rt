@@ -4,7 +4,7 @@ use std::fs::{File, Metadata};
 use std::os::unix::fs::MetadataExt;
 use std::rt::Files;
 
-/// The greatest number of bytes that are read of `/proc/locks`.
+/// The greatest number of bytes that are read from `/proc/locks`.
 const MAX_LOCKS_BYTES: usize = 1_048_576;
 
 /// Returns `true` if a list of locks (proc_locks(5)) contains a lease on a file. `file` is the

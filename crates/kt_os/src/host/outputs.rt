@@ -128,16 +128,17 @@ fn create_queue_dir<R: Files>(rt: &R, place: &str, rights: Rights) -> io::Result
     })
 }
 
-/// Returns the path of the directory in the root directory `root` to which removals move other
-/// directories.
+/// Returns the path of the queue directory in the root directory `root`. Removals move other
+/// directories to it.
 fn queue_path(alloc: Global, root: &Text) -> Result<Text, NoMemory>
     ensures { IfOk result (λ path. path ≡ queue_path root.now) }
 {
     numbered_path(alloc, root, "/kyua.", 0)
 }
 
-/// Creates the root directory and, in it, the directory to which removals move other directories.
-/// Returns the removals, the owner of the root directory and the effect of the umask.
+/// Creates the root directory and, in it, the queue directory, to which removals move other
+/// directories. Returns an empty queue, and the facts that decide the modes of later directories
+/// and files.
 pub(crate) fn create_root<R: Files + AllocGlobal>(
     rt: &R,
     path: &Text,

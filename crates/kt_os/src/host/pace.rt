@@ -26,8 +26,8 @@ fn check_interval_micros(children: usize, since: u64) -> u64
     short.max(many).max(since * (children + 4) / 384)
 }
 
-/// The number of newest children that are checked for an end after each slice. They are more likely
-/// to have ended than the others.
+/// The number of newest children that are checked for an end after each slice of a pause. They are
+/// more likely to have ended than the others.
 pub(crate) const NEWEST_CHILDREN: usize = 8;
 
 /// Returns the length of the next slice of a pause between polls, in microseconds.

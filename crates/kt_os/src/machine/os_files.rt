@@ -25,7 +25,7 @@ pub struct OsFiles<'a, R> {
     pub rt: &'a R,
 }
 
-/// Converts the `io::Error` of a system call to the fault of reading a file.
+/// Converts the I/O error of a system call on a file to a `FileFault`.
 fn to_read_fault(error: io::Error) -> FileFault {
     if let Some(refusal) = NoMemory::from_io_error(&error) {
         return FileFault::Memory(refusal);

@@ -13,7 +13,7 @@ use std::path::PathBuf;
 use std::rt::Env;
 use std::{env, io};
 
-/// The maximum length of an environment variable, in bytes. Linux accepts no longer variable
+/// The maximum length of an environment variable, in bytes. Linux rejects a longer one
 /// (`MAX_ARG_STRLEN`).
 const MAX_VARIABLE_BYTES: usize = 131_072;
 
@@ -29,8 +29,8 @@ pub struct ProcessEnv {
     pub user: Option<Text>,
 }
 
-/// Copies the value of a variable from the start of the buffer `room`. `answer` is the length of
-/// the value, or the error of reading the variable.
+/// Copies the value of an environment variable from the start of the buffer `room`. `answer` is the
+/// length of the value, or the error of reading the variable.
 ///
 /// Returns `None` if the variable is not set, is not UTF-8 or is longer than the buffer.
 fn decode_variable(
@@ -85,9 +85,10 @@ fn copy_working_directory(alloc: Global, answer: io::Result<PathBuf>) -> Result<
 impl ProcessEnv {
     ghost use Rattle.kt_os.specs.Around.{is_root};
 
-    /// Reads `PATH` and `USER` from the environment. `here` is the absolute working directory.
+    /// Reads `PATH` and `USER` from the environment, and stores them with `here`, the absolute path
+    /// of the working directory.
     ///
-    /// A variable that is not UTF-8 counts as not set.
+    /// A variable that is not UTF-8 or has more than 131,072 bytes counts as not set.
     ///
     /// # Errors
     ///

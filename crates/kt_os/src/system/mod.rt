@@ -12,7 +12,7 @@ use thiserror::Error;
 /// Errors returned by the methods of [`Os`]. No command prints them.
 #[derive(Clone, Copy, Debug, Error)]
 pub enum OsFault {
-    /// The call failed for a reason other than memory. The reason is not recorded.
+    /// The call failed for a reason other than a failed allocation. The reason is not recorded.
     #[error("system call failed")]
     Failed,
     /// An allocation of the call failed.
@@ -28,14 +28,14 @@ impl From<NoMemory> for OsFault {
     }
 }
 
-/// The name of a child process: an attempt and a role. The child that lists an ATF program's test
-/// cases has the role `Body`.
+/// A name of a child process: the number of its attempt, and its role. The child that lists an ATF
+/// program's test cases has the role `Body`.
 #[derive(Clone, Copy, PartialEq, Eq, Hash)]
 pub struct Child {
     /// The number of the attempt, counted from 0. A driver numbers the starts of bodies, and of
     /// programs that list their test cases, in one sequence. A cleanup has the number of its body.
     pub attempt: u64,
-    /// The part of the case that the child runs.
+    /// The part of the case that the child runs: its body or its cleanup.
     pub role: Role,
 }
 

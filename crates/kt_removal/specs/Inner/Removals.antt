@@ -15,8 +15,8 @@ queued_dir place number = place ++ codes "/" ++ decimal number
 abbrev pub IsNumber : List ℕ → Type 0
 IsNumber name = (0 < length name) × (list_all is_digit name ≡ true)
 
--- `IsCaseDirectory root path`: `path` has the form of a case's directory: an entry of `root` whose name is
--- a number.
+-- `IsCaseDirectory root path`: `path` has the form of a case's directory: an entry of `root` whose
+-- name is a number.
 abbrev pub IsCaseDirectory : List ℕ → List ℕ → Type 0
 IsCaseDirectory root path = (name : List ℕ) × (utf8 path ≡ utf8 root ++ 47 ∷ name) × IsNumber name
 
@@ -35,8 +35,8 @@ IsRemovable r path = IsCaseDirectory r.root path ⊎ (path ≡ r.place) ⊎ (Has
 abbrev pub MayEmpty : Removals → List ℕ → Type 0
 MayEmpty r path = (path ≡ r.root) ⊎ IsRemovable r path
 
--- `is_entry_name name`: `name` can be the name of a directory's entry: not empty, without a slash, and
--- neither `.` nor `..`.
+-- `is_entry_name name`: `name` can be the name of a directory's entry: not empty, without a slash,
+-- and neither `.` nor `..`.
 abbrev pub is_entry_name : List ℕ → Bool
 is_entry_name name = not (bytes_eq name []) && not (bytes_eq name (codes ".")) && not (bytes_eq name (codes "..")) && not (list_any (λ c. c == 47) name)
 
