@@ -2,8 +2,8 @@
 use Rattle.std.specs.Prelude.{◌≡◌, ℕ, ◌<◌, ◌≤◌, Bool, true, false, List, length}
 use Rattle.kt_claim.specs.ResultFile.{limit}
 
--- `ClaimReaderState`: the state of a reader of a result file, as callers see it: the kept bytes,
--- whether the file is too long, and whether an allocation failed.
+-- `ClaimReaderState`: the state of a reader of a result file, as callers see it. It has the kept
+-- bytes. Two flags are true if the file is too long, and if an allocation failed.
 pub record ClaimReaderState : Type 0 where
   pub kept : List ℕ
   pub too_long : Bool

@@ -25,13 +25,13 @@ IsReason reason = (0 < length reason) × (list_any is_newline reason ≡ false)
 abbrev pub IsNumber : List ℕ → Type 0
 IsNumber digits = (0 < length digits) × (list_all is_digit digits ≡ true) × (number digits < 256)
 
--- `reason_suffix reason`: the bytes after a keyword without a number: a colon, a space, `reason` and
--- a newline.
+-- `reason_suffix reason`: the bytes after a keyword without a number: a colon, a space, `reason`
+-- and a newline.
 abbrev pub reason_suffix : List ℕ → List ℕ
 reason_suffix reason = codes ": " ++ reason ++ newline
 
--- `number_suffix digits reason`: the bytes after a keyword with a number: `digits` in round brackets,
--- and then `reason_suffix reason`.
+-- `number_suffix digits reason`: the bytes after a keyword with a number: `digits` in round
+-- brackets, and then `reason_suffix reason`.
 abbrev pub number_suffix : List ℕ → List ℕ → List ℕ
 number_suffix digits reason = codes "(" ++ digits ++ codes ")" ++ reason_suffix reason
 

@@ -6,9 +6,9 @@ use Rattle.kt_claim.specs.Inner.LineStates.{LineState, with_held_cr}
 use Rattle.kt_claim.specs.Inner.TapReading.{HasLines}
 use Rattle.kt_claim.specs.declared.tally.Tally.{Tally}
 
--- `TapReaderState`: the state of a reader of a TAP stream, as callers see it: the counts of the
--- complete lines, the state of the open line, and the number of bytes. Two flags are true if the
--- stream is too long, and if an allocation failed.
+-- `TapReaderState`: the state of a reader of a TAP stream, as callers see it. It has the counts of
+-- the complete lines, the state of the open line, and the number of bytes read. Two flags are true
+-- if the stream is too long, and if an allocation failed.
 pub record TapReaderState : Type 0 where
   pub tally : Tally
   pub line : LineState

@@ -11,7 +11,7 @@ use Rattle.kt_claim.specs.declared.evidence.Tap.{Tap}
 use Rattle.kt_claim.specs.declared.evidence.Tap.TheVariants.{Invalid, BailedOut, SkipAll, Counted}
 use Rattle.kt_claim.specs.declared.evidence.TapFault.TheVariants.{TooLong, NoPlan, SecondPlan, PlanDiffers}
 
--- `limit`: the greatest length of a stream, in bytes.
+-- `limit`: the greatest length of a TAP stream, in bytes.
 abbrev pub limit : ℕ
 limit = 16777216
 
@@ -164,8 +164,8 @@ abbrev pub skip_reason : List ℕ → List ℕ
 skip_reason [] = codes "No reason given"
 skip_reason (b ∷ reason) = lossy (b ∷ reason)
 
--- `plan_reason n reason`: the reason of a plan of `n` tests: `skip_reason reason` if `n` is 0, else an
--- empty text.
+-- `plan_reason n reason`: the reason of a plan of `n` tests: `skip_reason reason` if `n` is 0, else
+-- an empty text.
 abbrev pub plan_reason : ℕ → List ℕ → List ℕ
 plan_reason n reason = if n == 0 then skip_reason reason else []
 

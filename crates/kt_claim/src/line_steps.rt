@@ -6,7 +6,7 @@ ghost use Rattle.kt_claim.specs.Common.{is_digit, is_blank, directive_in, planne
 use crate::begun::{DirectivePrefix, DirectivePurpose, LineKind, LineProgress, Opening};
 use kt_base::is_digit;
 
-/// The upper bound of the number of tests in a plan: a plan has fewer tests.
+/// The exclusive upper bound of the number of tests in a plan (this profile).
 pub const LIMIT: u64 = 1_000_000_000;
 
 /// Returns `true` if the byte `b` is a space or a tab.

@@ -21,9 +21,9 @@ fn feed_part(line: &mut OpenLine, part: &[u8]) -> Result<(), NoMemory>
     Ok(())
 }
 
-/// Returns `tally` with the open line `line` of a TAP stream, and begins the next line.
+/// Returns `tally` with the line `line` of a TAP stream added, and resets `line` to an empty line.
 ///
-/// The newline of the open line was read.
+/// The newline at the end of the line was read.
 fn end_line(alloc: Global, tally: Tally, line: &mut OpenLine) -> Result<Tally, NoMemory>
     ensures { IfOk result (λ after. (fed : List ℕ) → length fed < limit
         → HasLines tally (state_of line.old) fed

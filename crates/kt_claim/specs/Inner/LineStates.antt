@@ -74,7 +74,8 @@ abbrev pub directive_facts : DirectivePurpose → Option Directive → Facts
 directive_facts Excuse found = test_facts true (not (is_some found))
 directive_facts Explain found = plan_facts (Some (0, skip_reason (reason_of_skip found)))
 
--- `missing_letters l`: the letters of a directive that are still missing after its first letters `l`.
+-- `missing_letters l`: the letters of a directive that are still missing after its first letters
+-- `l`.
 abbrev pub missing_letters : DirectivePrefix → List ℕ
 missing_letters T = codes "odo"
 missing_letters To = codes "do"
@@ -142,21 +143,21 @@ abbrev pub with_held_cr : Bool → List ℕ → List ℕ
 with_held_cr false more = more
 with_held_cr true more = 13 ∷ more
 
--- `LineState`: the state of an open line: the state of the reader within it, the kept bytes of a
--- reason, and whether a carriage return is held back.
+-- `LineState`: the state of an open line. It has the state of the reader within the line, and the
+-- kept bytes of a reason. `held` is true if a carriage return is held back.
 pub record LineState : Type 0 where
   pub begun : LineProgress
   pub kept : List ℕ
   pub held : Bool
 
 -- `IsStateAfter begun kept held came`: `begun`, `kept` and `held` are the state after the bytes
--- `came` of a line: they give the facts of the line for any bytes that follow.
+-- `came` of a line. They give the facts of the line for any bytes that follow.
 pub record IsStateAfter (begun : LineProgress) (kept : List ℕ) (held : Bool) (came : List ℕ) : Type 0 where
   pub keeps : KeepsIfReason begun kept
   pub tells : (more : List ℕ) → facts_of (without_cr (came ++ more)) ≡ facts_with begun kept (without_cr (with_held_cr held more))
 
 -- `IsStateMidLine begun kept came`: `begun` and `kept` are the state after the bytes `came` of a
--- line: they give the facts of the line if more bytes follow. No carriage return is held back.
+-- line. They give the facts of the line if more bytes follow. No carriage return is held back.
 pub record IsStateMidLine (begun : LineProgress) (kept came : List ℕ) : Type 0 where
   pub keeps : KeepsIfReason begun kept
   pub tells : (b : ℕ) (more : List ℕ) → facts_of (without_cr (came ++ b ∷ more)) ≡ facts_with begun kept (without_cr (b ∷ more))
@@ -170,9 +171,8 @@ next_letter S = 107
 next_letter Sk = 105
 next_letter Ski = 112
 
--- `facts_after_letter purpose l more`: the facts of a line that ends with the letters `l` of a directive,
--- the next letter of the directive, and the bytes `more`. `purpose` is the purpose of the search
--- for a directive.
+-- `facts_after_letter purpose l more`: the facts of a line that ends with the letters `l`, the next
+-- letter of their directive, and the bytes `more`. The directive is searched for `purpose`.
 abbrev pub facts_after_letter : DirectivePurpose → DirectivePrefix → List ℕ → Facts
 facts_after_letter purpose T more = directive_facts purpose (option_or (directive_after_letters To more) (directive_in false more))
 facts_after_letter purpose To more = directive_facts purpose (option_or (directive_after_letters Tod more) (directive_in false more))

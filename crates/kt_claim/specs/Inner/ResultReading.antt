@@ -12,7 +12,8 @@ use Rattle.kt_claim.specs.declared.evidence.ClaimFault.TheVariants.{TooLong, Emp
 use Rattle.kt_claim.specs.declared.result_line.Word.{Word}
 use Rattle.kt_claim.specs.declared.result_line.Word.TheVariants.{Passed, Failed, Skipped, ExpectedDeath, ExpectedFailure, ExpectedTimeout, ExpectedExit, ExpectedSignal}
 
--- `keyword_of w`: the keyword that is spelled `w`, or `None` if `w` is not one of the eight keywords.
+-- `keyword_of w`: the keyword that is spelled `w`, or `None` if `w` is not one of the eight
+-- keywords.
 unfoldable pub keyword_of : List ℕ → Option Word
 keyword_of w =
     if bytes_eq w (codes "passed") then Some Passed
@@ -36,8 +37,8 @@ claim_with_reason ExpectedTimeout r = claim.ExpectedTimeout r
 claim_with_reason ExpectedExit r = claim.ExpectedExit None r
 claim_with_reason ExpectedSignal r = claim.ExpectedSignal None r
 
--- `claim_with_number w n r`: the claim of the keyword `w` with the number `n` and the reason `r`, or the
--- error `BadNumber` if `w` may not have a number.
+-- `claim_with_number w n r`: the claim of the keyword `w` with the number `n` and the reason `r`.
+-- It is `Malformed BadNumber` if `w` may not have a number.
 abbrev pub claim_with_number : Word → ℕ → List ℕ → Claim
 claim_with_number ExpectedExit n r = claim.ExpectedExit (Some n) r
 claim_with_number ExpectedSignal n r = claim.ExpectedSignal (Some n) r
@@ -72,8 +73,8 @@ byte_value (d ∷ digits) = number_up_to 255 (number (d ∷ digits))
 unfoldable pub number_in : List ℕ → Option (ℕ × List ℕ)
 number_in rest = number_before_bracket (byte_value (take (prefix_len is_digit rest) rest)) (drop (prefix_len is_digit rest) rest)
 
--- `claim_from_number w found`: the claim of the keyword `w` with the number `found.0` and the reason
--- in the bytes `found.1`, or the error `BadNumber` if nothing was found.
+-- `claim_from_number w found`: the claim of the keyword `w` with the number `found.0` and the
+-- reason in the bytes `found.1`. It is `Malformed BadNumber` if `found` is `None`.
 abbrev pub claim_from_number : Word → Option (ℕ × List ℕ) → Claim
 claim_from_number w None = claim.Malformed BadNumber
 claim_from_number w (Some found) = claim_from_reason (claim_with_number w found.0) (reason_in found.1)
@@ -84,12 +85,13 @@ may_have_number ExpectedExit = true
 may_have_number ExpectedSignal = true
 may_have_number _ = false
 
--- `claim_after_bracket w rest`: the claim of a line of the keyword `w`, an opening bracket and `rest`.
+-- `claim_after_bracket w rest`: the claim of a line of the keyword `w`, an opening bracket and
+-- `rest`.
 abbrev pub claim_after_bracket : Word → List ℕ → Claim
 claim_after_bracket w rest = if may_have_number w then claim_from_number w (number_in rest) else claim.Malformed BadNumber
 
--- `claim_without_bracket w rest`: the claim of a line of the keyword `w` and `rest`, which begins with no
--- bracket.
+-- `claim_without_bracket w rest`: the claim of a line of the keyword `w` and `rest`, which begins
+-- with no bracket.
 abbrev pub claim_without_bracket : Word → List ℕ → Claim
 claim_without_bracket Passed [] = claim.Passed
 claim_without_bracket Passed (_ ∷ _) = claim.Malformed UnexpectedReason

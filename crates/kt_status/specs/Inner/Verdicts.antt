@@ -23,8 +23,8 @@ abbrev pub exits_with : ℕ → Outcome → Bool
 exits_with n (Exited code) = nat_eq code n
 exits_with n _ = false
 
--- `exit_claim_verdict due reason ending`: the verdict if the result file claims an expected exit for
--- `reason`, and the outcome is `ending`. The claimed status is `due`, or any status if `due` is
+-- `exit_claim_verdict due reason ending`: the verdict if the result file claims an expected exit
+-- for `reason`, and the outcome is `ending`. The claimed status is `due`, or any status if `due` is
 -- `None`.
 abbrev pub exit_claim_verdict : Option ℕ → List ℕ → Outcome → VerdictValue
 exit_claim_verdict None reason (Exited _) = expected_failure reason
@@ -32,9 +32,9 @@ exit_claim_verdict (Some due) reason (Exited code) =
     if nat_eq due code then expected_failure reason else failed (codes "Expected exit code " ++ decimal due ++ codes " but got " ++ decimal code)
 exit_claim_verdict _ _ ending = broken (codes "Expected clean exit but " ++ outcome_text ending)
 
--- `signal_claim_verdict due reason ending`: the verdict if the result file claims an expected signal for
--- `reason`, and the outcome is `ending`. The claimed signal is `due`, or any signal if `due` is
--- `None`.
+-- `signal_claim_verdict due reason ending`: the verdict if the result file claims an expected
+-- signal for `reason`, and the outcome is `ending`. The claimed signal is `due`, or any signal if
+-- `due` is `None`.
 abbrev pub signal_claim_verdict : Option ℕ → List ℕ → Outcome → VerdictValue
 signal_claim_verdict None reason (Signaled _ _) = expected_failure reason
 signal_claim_verdict (Some due) reason (Signaled signal _) =
