@@ -41,7 +41,7 @@ is_whole job (BodyStarted ∷ BodyEnded ∷ CleanupRefused ∷ []) = is_none job
 is_whole job (BodyStarted ∷ BodyEnded ∷ CleanupStarted ∷ CleanupEnded ∷ []) = is_none job.decided && job.cleanup
 is_whole job other = false
 
--- `is_body_started mark`: the kind `mark` is that of the start of a body.
+-- `is_body_started kind`: `kind` is the kind of a body's start.
 abbrev pub is_body_started : EventKind → Bool
 is_body_started BodyStarted = true
 is_body_started other = false

@@ -50,8 +50,8 @@ pub record MayStartNow (plan : List Job) (T : Trace) (i : ℕ) (role : Role) : T
 abbrev pub AreWhole : List Job → Trace → Type 0
 AreWhole plan T = (i : ℕ) (job : Job) → slice_get plan i ≡ Some job → (of i T ≡ []) ⊎ (has_whole_history T job ≡ true)
 
--- `WerePutsAllowed plan n T`: `was_put_allowed plan n T` holds of each decided case of `plan`: its
--- entry could be put after the events `T`, or after a prefix of `T`.
+-- `WerePutsAllowed plan n T`: `was_put_allowed plan n T` holds of each decided case of `plan`. So
+-- its entry could be put after the events `T`, or after a prefix of `T`.
 abbrev pub WerePutsAllowed : List Job → ℕ → Trace → Type 0
 WerePutsAllowed plan n T = (i : ℕ) (job : Job) → slice_get plan i ≡ Some job → is_some job.decided ≡ true → was_put_allowed plan n T job ≡ true
 

@@ -22,8 +22,8 @@ abbrev pub jobs_before : ℕ → List Job → List Job
 jobs_before i [] = []
 jobs_before i (job ∷ jobs) = if job.position == i then [] else job ∷ jobs_before i jobs
 
--- `is_put_allowed plan n T job`: `job` is decided, and its entry may be put after the events `T`:
--- each case of `plan` before it in turn order is begun, and there is a free slot at the width `n`.
+-- `is_put_allowed plan n T job`: `job` is decided, and its entry may be put after the events `T`.
+-- Each case of `plan` before it in turn order is begun, and there is a free slot at the width `n`.
 abbrev pub is_put_allowed : List Job → ℕ → Trace → Job → Bool
 is_put_allowed plan n T job =
     is_some job.decided && list_all (is_begun T) (jobs_before job.position (turns plan))
@@ -35,8 +35,8 @@ abbrev pub was_put_allowed : List Job → ℕ → Trace → Job → Bool
 was_put_allowed plan n NoEvent job = is_put_allowed plan n NoEvent job
 was_put_allowed plan n (Then T e) job = was_put_allowed plan n T job || is_put_allowed plan n (Then T e) job
 
--- `jobs_finished_by plan T e`: the undecided job of `plan` whose history the event `e` makes whole after
--- the events `T`, as a list of at most one job.
+-- `jobs_finished_by plan T e`: the undecided job of `plan` whose history the event `e` makes whole
+-- after the events `T`, as a list of at most one job.
 abbrev pub jobs_finished_by : List Job → Trace → Event → List Job
 jobs_finished_by plan T e =
     filter (λ job. job.position == position_of e && (is_none job.decided && (has_whole_history (Then T e) job && not (has_whole_history T job)))) plan
@@ -55,6 +55,6 @@ scheduled_puts plan n (Then T e) =
     ++ puts_scheduled_at (event_count (Then T e)) (filter (λ job. is_put_allowed plan n (Then T e) job && not (was_put_allowed plan n T job)) (turns plan)))
 
 -- `recorded plan n T`: the record order of the run of `plan` with the width `n`, after the events
--- `T`: the positions of `scheduled_puts plan n T`.
+-- `T`. It has the positions of `scheduled_puts plan n T`.
 abbrev pub recorded : List Job → ℕ → Trace → List ℕ
 recorded plan n T = map (λ due. due.position) (scheduled_puts plan n T)

@@ -31,16 +31,16 @@ pub record NamesEachOnce (plan : List Job) (positions : List ℕ) : Type 0 where
   pub all : length positions ≡ length plan
   pub once : (i : ℕ) → i < length plan → count_by (λ p. p == i) positions ≡ 1
 
--- `StartsNothing T gained before after`: the trace `T` has no event, `gained` has no entry, and the
--- states `before` and `after` of the sink are equal.
+-- `StartsNothing T gained before after`: the trace `T` has no event, the list of entries `gained`
+-- is empty, and the sink's states `before` and `after` are equal.
 pub record StartsNothing {S : Type 0} (T : Trace) (gained : List Entry) (before after : S) : Type 0 where
   pub events : T ≡ NoEvent
   pub entries : gained ≡ []
   pub same : after ≡ before
 
 module _ {S : Type 0} (puts : S → Entry → Result (Unit {0}) SinkFault → S → Type 0) where
-  -- `HasFailedPut plan n T gained fault before after`: in the run of `plan` with the width `n` and the
-  -- trace `T`, the puts of the entries `gained` succeeded. The put of the next entry in record
+  -- `HasFailedPut plan n T gained fault before after`: in the run of `plan` with the width `n` and
+  -- the trace `T`, the puts of the entries `gained` succeeded. The put of the next entry in record
   -- order failed with `fault`. These puts lead the sink from `before` to `after`.
   pub record HasFailedPut (plan : List Job) (n : ℕ) (T : Trace) (gained : List Entry) (fault : SinkFault) (before after : S) : Type 0 where
     pub next : ScheduledPut
@@ -62,8 +62,9 @@ module _ {S : Type 0} (puts : S → Entry → Result (Unit {0}) SinkFault → S 
     pub counts : Counts gained totals
 
   -- `FailsAtPut plan n T gained before after fault`: in the run of `plan` with the width `n` and
-  -- the trace `T`, the put after those of the entries `gained` failed with `fault`. The puts lead
-  -- the sink from `before` to `after`, and no body is started after the failed put.
+  -- the trace `T`, the puts of the entries `gained` succeeded, and the next put failed with
+  -- `fault`. The puts lead the sink from `before` to `after`, and no body is started after the
+  -- failed put.
   pub record FailsAtPut (plan : List Job) (n : ℕ) (T : Trace) (gained : List Entry) (before after : S) (fault : SinkFault) : Type 0 where
     pub failed : HasFailedPut plan n T gained fault before after
     pub stopped : Stopped plan n T failed.next.after

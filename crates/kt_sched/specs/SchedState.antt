@@ -103,7 +103,8 @@ pub record RepresentsCase (T : Trace) (i : ℕ) (job : Job) (cases : List Case) 
   pub stage : IsStage i job case.stage (of i T)
   pub kept : case.stage ≢ Taken → case.job ≡ job
 
--- `HasExclusiveFlag cases i flag`: case `i` of `cases` is exclusive if `flag` is true, else ordinary.
+-- `HasExclusiveFlag cases i flag`: case `i` of `cases` is exclusive if `flag` is true, else
+-- ordinary.
 abbrev pub HasExclusiveFlag : List Case → ℕ → Bool → Type 0
 HasExclusiveFlag cases i flag = (c : Case) × (slice_get cases i ≡ Some c) × (c.job.exclusive ≡ flag)
 
@@ -113,8 +114,8 @@ abbrev pub is_decided_stage : Stage → Bool
 is_decided_stage Decided = true
 is_decided_stage _ = false
 
--- `HasDecidedFlag cases i flag`: case `i` of `cases` is in the stage `Decided` if `flag` is true, else
--- in another stage.
+-- `HasDecidedFlag cases i flag`: case `i` of `cases` is in the stage `Decided` if `flag` is true,
+-- else in another stage.
 abbrev pub HasDecidedFlag : List Case → ℕ → Bool → Type 0
 HasDecidedFlag cases i flag = (c : Case) × (slice_get cases i ≡ Some c) × (is_decided_stage c.stage ≡ flag)
 
@@ -153,8 +154,8 @@ is_decided job = is_some job.decided
 abbrev pub is_undecided : Job → Bool
 is_undecided job = is_none job.decided
 
--- `allowed_puts plan n T turn`: the decided jobs of `plan` at the index `turn` or later in turn
--- order whose entries may be put after the events `T`, with the width `n`.
+-- `allowed_puts plan n T turn`: the decided jobs of `plan` whose entries may be put after the
+-- events `T`, with the width `n`. They are at the index `turn` or later in turn order.
 abbrev pub allowed_puts : List Job → ℕ → Trace → ℕ → List Job
 allowed_puts plan n T turn = filter (is_put_allowed plan n T) (drop turn (turns plan))
 
@@ -180,9 +181,9 @@ is_pending_case None k = false
 is_pending_case (Some i) k = k == i
 
 -- `RepresentCases plan n T cases a width pending`: `cases`, `a`, `width` and `pending` are fields
--- of the state of a scheduler of `plan` with the width `n` after the events `T`. `a` is the number
--- of active cases, at most the width, and at most 1 if an exclusive case is active. `pending` is
--- the case whose cleanup is to be started.
+-- of the state of a scheduler. The scheduler has the plan `plan`, the width `n` and the events `T`.
+-- `a` is the number of active cases, at most the width, and at most 1 if an exclusive case is
+-- active. `pending` is the case whose cleanup is to be started.
 pub record RepresentCases (plan : List Job) (n : ℕ) (T : Trace) (cases : List Case) (a width : ℕ) (pending : Option ℕ) : Type 0 where
   pub is_plan : IsPlan plan
   pub room : 0 < n
@@ -208,9 +209,9 @@ pub record RepresentsTurn (plan : List Job) (T : Trace) (cases : List Case) (ord
       → (turn ≤ k → is_waiting_stage c.stage ≡ true) × (k < turn → c.stage ≢ Waiting)
 
 -- `RepresentPuts plan n fed order turn next stop`: `stop` is true if a put of the responses `fed`
--- failed. Otherwise, the run of `plan` with the width `n` has these puts left: the put of the ready
--- case `next`, if any, and then those of `allowed_puts` for the index `turn`. `order` is the turn
--- order.
+-- failed. Otherwise, the run of `plan` with the width `n` has puts left. They are the put of the
+-- ready case `next`, if any, and then those of `allowed_puts` for the index `turn`. `order` is the
+-- turn order.
 pub record RepresentPuts (plan : List Job) (n : ℕ) (fed : Responses) (order : List ℕ) (turn : ℕ) (next : Option ℕ) (stop : Bool) : Type 0 where
   pub failed : stop ≡ has_failed fed
   pub stopped : stop ≡ true → next ≡ None

@@ -69,7 +69,7 @@ IsBusy plan n T =
     (active plan T ≡ n) ⊎ MatchOption (next_to_start plan T) ⊤ (λ job. (job.exclusive ≡ true) × (0 < active plan T))
 
 -- `WaitsWhenBusy plan n T event`: if `event` is an end, no body of `plan` may be started after the
--- events `T` with the width `n`, so the scheduler waits.
+-- events `T` with the width `n`. So the scheduler waits.
 abbrev pub WaitsWhenBusy : List Job → ℕ → Trace → Event → Type 0
 WaitsWhenBusy plan n T (Start i role answer) = ⊤
 WaitsWhenBusy plan n T (End ended) = IsBusy plan n T

@@ -8,7 +8,8 @@ pub data Event : Type 0 where
   Start : (position : ℕ) (role : Role) (answer : StartAnswer) → Event
   End : (ended : Ended) → Event
 
--- `HasMoment answer`: if `answer` has the timestamp of a start, it is in the range of timestamps.
+-- `HasMoment answer`: if `answer` reports a start, the timestamp of the start is in the range of
+-- timestamps.
 abbrev pub HasMoment : StartAnswer → Type 0
 HasMoment (Started moment) = IsMoment moment
 HasMoment (Refused cause) = ⊤

@@ -71,8 +71,8 @@ pub struct Ended {
     pub role: Role,
     /// The outcome of the child, such as its exit status.
     pub outcome: Outcome,
-    /// The evidence that a body of the job's interface leaves. For a cleanup, it is `Plain`, and is
-    /// not used.
+    /// The evidence of the body, of the kind that the interface of its program selects. For a
+    /// cleanup, it is `Plain`, and is not used.
     pub evidence: Evidence,
     /// The standard output and the standard error of the child.
     pub output: Output,

@@ -20,7 +20,7 @@ pub enum Stage {
     Taken,
 }
 
-/// A record of a case that is over: the entry of the case, without the data of its job.
+/// A result of a case that is over: the entry of the case, without the data of its job.
 #[derive(Drop)]
 pub struct CaseRecord {
     /// The verdict on the case.
@@ -36,7 +36,7 @@ pub struct CaseRecord {
     pub cleanup: Output,
 }
 
-/// A body that ended before its case is over, with the data for the record of the case.
+/// A body that ended before its case is over: its timestamps, verdict and output.
 #[derive(Drop)]
 pub struct EndedBody {
     /// The timestamp of the body's start, in milliseconds since 1970 in UTC.

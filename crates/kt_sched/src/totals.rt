@@ -1,6 +1,6 @@
 ghost use Rattle.std.specs.Prelude.{◌≡◌};
 
-/// A count of the entries that were put into a sink, by their verdicts.
+/// A set of counts of the entries that were put into a sink: all, good and bad.
 #[derive(Clone, Copy)]
 pub struct Totals {
     /// The number of all entries.

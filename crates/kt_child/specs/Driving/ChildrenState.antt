@@ -18,8 +18,8 @@ idle_state = record { children = []; pending = [] }
 abbrev pub cases_of : List RunningChild → List CaseAttempt
 cases_of children = map (λ k. k.case) children
 
--- `launcher_child c`: the child of the case `c` as a launcher shows it: its interface, and whether
--- the case declares a cleanup.
+-- `launcher_child c`: the child of the case `c` as `Launcher` describes it: its interface, and
+-- whether the case declares a cleanup.
 abbrev pub launcher_child : CaseAttempt → Shown
 launcher_child c = record { interface = c.interface; cleanup = c.cleanup }
 

@@ -29,7 +29,7 @@ CreatesRoot base calls (Ok root) =
 CreatesRoot base calls (Err (NoMemory refusal)) = (n : ℕ) × (n < 1000) × FailsToCreateRoots base n calls
 CreatesRoot base calls (Err NoWorkDirectory) = FailsToCreateRoots base 1000 calls
 
--- `driver_fault_of fault`: the fault of a driver that is not created, because a call of the system failed
+-- `driver_fault_of fault`: the error if a driver is not created because a call to the system failed
 -- with `fault`.
 abbrev pub driver_fault_of : OsFault → DriverFault
 driver_fault_of (Memory refusal) = NoMemory refusal

@@ -10,8 +10,8 @@ use Rattle.kt_child.specs.Driving.DriverSteps.{DriverStarts, DriverWaits}
 -- `plan` has the jobs. The paths of programs are relative to the directory `source`. The
 -- directories of attempts are below `root`, the root directory of the driver.
 module _ (plan : List Job) (source root : List ℕ) where
-  -- `HandlesEvent old calls event new`: `calls` are all calls to the system for `event`, a start or an
-  -- end of a child. The driver state goes from `old` to `new`.
+  -- `HandlesEvent old calls event new`: `calls` are all calls to the system for `event`, a start or
+  -- an end of a child. The driver state goes from `old` to `new`.
   abbrev pub HandlesEvent : DriverState → List Call → Event → DriverState → Type 0
   HandlesEvent old calls (Start i role answer) new = (job : Job) × (slice_get plan i ≡ Some job) × Starts source root old job role calls answer new
   HandlesEvent old calls (End ended) new = Ends old calls ended new

@@ -25,7 +25,7 @@ IsClaim Unreadable bytes found = found ≡ claim.Unreadable
 IsClaim TooLong bytes found = found ≡ claim.Malformed claim_fault.TooLong
 IsClaim Complete bytes found = (found ≡ claim.Unreadable) ⊎ IsClaimOf bytes found
 
--- `IsTap end bytes found`: `found` is the meaning of a program's output as a TAP stream. `end` is
+-- `IsTap end bytes found`: `found` is the result of a TAP stream, the output of a program. `end` is
 -- the result of reading the output, and `bytes` are the bytes read. If an allocation fails, the
 -- output counts as unreadable.
 abbrev pub IsTap : ReadEnd → List ℕ → Tap → Type 0
@@ -39,7 +39,7 @@ abbrev pub ReadsClaim : List ℕ → List Call → Claim → Type 0
 ReadsClaim path calls found = (end : ReadEnd) × (bytes : List ℕ) × Reads path 4096 65536 [] calls end bytes × IsClaim end bytes found
 
 -- `ReadsTap path calls found`: `calls` read the output at `path`, at most 16,777,216 bytes in parts
--- of 65,536 bytes, and `found` is its meaning as a TAP stream.
+-- of 65,536 bytes, and `found` is its result as a TAP stream.
 abbrev pub ReadsTap : List ℕ → List Call → Tap → Type 0
 ReadsTap path calls found = (end : ReadEnd) × (bytes : List ℕ) × Reads path 65536 16777216 [] calls end bytes × IsTap end bytes found
 

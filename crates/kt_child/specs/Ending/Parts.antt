@@ -6,24 +6,25 @@ use Rattle.kt_child.specs.declared.ending.ReadEnd.TheVariants.{Missing, Unreadab
 use Rattle.kt_child.specs.Ending.Reads.{bytes_of}
 use Rattle.kt_os.specs.System.Calls.{Call, ReadPart}
 
--- `next_part_call path part limit got answer`: the call that reads the next part of the file at `path`,
--- after `got` bytes, with the result `answer`. It reads at most `part` bytes, and none after the
--- first `limit` bytes.
+-- `next_part_call path part limit got answer`: the call that reads the next part of the file at
+-- `path`, after `got` bytes, with the result `answer`. It reads at most `part` bytes, and none
+-- after the first `limit` bytes.
 abbrev pub next_part_call : List ℕ → ℕ → ℕ → ℕ → Result FileRead OsFault → Call
 next_part_call path part limit got answer = ReadPart path got (min part (limit - got)) answer
 
--- `end_after_part limit got read`: the result of reading a whole file, if the read of its part after `got`
--- bytes returned `read`. It is `None` if another part must be read. At most `limit` bytes are read.
+-- `end_after_part limit got read`: the result of reading a whole file, if the read of its part
+-- after `got` bytes returned `read`. It is `None` if another part must be read. At most `limit`
+-- bytes are read.
 abbrev pub end_after_part : ℕ → ℕ → FileRead → Option ReadEnd
 end_after_part limit got NoFile = Some (if got == 0 then Missing else Unreadable)
 end_after_part limit got (Part bytes false) = Some Complete
 end_after_part limit got (Part [] true) = Some Unreadable
 end_after_part limit got (Part (b ∷ bytes) true) = if leb limit (got + length (b ∷ bytes)) then Some TooLong else None
 
--- `IsReadEnd limit got result end`: `end` is the result of reading a whole file (`end_after_part`), if the read
--- of its part after `got` bytes had the result `result`. At most `limit` bytes are read. If the
--- read of the part fails, or the allocation for its bytes, `end` is `Unreadable`. Nothing else
--- allocates.
+-- `IsReadEnd limit got result end`: `end` is the result of reading a whole file (`end_after_part`),
+-- if the read of its part after `got` bytes had the result `result`. At most `limit` bytes are
+-- read. If the read of the part fails, or the allocation for its bytes, `end` is `Unreadable`.
+-- Nothing else allocates.
 abbrev pub IsReadEnd : ℕ → ℕ → Result FileRead OsFault → Option ReadEnd → Type 0
 IsReadEnd limit got (Err fault) end = end ≡ Some Unreadable
 IsReadEnd limit got (Ok NoFile) end = end ≡ end_after_part limit got NoFile

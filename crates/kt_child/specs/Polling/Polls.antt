@@ -1,4 +1,4 @@
--- One poll of a child: its calls, its meaning, and the poll counts after it.
+-- One poll of a child: its calls, and the child's state and poll counts after it.
 use Rattle.std.specs.Prelude.{ℕ, ◌+◌, ◌*◌, ◌==◌, List, [], ◌∷◌, Bool, true, false, not, ◌&&◌, Result, Ok, Err, if◌then◌else◌}
 use Rattle.kt_child.specs.Types.{Child, Exited as PolledExit, OsFault, Polled, Running, Signaled as PolledSignal, PollCounts}
 use Rattle.kt_base.specs.declared.child.Outcome.TheVariants.{Exited, Signaled, TimedOut, WaitFailed}
@@ -7,8 +7,8 @@ use Rattle.kt_child.specs.declared.polling.ChildProgress.TheVariants.{StillRunni
 use Rattle.kt_os.specs.System.Calls.{Call, Poll, Kill}
 use Rattle.kt_child.specs.Polling.ChildOutcome.{ChildResponse, KillResponse, PollResponse}
 
--- `is_due limit w`: a child with the poll counts `w` was not killed. One more poll that reports it
--- as running reaches its timeout of `limit` seconds.
+-- `is_due limit w`: one more poll that reports a child as running reaches its timeout of `limit`
+-- seconds. `w` has the poll counts of the child, which was not killed.
 abbrev pub is_due : ℕ → PollCounts → Bool
 is_due limit w = not w.killed && (w.before + 1 == 100 * limit)
 

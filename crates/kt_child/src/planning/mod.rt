@@ -82,12 +82,12 @@ pub(crate) struct SpawnPlan {
     pub words: Items<Text>,
     /// The changes to the runner's environment.
     pub env: EnvPlan,
-    /// The directory of the attempt, which contains `work`, `out` and `err`.
+    /// The path of the directory of the attempt, which contains `work`, `out` and `err`.
     pub dir: Text,
-    /// The working directory of the child.
+    /// The path of the working directory of the child.
     pub work: Text,
-    /// The file for standard output.
+    /// The path of the file for standard output.
     pub out: Text,
-    /// The file for standard error.
+    /// The path of the file for standard error.
     pub err: Text,
 }

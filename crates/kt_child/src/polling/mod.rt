@@ -5,7 +5,8 @@ pub(crate) mod polls;
 use crate::planning::CaseAttempt;
 use kt_base::Outcome;
 
-/// A count of the polls of a child. The driver measures a timeout in polls, 100 for each second.
+/// A pair of counts of a child's polls, before and after a kill. The driver measures a timeout in
+/// polls, 100 for each second.
 #[derive(Clone, Copy)]
 pub(crate) struct PollCounts {
     /// The number of polls that reported the child as running before a kill.
@@ -16,14 +17,14 @@ pub(crate) struct PollCounts {
     pub after: u64,
 }
 
-/// A running child with its case, its timeout and the count of its polls.
+/// A running child with its case, its timeout and the counts of its polls.
 #[derive(Drop)]
 pub(crate) struct RunningChild {
     /// The case of the child.
     pub case: CaseAttempt,
     /// The timeout of the child, in seconds, from 1 to 1,000,000.
     pub limit: u64,
-    /// The count of the child's polls.
+    /// The counts of the child's polls.
     pub watch: PollCounts,
 }
 

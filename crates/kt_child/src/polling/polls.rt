@@ -89,8 +89,8 @@ pub(crate) struct FinishedChild {
     pub outcome: Outcome,
 }
 
-/// Polls the children once, in order, until a child has finished, and returns that child. Returns
-/// `None` if all are still running.
+/// Polls each running child once, in order, up to the first that has finished, and returns that
+/// child. Returns `None` if all are still running.
 fn turn<O: Os>(os: &mut O, children: &mut [RunningChild]) -> Option<FinishedChild>
     requires { All IsRunningChild children.old }
     ensures none { result ≡ None → (calls : List Call) × Chain O.leads os.old calls os.new

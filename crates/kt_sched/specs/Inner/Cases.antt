@@ -23,8 +23,8 @@ initial_stage (Some verdict) = Decided
 abbrev pub initial_case : Job → Case
 initial_case job = record { job = job; stage = initial_stage job.decided }
 
--- `ReplacesStage old new i stage was`: `new` are the cases `old`, but case `i` has the stage `stage`
--- instead of `was`.
+-- `ReplacesStage old new i stage was`: `new` are the cases `old`, but case `i` has the stage
+-- `stage` instead of `was`.
 pub record ReplacesStage (old new : List Case) (i : ℕ) (stage was : Stage) : Type 0 where
   pub job : Job
   pub found : slice_get old i ≡ Some (record { job = job; stage = was })
@@ -42,14 +42,15 @@ pub record TakesEntry (old new : List Case) (i : ℕ) (entry : Entry) : Type 0 w
   pub is : entry ≡ entry_with had case_record
   pub changed : new ≡ slice_set old i (record { job = left; stage = Taken })
 
--- `record_after_cleanup verdict body last output`: the record of a case with the verdict `verdict` and the
--- ended body `body`. Its cleanup has the output `output`, and was over at the timestamp `last`.
+-- `record_after_cleanup verdict body last output`: the record of a case with the verdict `verdict`
+-- and the ended body `body`. Its cleanup has the output `output`, and was over at the timestamp
+-- `last`.
 abbrev pub record_after_cleanup : VerdictValue → EndedBody → ℕ → Output → CaseRecord
 record_after_cleanup verdict body last output =
     record { verdict = verdict; started = body.started; millis = last - body.started; body = body.output; cleanup = output }
 
--- `record_without_cleanup verdict started e`: the record of a case with the verdict `verdict` and without a
--- declared cleanup. Its body started at the timestamp `started` and ended with `e`.
+-- `record_without_cleanup verdict started e`: the record of a case with the verdict `verdict` and
+-- without a declared cleanup. Its body started at the timestamp `started` and ended with `e`.
 abbrev pub record_without_cleanup : VerdictValue → ℕ → Ended → CaseRecord
 record_without_cleanup verdict started e =
     record { verdict = verdict; started = started; millis = e.moment - started; body = e.output; cleanup = empty_output }
@@ -76,8 +77,8 @@ ChangesStage cleanup (Cleaning b) (End e) (Finished t) =
     (stage_runs e.role (Cleaning b) ≡ true) × IsVerdictAfterCleanup b.verdict (end.Ended e.outcome) t.verdict × (t ≡ record_after_cleanup t.verdict b e.moment e.output)
 ChangesStage cleanup was e now = ⊥
 
--- `pending_at stage i`: `i` if the cleanup of a case in the stage `stage` is to be started, else
--- `None`.
+-- `pending_at stage i`: `i`, the position of a case in the stage `stage`, if the cleanup of the
+-- case is to be started, else `None`.
 abbrev pub pending_at : Stage → ℕ → Option ℕ
 pending_at (PendingCleanup b) i = Some i
 pending_at _ i = None
@@ -89,8 +90,8 @@ is_over (Finished t) = true
 is_over Taken = true
 is_over _ = false
 
--- `ready_at stage failed i`: `i` if a case in the stage `stage` is over and `failed` is false, so
--- no put failed, else `None`.
+-- `ready_at stage failed i`: `i`, the position of a case in the stage `stage`, if the case is over
+-- and `failed` is false, else `None`. `failed` is true if a put failed.
 abbrev pub ready_at : Stage → Bool → ℕ → Option ℕ
 ready_at stage failed i = if is_over stage && not failed then Some i else None
 
