@@ -549,11 +549,11 @@ let _ = OpenOptions::new().write(true)
 .open(rt, file.as_str());
 if found.nlink() > 1 {
 BODY
-body kt_removal/src/removals.rt 'if self.has_queue_dir(rt) && self.move_to(rt, path, &to).is_ok() {' <<'BODY'
+body kt_removal/src/removals.rt 'if self.has_queue_dir(rt) && self.move_into_queue(rt, path, &to).is_ok() {' <<'BODY'
 let _ = fs::remove_file(rt, self.root.as_str());
-if self.has_place(rt) && self.move_to(rt, path, &to).is_ok() {
+if self.has_place(rt) && self.move_into_queue(rt, path, &to).is_ok() {
 BODY
-body kt_removal/src/removals.rt 'if self.has_queue_dir(rt) && self.move_to(rt, path, &to).is_ok() {' <<'BODY'
+body kt_removal/src/removals.rt 'if self.has_queue_dir(rt) && self.move_into_queue(rt, path, &to).is_ok() {' <<'BODY'
 let move_it = fs::rename;
 if self.has_place(rt) && move_it(rt, self.root.as_str(), to.as_str()).is_ok() {
 BODY
@@ -567,10 +567,10 @@ let root = path.copy()?;
 BODY
 
 # No clause can count processes.
-rule 'starts a process' lines '(^|[^a-z])([a-z]+_)*spawn(_as)?($|[^a-z_<])|[.](status|output)[(][a-z&]' <<'PLACES'
+rule 'starts a process' lines '(^|[^a-z])([a-z]+_)*spawn(_command)?($|[^a-z_<])|[.](status|output)[(][a-z&]' <<'PLACES'
 # Once for each child: each function calls the next one, from `Os::spawn` down to the call of the library.
 kt_os/src/host/command.rt: command.spawn(rt)
-kt_os/src/host/command.rt: into_os_result(spawn_as(rt, asked, command))
+kt_os/src/host/command.rt: into_os_result(spawn_command(rt, asked, command))
 kt_os/src/host/command.rt: let started = set_up_and_spawn(rt, asked, &mut command);
 kt_os/src/host/host_child.rt: use crate::host::command::{ProgramStart, spawn};
 kt_os/src/host/host_child.rt: drop(self.process.replace(spawn(rt, asked, out, err)?));

@@ -161,7 +161,7 @@ fn feed_bytes(
 ///
 /// `begun` is the state of the TAP line before the carriage return, and `kept` has its kept bytes.
 /// The caller has more bytes of the line, so the carriage return is not at its end.
-fn feed_held_cr(
+fn feed_carriage_return(
     begun: LineProgress,
     kept: &mut Vec<u8>,
     held: bool,
@@ -192,7 +192,7 @@ pub fn feed_line(line: &mut OpenLine, part: &[u8]) -> Result<(), NoMemory>
     let Some((last, front)) = part.split_last() else {
         return Ok(());
     };
-    let begun = feed_held_cr(line.begun, &mut line.kept, line.held)?;
+    let begun = feed_carriage_return(line.begun, &mut line.kept, line.held)?;
     if *last == b'\r' {
         line.begun = feed_bytes(begun, &mut line.kept, front)?;
         line.held = true;

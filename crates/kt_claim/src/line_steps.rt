@@ -165,7 +165,7 @@ fn state_after_blanks(tests: u64, b: u8) -> LineProgress
 ///
 /// `value` is the value of the digits, and `digit` that of the digit after them. If `value` is
 /// 1,000,000,000 or more, the line is not a plan.
-fn state_after_more_digits(value: u64, digit: u64) -> LineProgress
+fn state_after_next_digit(value: u64, digit: u64) -> LineProgress
     requires { digit < 2 ^ 8 }
     ensures facts { (b : ℕ) → is_digit b ≡ true → digit ≡ b - 48 → (kept more : List ℕ)
         → facts_with result kept more ≡ facts_with (LineProgress.Digits (Some value)) kept (b ∷
@@ -190,7 +190,7 @@ fn state_after_digit(value: Option<u64>, b: u8) -> LineProgress
     let digit = b.saturating_sub(b'0') as u64;
     match value {
         None => LineProgress::Digits(Some(digit)),
-        Some(n) => state_after_more_digits(n, digit),
+        Some(n) => state_after_next_digit(n, digit),
     }
 }
 

@@ -75,7 +75,7 @@ impl Removals {
     }
 
     /// Moves the directory `path` to `to`, the path in the queue with the next number.
-    pub(crate) fn move_to<R: Files>(&self, rt: &R, path: &[u8], to: &Text) -> io::Result<()>
+    pub(crate) fn move_into_queue<R: Files>(&self, rt: &R, path: &[u8], to: &Text) -> io::Result<()>
         requires from { MayRemove self.now path.now }
         requires to { to.now ≡ queued_dir self.now.place self.now.moved }
     {

@@ -137,7 +137,7 @@ impl Removals {
         let Ok(to) = self.next_queued_path(rt.alloc()) else {
             return false;
         };
-        if self.has_queue_dir(rt) && self.move_to(rt, path, &to).is_ok() {
+        if self.has_queue_dir(rt) && self.move_into_queue(rt, path, &to).is_ok() {
             self.moved = self.moved.saturating_add(1);
             return true;
         }

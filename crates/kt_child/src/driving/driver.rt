@@ -4,8 +4,10 @@ ghost use Rattle.kt_os.specs.System.Calls.{Call};
 ghost use Rattle.kt_child.specs.Driving.Roots.{CreatesRoot, driver_fault_of, root_of};
 ghost use Rattle.kt_child.specs.declared.driving.driver.DriverFault.TheVariants as fault;
 
-use crate::driving::running_children::{RunningChildren, refuse_for_memory};
-use crate::driving::starts::{memory_refusal, spawn_plan, take_attempt_number, want_and_limit};
+use crate::driving::running_children::{RunningChildren, refuse_start};
+use crate::driving::starts::{
+    memory_refusal, purpose_and_timeout, spawn_plan, take_attempt_number,
+};
 use crate::planning::{CaseAttempt, ChildPurpose};
 use crate::{Paths, workdir_plan};
 use kt_base::{NoMemory, OUT_OF_MEMORY, Refused, Role, Text};
@@ -201,7 +203,7 @@ impl<O: Os + Drop> Driver<O> {
             cleanup: job.cleanup,
             paths,
         };
-        let (want, limit) = want_and_limit(job, role);
+        let (want, limit) = purpose_and_timeout(job, role);
         let purpose = ChildPurpose {
             want,
             program: &job.program,
@@ -210,7 +212,7 @@ impl<O: Os + Drop> Driver<O> {
             limit,
         };
         match spawn_plan(self.alloc, &self.source, purpose, &case) {
-            Err(refusal) => refuse_for_memory(&mut self.os, role, &case.paths.dir, refusal),
+            Err(refusal) => refuse_start(&mut self.os, role, &case.paths.dir, refusal),
             Ok(plan) => self.running.start(&mut self.os, case, &plan),
         }
     }
@@ -239,7 +241,7 @@ impl<O: Os + Drop> Driver<O> {
             (is_among self.old.running.pending) job.now.position Role.Cleanup }
         ensures { IsStart O.leads self.old job.now Role.Cleanup result self.new }
     {
-        let owed = self.running.take_pending(job.position);
+        let owed = self.running.take_pending_cleanup(job.position);
         self.begin(job, Role::Cleanup, owed.attempt, owed.paths)
     }
 }

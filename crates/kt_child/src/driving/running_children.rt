@@ -105,7 +105,7 @@ fn remove_finished_child(
 ///
 /// For a cleanup, also removes `dir`, the directory of the attempt, since a cleanup is not started
 /// again.
-pub(crate) fn refuse_for_memory<O: Os>(
+pub(crate) fn refuse_start<O: Os>(
     os: &mut O,
     role: Role,
     dir: &Text,
@@ -137,7 +137,7 @@ impl RunningChildren {
 
     /// Removes the case with the position `position` from the pending cleanups, and returns the
     /// case.
-    pub(crate) fn take_pending(&mut self, position: u32) -> CaseAttempt
+    pub(crate) fn take_pending_cleanup(&mut self, position: u32) -> CaseAttempt
         requires { is_among self.old.pending position ≡ true }
         ensures taken { (place : ℕ) × (slice_get self.old.pending place ≡ Some result)
             × (self.new ≡ with_pending self.old (remove self.old.pending place)) }
@@ -169,7 +169,7 @@ impl RunningChildren {
             ≡ state_after_start self.old (new_running_child plan.now.limit case) result }
     {
         if let Err(refusal) = add_capacity(&mut self.children, &mut self.pending) {
-            return refuse_for_memory(os, plan.child.role, &plan.dir, refusal);
+            return refuse_start(os, plan.child.role, &plan.dir, refusal);
         }
         match start_child(os, plan) {
             StartAnswer::Refused(cause) => StartAnswer::Refused(cause),

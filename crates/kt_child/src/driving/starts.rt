@@ -25,7 +25,7 @@ pub(crate) fn take_attempt_number(next: &mut u64) -> Option<u64>
 }
 
 /// Returns the purpose of the job's child in the role `role`, and the child's timeout in seconds.
-pub(crate) fn want_and_limit(job: &Job, role: Role) -> (Want, u64)
+pub(crate) fn purpose_and_timeout(job: &Job, role: Role) -> (Want, u64)
     requires { IsFit job.now }
     ensures want { result.0 ≡ want_of role }
     ensures limit { result.1 ≡ limit_of job.now role }
@@ -39,7 +39,7 @@ pub(crate) fn want_and_limit(job: &Job, role: Role) -> (Want, u64)
 }
 
 /// Returns copies of `first` and `second`.
-fn copy_both(first: &Text, second: &Text) -> Result<(Text, Text), NoMemory>
+fn copy_text_pair(first: &Text, second: &Text) -> Result<(Text, Text), NoMemory>
     ensures first { IfOk result (λ two. two.0 ≡ first.now) }
     ensures second { IfOk result (λ two. two.1 ≡ second.now) }
 {
@@ -93,9 +93,9 @@ pub(crate) fn spawn_plan(
     let paths = &case.paths;
     let program = absolute_path(alloc, source, purpose.program)?;
     let words = child_args(alloc, &program, purpose, case)?;
-    let (dir, work) = copy_both(&paths.dir, &paths.work)?;
+    let (dir, work) = copy_text_pair(&paths.dir, &paths.work)?;
     let (out, err) = output_paths(case.role, paths);
-    let (out, err) = copy_both(out, err)?;
+    let (out, err) = copy_text_pair(out, err)?;
     let env = env_plan(alloc, case.interface, purpose.variables, &paths.work)?;
     Ok(SpawnPlan {
         child: case.child(),

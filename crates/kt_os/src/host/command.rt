@@ -130,7 +130,7 @@ fn set_up_command(command: &mut Command, asked: ProgramStart<'_>) -> Result<(), 
 /// streams.
 ///
 /// Separate for the prover: std's `spawn` has no contract that a clause could cite.
-fn spawn_as<R: Processes>(
+fn spawn_command<R: Processes>(
     rt: &R,
     _asked: ProgramStart<'_>,
     command: &mut Command,
@@ -156,7 +156,7 @@ fn set_up_and_spawn<R: Processes>(
     requires variables { (name : List ℕ) → command_var command.old name ≡ None }
 {
     set_up_command(command, asked)?;
-    into_os_result(spawn_as(rt, asked, command))
+    into_os_result(spawn_command(rt, asked, command))
 }
 
 /// Starts the program of `asked` with an empty standard input. Its standard output and standard

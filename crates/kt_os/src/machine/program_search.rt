@@ -6,7 +6,7 @@ use kt_base::{Text, has_slash, is_absolute};
 
 /// Returns `true` if `directory` has an executable regular file `name`. An empty `directory` is the
 /// working directory. Returns `false` if the joined path is longer than 4,095 bytes.
-fn has_program_in<M: HostFiles>(machine: &mut M, directory: &str, name: &str) -> bool
+fn has_program<M: HostFiles>(machine: &mut M, directory: &str, name: &str) -> bool
     ensures { HasProgram M.answers name.now directory.now result machine.old machine.new }
 {
     let mut room = [0u8; MAX_PATH_BYTES];
@@ -25,12 +25,12 @@ fn is_among<M: HostFiles>(machine: &mut M, among: &str, name: &str) -> bool
 {
     let mut rest = among;
     while let Some((directory, behind)) = rest.split_once(':') {
-        if has_program_in(machine, directory, name) {
+        if has_program(machine, directory, name) {
             return true;
         }
         rest = behind;
     }
-    has_program_in(machine, rest, name)
+    has_program(machine, rest, name)
 }
 
 /// Returns `true` if the required program `name` exists (`required_programs` of kyuafile(5)).

@@ -13,13 +13,13 @@ pub returns-in-Ok-clause-begun : goal.returns-in-Ok-clause-begun
 returns-in-Ok-clause-begun g c =
     let case = case_of c.args.job.now c.args.role c.args.attempt c.args.paths in
     let B : SpawnPlan → Type 0 = λ s. (calls : List Call) × Chain g.O.Os.leads c.args.self.now.os calls c.start.new.os × StartsByPlan s calls c.start.result in
-    subst B (c.in-Ok.ensures.plan ∙ planned c.args.self.now.source c.args.job.now case _ _ c.want_and_limit-want.ensures.want c.want_and_limit-want.ensures.limit) c.start.ensures.begun
+    subst B (c.in-Ok.ensures.plan ∙ planned c.args.self.now.source c.args.job.now case _ _ c.purpose_and_timeout-want.ensures.want c.purpose_and_timeout-want.ensures.limit) c.start.ensures.begun
 
 pub returns-in-Ok-clause-state : goal.returns-in-Ok-clause-state
 returns-in-Ok-clause-state g c =
     let case = case_of c.args.job.now c.args.role c.args.attempt c.args.paths in
     c.start.ensures.state ∙ ap (λ (s : SpawnPlan). state_after_start c.args.self.now.running (new_running_child s.limit case) c.start.result)
-    (c.in-Ok.ensures.plan ∙ planned c.args.self.now.source c.args.job.now case _ _ c.want_and_limit-want.ensures.want c.want_and_limit-want.ensures.limit)
+    (c.in-Ok.ensures.plan ∙ planned c.args.self.now.source c.args.job.now case _ _ c.purpose_and_timeout-want.ensures.want c.purpose_and_timeout-want.ensures.limit)
 
 pub returns-in-Ok-clause-running : goal.returns-in-Ok-clause-running
 returns-in-Ok-clause-running g c k r =

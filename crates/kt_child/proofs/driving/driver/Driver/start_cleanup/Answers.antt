@@ -6,15 +6,15 @@ use Rattle.kt_child.proofs.driving.driver.Driver.start_cleanup.Goals as goal
 pub returns : goal.returns
 returns g c =
     let job = c.args.job.now in
-    let t = c.take_pending-owed.ensures.taken in
-    let owed = c.take_pending-owed.result in
+    let t = c.take_pending_cleanup-owed.ensures.taken in
+    let owed = c.take_pending_cleanup-owed.result in
     let case = case_of job Cleanup owed.attempt owed.paths in
     let b = c.begin.ensures.begun in
     let L : ChildrenState → ChildrenState = λ s. state_after_start s (new_running_child (limit_of job Cleanup) case) c.begin.result in
     let after = board_started _ _ job case c.begin.result (c.begin.ensures.state ∙ ap L t.2) in
     record {
       starts = (
-        (b.0, b.1, inr (case, (t.0, owed, t.1, c.take_pending-owed.ensures.position, c.begin.ensures.next, after.1, refl), b.2, after.0)),
+        (b.0, b.1, inr (case, (t.0, owed, t.1, c.take_pending_cleanup-owed.ensures.position, c.begin.ensures.next, after.1, refl), b.2, after.0)),
         c.begin.ensures.source,
         c.begin.ensures.root,
       );

@@ -2,7 +2,7 @@ use Rattle.std.proofs.Common.{◌≡◌, ◌∙◌, ◌<◌, List, slice_get, So
 use Rattle.kt_child.proofs.Common.{slice_get-get_or, CaseAttempt, ChildrenState, cases_of}
 use Rattle.kt_child.proofs.StateWaits.{free_taken, state_taken}
 use Rattle.kt_child.proofs.OwedCases.{among_remove}
-use Rattle.kt_child.proofs.driving.running_children.RunningChildren.take_pending.Goals as goal
+use Rattle.kt_child.proofs.driving.running_children.RunningChildren.take_pending_cleanup.Goals as goal
 
 at : (c : goal.After-remove) → slice_get c.self.inside.pending.items c.find_case_index-place.result ≡ Some c.remove.result
 at c =
