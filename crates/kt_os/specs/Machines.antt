@@ -32,7 +32,7 @@ pub data HostResponse : Type 0 where
   IsProgram : (path : List ℕ) (answer : Bool) → HostResponse
   HasMoment : (moment : ℕ) → HostResponse
 
--- `directories path`: the directories in `path`, a value of `PATH`, which colons separate.
+-- `directories path`: the directories in `path`, a value of `PATH` in which colons separate them.
 abbrev pub directories : List ℕ → List (List ℕ)
 directories path = slice_split (λ b. b == 58) path
 

@@ -333,7 +333,7 @@ impl Removals {
         self.empty_next_dir(rt, &path, bound)
     }
 
-    /// Empties the directories of the queue in order, until the time of `bound` is over.
+    /// Empties the directories of the queue in order, until the time limit `bound` is over.
     ///
     /// If the queue directory was removed or replaced, its entries are left.
     fn empty_queue<R: Files + Clock + AllocGlobal>(&mut self, rt: &R, bound: &mut Bound)
@@ -386,8 +386,8 @@ impl Removals {
         self.remove_root_within(rt, root, &mut bound)
     }
 
-    /// Removes `root`, the directory of all attempts, with its entries, until the time of `bound`
-    /// is over. Returns `true` on success.
+    /// Removes `root`, the directory of all attempts, with its entries, until the time limit
+    /// `bound` is over. Returns `true` on success.
     fn remove_root_within<R: Files + Clock + AllocGlobal>(
         &mut self,
         rt: &R,

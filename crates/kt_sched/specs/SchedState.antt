@@ -25,7 +25,7 @@ pub record SchedState : Type 0 where
   pub asked : Next
   pub failed : Bool
 
--- `is_waiting_stage stage`: a case in the stage `stage` waits for its turn.
+-- `is_waiting_stage stage`: `stage` is a first stage of a case, `Waiting` or `Decided`.
 abbrev pub is_waiting_stage : Stage → Bool
 is_waiting_stage Waiting = true
 is_waiting_stage Decided = true
@@ -108,8 +108,8 @@ pub record RepresentsCase (T : Trace) (i : ℕ) (job : Job) (cases : List Case) 
 abbrev pub HasExclusiveFlag : List Case → ℕ → Bool → Type 0
 HasExclusiveFlag cases i flag = (c : Case) × (slice_get cases i ≡ Some c) × (c.job.exclusive ≡ flag)
 
--- `is_decided_stage stage`: a case in the stage `stage` is decided, and waits for its turn to be
--- put.
+-- `is_decided_stage stage`: `stage` is `Decided`: the verdict is decided before the run, and the
+-- entry is not taken yet.
 abbrev pub is_decided_stage : Stage → Bool
 is_decided_stage Decided = true
 is_decided_stage _ = false

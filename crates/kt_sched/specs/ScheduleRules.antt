@@ -84,9 +84,9 @@ pub record Legal (plan : List Job) (n : ℕ) (T : Trace) : Type 0 where
   pub prompt : HoldsAtEachEvent (StartsPendingCleanup plan) T
   pub busy : HoldsAtEachEvent (WaitsWhenBusy plan n) T
 
--- `Stopped plan n T k`: `T` is the trace of a run of `plan` with the width `n` whose put failed
--- after `k` events. No body starts after these, each case that has an event has a whole history,
--- and the rules of `Legal` hold. The rule of waits holds for the first `k` events only.
+-- `Stopped plan n T k`: `T` is the trace of a run of `plan` with the width `n`, in which a put
+-- failed after `k` events. No body starts after these, each case that has an event has a whole
+-- history, and the rules of `Legal` hold. The rule of waits holds for the first `k` events only.
 pub record Stopped (plan : List Job) (n : ℕ) (T : Trace) (k : ℕ) : Type 0 where
   pub starts : body_starts T ≡ body_starts (first k T)
   pub whole : (job : Job) (i : ℕ) → slice_get plan i ≡ Some job → (of i T ≡ []) ⊎ (has_whole_history T job ≡ true)

@@ -38,7 +38,7 @@ abbrev pub first : ℕ → Trace → Trace
 first k NoEvent = NoEvent
 first k (Then T e) = if nat_le (event_count T + 1) k then Then T e else first k T
 
--- `position_of event`: the position of the case of `event`.
+-- `position_of event`: the position in the plan of the case to which `event` belongs.
 abbrev pub position_of : Event → ℕ
 position_of (Start i role answer) = i
 position_of (End ended) = ended.position

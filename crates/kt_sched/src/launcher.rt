@@ -3,8 +3,8 @@ use kt_base::Role;
 
 /// An interface to start children and to wait for them.
 ///
-/// The ghost relations describe each call by its states before and after and by its response. A
-/// launcher has no history of calls in its contract.
+/// The ghost relations describe each call by the launcher's states before and after it, and by its
+/// response. A launcher has no history of calls in its contract.
 pub trait Launcher {
     ghost use Rattle.std.specs.Prelude.{ℕ, Bool, ◌≡◌, Option, Some};
     ghost use Rattle.kt_base.specs.declared.child.Role.{Role};

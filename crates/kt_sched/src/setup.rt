@@ -6,7 +6,8 @@ use crate::stage::{Case, Stage};
 use kt_base::NoMemory;
 use std::alloc::Global;
 
-/// Creates the case of `job` in its first stage: it waits for its turn to start or to be recorded.
+/// Creates the case of `job` in its first stage: `Decided` if its verdict is decided, else
+/// `Waiting`.
 fn initial_case(job: Job) -> Case
     ensures { result ≡ initial_case job }
 {
@@ -17,7 +18,7 @@ fn initial_case(job: Job) -> Case
     Case { job, stage }
 }
 
-/// Creates the cases of the jobs `plan`, each of which waits for its turn.
+/// Creates the cases of the jobs `plan`, each in its first stage.
 ///
 /// # Errors
 ///

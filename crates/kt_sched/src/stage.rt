@@ -4,9 +4,9 @@ use kt_base::{Output, Verdict};
 /// A stage of a case during a run.
 #[derive(Drop)]
 pub enum Stage {
-    /// The case waits for its turn to start.
+    /// The body was not started yet, and is to be started in turn order.
     Waiting,
-    /// The verdict was decided before the run, and the case waits for its turn to be recorded.
+    /// The verdict was decided before the run, and the entry is to be recorded in turn order.
     Decided,
     /// The body runs. It was started at this timestamp, in milliseconds since 1970 in UTC.
     Running(u64),

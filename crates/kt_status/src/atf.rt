@@ -4,7 +4,8 @@ ghost use Rattle.kt_status.specs.Common.{outcome_text, phrase_text, broken, clai
 use kt_base::{Outcome, Phrase, Reason, Verdict};
 use kt_claim::{Claim, ClaimFault};
 
-/// Returns the phrase for the error `fault` in a result file, the reason of a `broken` verdict.
+/// Returns the phrase for the error `fault` in a result file. It is the reason of a `broken`
+/// verdict.
 fn fault_phrase(fault: ClaimFault) -> Phrase
     ensures { phrase_text result ≡ codes "Invalid result file: " ++ claim_fault_text fault }
 {
@@ -20,7 +21,8 @@ fn fault_phrase(fault: ClaimFault) -> Phrase
     }
 }
 
-/// Returns the `broken` verdict on a case whose result file is missing or contradicts `ending`.
+/// Returns the `broken` verdict on a case whose result file is missing or contradicts its outcome,
+/// `ending`.
 ///
 /// The reason is `phrase`, followed by the exit status or the signal.
 fn contradiction_verdict(phrase: Phrase, ending: Outcome) -> Verdict

@@ -4,7 +4,7 @@ ghost use Rattle.kt_status.specs.Common.{phrase_text, tap_fault_text, tap_verdic
 use kt_base::{Outcome, Phrase, Reason, Verdict};
 use kt_claim::{Tap, TapFault};
 
-/// Returns the phrase for the error `fault` in TAP output, the reason of a `broken` verdict.
+/// Returns the phrase for the error `fault` in TAP output. It is the reason of a `broken` verdict.
 fn fault_phrase(fault: TapFault) -> Phrase
     ensures { phrase_text result ≡ codes "TAP test program yielded invalid data: "
         ++ tap_fault_text fault }

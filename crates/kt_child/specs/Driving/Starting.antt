@@ -16,8 +16,8 @@ pub record StartCall : Type 0 where
   pub call : Result (Unit {0}) OsFault → Call
   pub cause : Refused
 
--- `refusal_cause cause fault`: the cause with which a start is refused after a call of the start
--- failed with `fault`. It is `Memory` if an allocation of the call failed, and otherwise `cause`.
+-- `refusal_cause cause fault`: the cause of a refused start, one of whose calls failed with
+-- `fault`. It is `Memory` if an allocation of the call failed, and otherwise `cause`.
 abbrev pub refusal_cause : Refused → OsFault → Refused
 refusal_cause cause Failed = cause
 refusal_cause cause (Memory refusal) = NoMemory

@@ -100,8 +100,8 @@ fn remove_finished_child(
     pending.push_reserved(case);
 }
 
-/// Returns the refusal of a start whose allocation failed with `refusal`. `role` is the role of the
-/// child.
+/// Refuses the start of a child, because an allocation failed with `refusal`. `role` is the role of
+/// the child.
 ///
 /// For a cleanup, also removes `dir`, the directory of the attempt, since a cleanup is not started
 /// again.

@@ -110,7 +110,7 @@ pub(crate) fn spawn_plan(
     })
 }
 
-/// Converts a failed allocation to `Refused::Memory`, the cause with which a start is refused. No
+/// Returns `Refused::Memory`, the cause of a start that is refused because an allocation failed. No
 /// other function of this crate creates that cause.
 pub(crate) fn memory_refusal(_refusal: NoMemory) -> Refused
     ensures { result ≡ Refused.Memory }
@@ -118,8 +118,8 @@ pub(crate) fn memory_refusal(_refusal: NoMemory) -> Refused
     Refused::Memory
 }
 
-/// Returns the cause with which a start is refused after a call of the start failed with `fault`.
-/// The cause is `Memory` if an allocation of the call failed, and otherwise `cause`.
+/// Returns the cause of a refused start, one of whose calls failed with `fault`. The cause is
+/// `Memory` if an allocation of the call failed, and otherwise `cause`.
 fn refusal_cause(cause: Refused, fault: OsFault) -> Refused
     ensures { result ≡ refusal_cause cause fault }
 {

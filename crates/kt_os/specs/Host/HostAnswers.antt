@@ -23,7 +23,8 @@ IsMissingByError (Ok Missing) = (error : Error) × (error_kind error ≡ NotFoun
 IsMissingByError answer = Unit {0}
 
 -- `IsHostRead limit answer`: a read with the result `answer` returns at most `limit` bytes, and
--- exactly `limit` if more follow. A file is `Missing` only by an error of the kind `NotFound`.
+-- exactly `limit` if more follow. The result is `Missing` only if the system reported an error of
+-- the kind `NotFound`.
 abbrev pub IsHostRead : ℕ → Result FileRead OsFault → Type 0
 IsHostRead limit answer = IsReadWithin limit answer × IsFullRead limit answer × IsMissingByError answer
 

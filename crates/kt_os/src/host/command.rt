@@ -18,7 +18,7 @@ pub(crate) struct ProgramStart<'a> {
     pub words: &'a Items<Text>,
     /// The changes to the runner's environment.
     pub env: &'a EnvPlan,
-    /// The working directory of the program.
+    /// The path of the working directory of the program.
     pub dir: &'a Text,
 }
 

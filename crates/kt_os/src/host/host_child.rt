@@ -15,11 +15,12 @@ const MAX_POLL_SLEEPS: u32 = 20;
 /// The timeout of a killed child, in seconds: the time of 500 `Running` responses.
 const KILLED_LIMIT_SECONDS: u64 = 5;
 
-/// A child of the host, from the opening of its first output file until its end is reported.
+/// A child of the host. It exists from the creation of its first output file until its end is
+/// reported.
 pub(crate) struct HostChild<P: OpenProcess> {
-    /// The file for standard output, before the start.
+    /// The open file for the child's standard output, until the child is started.
     out: Option<File>,
-    /// The file for standard error, before the start.
+    /// The open file for the child's standard error, until the child is started.
     err: Option<File>,
     /// The two output files, open from the start at least until the outputs have been read. A
     /// process can't take a lease on a file that is open for writing (fcntl(2)).
@@ -160,8 +161,9 @@ impl<P: OpenProcess + Drop> HostChild<P> {
 
     /// Returns the exit status of the child, or `None` if it is running.
     ///
-    /// `None` is counted as a response; the poll sleeps first while that response is too early.
-    /// `late` is `true` if some child is polled late. `None` may then be returned without a check.
+    /// `None` counts as a `Running` response. The poll sleeps first while that response is too
+    /// early. `late` is `true` if some child is polled late. `None` may then be returned without a
+    /// check.
     pub(crate) fn poll<C: Clock>(
         &mut self,
         late: bool,

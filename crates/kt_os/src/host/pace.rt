@@ -67,8 +67,8 @@ const RESPONSE_INTERVAL_MILLIS: u128 = 20;
 /// its `Running` responses. Such a response is a poll that reported the child as running.
 #[derive(Clone, Copy)]
 pub(crate) struct Pace {
-    /// The time of the start, or `None` if the clock failed. Without a start time, no response is
-    /// early or late.
+    /// The time of the child's start, or `None` if the clock failed. Without a start time, no
+    /// response is early or late.
     started: Option<Instant>,
     /// The timeout in seconds. Each second has 100 `Running` responses.
     pub(crate) limit: u64,
