@@ -10,7 +10,7 @@ use std::alloc::Global;
 /// Converts `fault`, the parser's error for a configuration file, to a configuration error.
 ///
 /// A failed allocation remains `NoMemory`.
-pub fn script_fault(fault: ScriptFault) -> ConfigFault
+pub fn convert_script_fault(fault: ScriptFault) -> ConfigFault
     ensures { result ≡ fault_of_script fault }
 {
     match fault {
@@ -141,7 +141,7 @@ impl Config {
         ensures due { (fault : ConfigFault) → HasFault text.now fault → FailsWith result fault }
     {
         match parse(alloc, text) {
-            Err(fault) => Err(script_fault(fault)),
+            Err(fault) => Err(convert_script_fault(fault)),
             Ok(stmts) => read_script(alloc, stmts.as_slice())?,
         }
     }

@@ -4,11 +4,11 @@ use Rattle.kt_config.proofs.Answering.{script_due, script_only, right_only, righ
 use Rattle.kt_config.proofs.config.Config.read.Goals as goal
 
 pub returns-in-Err-clause-only : goal.returns-in-Err-clause-only
-returns-in-Err-clause-only c = script_only c.args.text.now c.in-Err.fault c.script_fault.result c.script_fault.ensures c.in-Err.ensures.only
+returns-in-Err-clause-only c = script_only c.args.text.now c.in-Err.fault c.convert_script_fault.result c.convert_script_fault.ensures c.in-Err.ensures.only
 
 pub returns-in-Err-clause-due : goal.returns-in-Err-clause-due
 returns-in-Err-clause-due c =
-    script_due c.args.text.now c.in-Err.fault c.script_fault.result c.script_fault.ensures c.in-Err.ensures.due c.in-Err.ensures.only
+    script_due c.args.text.now c.in-Err.fault c.convert_script_fault.result c.convert_script_fault.ensures c.in-Err.ensures.due c.in-Err.ensures.only
 
 pub returns-in_ok-read_script-in-Ok-clause-only : goal.returns-in_ok-read_script-in-Ok-clause-only
 returns-in_ok-read_script-in-Ok-clause-only c =
