@@ -36,7 +36,7 @@ pub const DEFAULT_TIMEOUT_SECONDS: u32 = 300;
 /// Returns a list value with the elements `words`, or `None` if `wrong` is `true`.
 ///
 /// The caller passes `true` if one of the elements is invalid.
-fn words_unless_invalid(wrong: bool, words: Items<Text>) -> Option<Value>
+fn create_list_value(wrong: bool, words: Items<Text>) -> Option<Value>
     ensures { result ≡ (if wrong then None else Some (Value.Words words)) }
 {
     if wrong {
@@ -59,11 +59,11 @@ impl Form {
             Form::Words => Ok(Some(Value::Words(words(alloc, text)?))),
             Form::Files => {
                 let words = words(alloc, text)?;
-                Ok(words_unless_invalid(has_invalid_file(words.as_slice()), words))
+                Ok(create_list_value(has_invalid_file(words.as_slice()), words))
             }
             Form::Programs => {
                 let words = words(alloc, text)?;
-                Ok(words_unless_invalid(has_invalid_program(words.as_slice()), words))
+                Ok(create_list_value(has_invalid_program(words.as_slice()), words))
             }
             Form::Text => Ok(Some(Value::Text)),
             Form::Truth => Ok(truth(text).map(Value::Truth)),

@@ -115,7 +115,7 @@ impl Layer {
     {
         let alloc = self.allocator();
         for (name, given) in self.given.iter() {
-            add_if_custom(alloc, pairs, name.as_str(), &given.text)?;
+            add_custom_property(alloc, pairs, name.as_str(), &given.text)?;
         }
         Ok(())
     }
@@ -139,7 +139,7 @@ pub fn add(pairs: &mut Variables, name: Text, value: Text) -> Result<(), NoMemor
 /// Appends copies of `name` and `value` as a pair to `pairs`, if `name` is a custom property.
 ///
 /// Appends nothing if `value` is empty.
-fn add_if_custom(
+fn add_custom_property(
     alloc: Global,
     pairs: &mut Variables,
     name: &str,

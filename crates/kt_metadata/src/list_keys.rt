@@ -6,7 +6,7 @@ use kt_base::{NoMemory, Text};
 use std::alloc::Global;
 
 /// Creates the name of a custom property: `custom.` followed by `part`.
-fn custom_name(alloc: Global, part: &str) -> Result<Text, NoMemory>
+fn create_custom_name(alloc: Global, part: &str) -> Result<Text, NoMemory>
     ensures { IfOk result (λ name. name ≡ codes "custom." ++ chars part.now) }
 {
     let mut name = Text::from_str(alloc, "custom.")?;
@@ -15,14 +15,14 @@ fn custom_name(alloc: Global, part: &str) -> Result<Text, NoMemory>
 }
 
 /// Returns the name `custom.NAME` for the key `X-NAME`, or `None` if `key` has another form.
-fn name_of_custom_key(alloc: Global, key: &Text) -> Result<Option<Text>, NoMemory>
+fn parse_custom_key(alloc: Global, key: &Text) -> Result<Option<Text>, NoMemory>
     ensures { IfOk result (λ found. found
         ≡ option_map (λ part. codes "custom." ++ part) (non_empty_suffix (codes "X-") key.now)) }
 {
     match non_empty_suffix(key.as_str(), "X-") {
         None => Ok(None),
         Some(part) => {
-            let name = custom_name(alloc, part)?;
+            let name = create_custom_name(alloc, part)?;
             Ok(Some(name))
         }
     }
@@ -36,7 +36,7 @@ fn name_of_key(alloc: Global, key: &Text) -> Result<Option<Text>, NoMemory>
 {
     match row_with_key(key, &PROPERTY_TABLE) {
         Some(row) => Ok(Some(Text::from_str(alloc, row.0)?)),
-        None => name_of_custom_key(alloc, key),
+        None => parse_custom_key(alloc, key),
     }
 }
 

@@ -53,12 +53,12 @@ fn join(alloc: Global, words: &[Text]) -> Result<Text, NoMemory>
 {
     match words.split_first() {
         None => Ok(Text::new(alloc)),
-        Some((first, others)) => join_after(first.copy()?, others),
+        Some((first, others)) => append_words(first.copy()?, others),
     }
 }
 
 /// Appends the elements `words` to the text `front`, each after a space, and returns the text.
-fn join_after(front: Text, words: &[Text]) -> Result<Text, NoMemory>
+fn append_words(front: Text, words: &[Text]) -> Result<Text, NoMemory>
     ensures { IfOk result (λ text. text ≡ front ++ space_prefixed words.now) }
 {
     let mut text = front;

@@ -11,4 +11,4 @@ returns-in_ok-from_str-in-Some c =
 
 pub returns-in-None : goal.returns-in-None
 unfolding chars
-returns-in-None c = IfOk-weaker c.name_of_custom_key.result _ _ (λ found e. e ∙ sym (key-found c.args.key.now None (ap (λ o. option_map row_in (option_copied o)) (sym c.in-None.is) ∙ c.row_with_key.ensures))) c.name_of_custom_key.ensures
+returns-in-None c = IfOk-weaker c.parse_custom_key.result _ _ (λ found e. e ∙ sym (key-found c.args.key.now None (ap (λ o. option_map row_in (option_copied o)) (sym c.in-None.is) ∙ c.row_with_key.ensures))) c.parse_custom_key.ensures

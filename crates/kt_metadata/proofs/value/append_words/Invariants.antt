@@ -1,6 +1,6 @@
 use Rattle.std.proofs.Common.{◌≡◌, drop, ◌++◌}
 use Rattle.kt_metadata.proofs.Common.{space_prefixed}
-use Rattle.kt_metadata.proofs.value.join_after.Given as goal
+use Rattle.kt_metadata.proofs.value.append_words.Given as goal
 
 -- The text so far, followed by the remaining elements with their spaces, is the final text.
 abbrev pub invariant-loop-word : goal.invariant-loop-word

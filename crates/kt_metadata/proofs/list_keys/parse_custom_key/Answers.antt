@@ -1,6 +1,6 @@
 use Rattle.std.proofs.Common.{rules}
 use Rattle.kt_metadata.proofs.Common.{chars}
-use Rattle.kt_metadata.proofs.list_keys.name_of_custom_key.Goals as goal
+use Rattle.kt_metadata.proofs.list_keys.parse_custom_key.Goals as goal
 
 pub returns-in-None : goal.returns-in-None
 unfolding chars
