@@ -18,7 +18,7 @@ const LIST_CASE_NAME: &str = "__test_cases_list__";
 /// Appends `case` to `cases`, with the properties `props` of its program added.
 ///
 /// A property of the case replaces the same property of the program.
-fn push_overlaid(cases: &mut Items<CaseDef>, props: &Props, case: CaseDef) -> Result<(), NoMemory>
+fn push_overlay(cases: &mut Items<CaseDef>, props: &Props, case: CaseDef) -> Result<(), NoMemory>
     ensures { OnOk result (cases.new ≡ cases.old ++ overlaid_case props.now case ∷ []) }
 {
     let CaseDef {
@@ -33,7 +33,7 @@ fn push_overlaid(cases: &mut Items<CaseDef>, props: &Props, case: CaseDef) -> Re
 /// Adds the properties `props` of the program to each case in `found`.
 ///
 /// A property of a case replaces the same property of the program.
-fn overlay_each(
+fn overlay_cases(
     alloc: Global,
     props: &Props,
     found: Items<CaseDef>,
@@ -42,7 +42,7 @@ fn overlay_each(
 {
     let mut cases = Items::new(alloc);
     for case in found.into_vec() {
-        push_overlaid(&mut cases, props, case)?;
+        push_overlay(&mut cases, props, case)?;
     }
     Ok(cases)
 }
@@ -51,7 +51,7 @@ fn overlay_each(
 ///
 /// The cases share one reference-counted copy of `props`. A property of a case replaces the same
 /// property of the program.
-fn overlay_shared(
+fn share_and_overlay(
     alloc: Global,
     props: &Props,
     found: Items<CaseDef>,
@@ -59,7 +59,7 @@ fn overlay_shared(
     ensures { IfOk result (λ cases. cases ≡ map (overlaid_case props.now) found) }
 {
     let shared = props.shared()?;
-    overlay_each(alloc, &shared, found)
+    overlay_cases(alloc, &shared, found)
 }
 
 /// Creates a list of one case, with the name `name` and the fault `fault`.
@@ -80,7 +80,7 @@ fn single_case_list(
         fault,
     };
     let mut cases = Items::new(alloc);
-    push_overlaid(&mut cases, props, case)?;
+    push_overlay(&mut cases, props, case)?;
     Ok(cases)
 }
 
@@ -92,7 +92,7 @@ fn listed(alloc: Global, props: &Props, listing: &Listing) -> Result<Items<CaseD
 {
     let found = listed_cases(alloc, listing)?;
     match found {
-        Ok(found) => overlay_shared(alloc, props, found),
+        Ok(found) => share_and_overlay(alloc, props, found),
         Err(reason) => single_case_list(alloc, LIST_CASE_NAME, props, Some(reason)),
     }
 }

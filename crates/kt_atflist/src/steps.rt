@@ -145,7 +145,7 @@ fn set_key(
 /// Decodes `key` and `value` as UTF-8, and sets the property of `block` with the decoded key.
 ///
 /// Returns the cause of the fault, or `None` if there is no fault.
-fn set_decoded_key(
+fn decode_and_set(
     alloc: Global,
     block: &mut Block,
     key: &[u8],
@@ -180,7 +180,7 @@ fn set_from_line(
             if key.is_empty() {
                 return Ok(Some(ListCause::BadLine));
             }
-            set_decoded_key(alloc, block, key, value)
+            decode_and_set(alloc, block, key, value)
         }
     }
 }

@@ -5,8 +5,8 @@ use Rattle.kt_atflist.proofs.program_cases.listed.Goals as goal
 
 pub returns-in-Ok : goal.returns-in-Ok
 returns-in-Ok c =
-    IfOk-weaker c.overlay_shared.result _ _
-    (λ cases e. listed_by c.args.props.now c.args.listing.now c.in_ok-found.found c.in-Ok.found cases c.in_ok-found.ensures c.in-Ok.is e) c.overlay_shared.ensures
+    IfOk-weaker c.share_and_overlay.result _ _
+    (λ cases e. listed_by c.args.props.now c.args.listing.now c.in_ok-found.found c.in-Ok.found cases c.in_ok-found.ensures c.in-Ok.is e) c.share_and_overlay.ensures
 
 pub returns-in-Err : goal.returns-in-Err
 unfolding chars

@@ -1,6 +1,6 @@
 use Rattle.std.proofs.Common.{◌≡◌, ◌++◌, map}
 use Rattle.kt_atflist.proofs.Common.{overlaid_case}
-use Rattle.kt_atflist.proofs.program_cases.overlay_each.Given as goal
+use Rattle.kt_atflist.proofs.program_cases.overlay_cases.Given as goal
 
 -- The cases so far, followed by the remaining cases with the program's properties added, are all
 -- cases with these properties added.
