@@ -3,7 +3,7 @@ ghost use Rattle.kt_suite.specs.Common.{LeadsByCalls, Asked, HasStableResults, p
 
 use crate::fault::{fault_at, no_memory};
 use crate::registry::{LoadStep, Registry};
-use crate::statement::opening_cause;
+use crate::statement::first_statement_cause;
 use crate::stepping::step;
 use crate::{Program, ReadFault, SuiteCause, SuiteFault, Tree};
 use kt_base::{Items, NoMemory, Text};
@@ -43,12 +43,16 @@ fn fault_of_parse(alloc: Global, file: &Text, why: ScriptFault) -> SuiteFault
 }
 
 /// Checks that `stmts`, the statements of `file`, begin with `syntax(2)`, and returns them.
-fn check_opening(alloc: Global, file: &Text, stmts: Items<Stmt>) -> Result<Items<Stmt>, SuiteFault>
+fn check_first_statement(
+    alloc: Global,
+    file: &Text,
+    stmts: Items<Stmt>,
+) -> Result<Items<Stmt>, SuiteFault>
     ensures { ChecksOpening file.now stmts result }
 {
     match stmts.as_slice().split_first() {
         None => return Err(fault_at(file, alloc, 1, SuiteCause::NoSyntax)),
-        Some((first, _rest)) => if let Some(cause) = opening_cause(&first.action) {
+        Some((first, _rest)) => if let Some(cause) = first_statement_cause(&first.action) {
             return Err(fault_at(file, alloc, first.line, cause));
         },
     }
@@ -74,7 +78,7 @@ pub fn parse_kyuafile<T: Tree>(
         Err(why) => Err(fault_of_read(alloc, file, why)),
         Ok(text) => match parse(alloc, text.as_slice()) {
             Err(why) => Err(fault_of_parse(alloc, file, why)),
-            Ok(stmts) => check_opening(alloc, file, stmts),
+            Ok(stmts) => check_first_statement(alloc, file, stmts),
         },
     }
 }

@@ -13,7 +13,7 @@ use std::alloc::Global;
 /// Returns the cause of the error in a Kyuafile whose first statement has the action `action`.
 ///
 /// Returns `None` if `action` is the call `syntax(2)`.
-pub fn opening_cause(action: &Action) -> Option<SuiteCause>
+pub fn first_statement_cause(action: &Action) -> Option<SuiteCause>
     ensures { result ≡ opening_fault action.now }
 {
     let Action::Call(name, arg) = action else {

@@ -14,4 +14,4 @@ returns-in-Err-parse g c =
 pub returns : goal.returns
 returns g c =
     let a : ◌≡◌ {A = Result (List ℕ) ReadFault} (Ok c.in-Ok.text) (Ok c.as_slice.result.now) = search rules in
-    opens_script g.T.Tree.asks _ _ _ c.as_slice.result.now _ _ _ c.in-Ok.ensures a c.in-Ok-parse.ensures.accepted c.check_opening.ensures
+    opens_script g.T.Tree.asks _ _ _ c.as_slice.result.now _ _ _ c.in-Ok.ensures a c.in-Ok-parse.ensures.accepted c.check_first_statement.ensures
