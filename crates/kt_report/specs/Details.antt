@@ -1,4 +1,5 @@
--- The parts of entries that a report reads one entry at a time.
+-- The details of entries, which are their properties or their outputs. A report reads them one
+-- entry at a time.
 use Rattle.std.specs.Prelude.{ℕ, Bool, true, false, List, [], ◌∷◌, ◌++◌, ◌≡◌, Option, Some, None, Result, Ok, Err}
 use Rattle.kt_base.specs.Emits.{Emits}
 use Rattle.kt_base.specs.declared.entry.Entry.{Entry}
@@ -36,8 +37,9 @@ reads_if_verbose true reads = reads
 reads_if_verbose false reads = reads_nothing
 
 module _ {S F : Type 0} (reads : S → Entry → Result Entry F → S → Type 0) where
-  -- `ReadsDetails old due shown new`: reading the details of each entry of `due`, in order, leads from
-  -- the state `old` to the state `new`. `shown` are these entries with the details that were read.
+  -- `ReadsDetails old due shown new`: reading the details of each entry of `due`, in order, leads
+  -- from the state `old` to the state `new`. `shown` are these entries with the details that were
+  -- read. `reads` is the relation of one read.
   pub data ReadsDetails : S → List Entry → List Entry → S → Type 0 where
     none : (s : S) → ReadsDetails s [] [] s
     more : (e full : Entry) (due shown : List Entry) (old mid new : S) → reads old e (Ok full) mid → ReadsDetails mid due shown new → ReadsDetails old (e ∷ due) (full ∷ shown) new

@@ -4,8 +4,8 @@ use Rattle.kt_base.specs.declared.entry.Entry.{Entry}
 
 -- `Layout`: the bytes of a report as functions of the entries that it shows. The details of the
 -- entries are read one entry at a time. `first shown` are the bytes up to the end of the entries
--- `shown`. `next shown e` are the bytes after these and before the read for the entry `e`. `last`
--- are the bytes after all entries.
+-- `shown`. `next shown e` are the bytes after `first shown` that are written before the details of
+-- the entry `e` are read. `last` are the bytes after all entries.
 pub record Layout : Type 0 where
   pub first : List Entry → List ℕ
   pub next : List Entry → Entry → List ℕ

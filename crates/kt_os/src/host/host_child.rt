@@ -27,7 +27,8 @@ pub(crate) struct HostChild<P: OpenProcess> {
     kept: Option<(File, File)>,
     /// The process, from the start on.
     process: Option<process::Child<P>>,
-    /// The pace of the `Running` responses.
+    /// The start time, the timeout and the number of `Running` responses, by which the polls are
+    /// timed.
     pace: Pace,
     /// `true` if the end was found or a wait for it failed.
     seen: bool,

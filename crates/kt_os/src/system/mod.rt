@@ -54,7 +54,7 @@ pub struct EnvPlan {
 pub enum FileRead {
     /// There is no such file.
     Missing,
-    /// The bytes read, at most as many as the limit of the read, and whether more bytes follow.
+    /// The bytes read, at most as many as requested, and whether more bytes follow.
     Part(Bytes, bool),
 }
 

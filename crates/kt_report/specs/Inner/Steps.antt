@@ -10,15 +10,17 @@ use Rattle.kt_report.specs.declared.write_report_error.WriteReportError.{WriteRe
 use Rattle.kt_report.specs.declared.write_report_error.WriteReportError.TheVariants.{Details, Report}
 
 module _ {S F : Type 0} (reads : S → Entry → Result Entry F → S → Type 0) (old : S) (was now : Option (List ℕ)) (new : S) where
-  -- `WritesFirst layout due`: the beginning of a report with the layout `layout` was written, up to
-  -- the end of the entries `due`, with the details of each entry. The reads lead from the state
-  -- `old` to the state `new`, and the writes change the writer's contents from `was` to `now`.
+  -- `WritesFirst layout due`: a report with the layout `layout` was written up to the end of the
+  -- entries `due`, with the details of each entry. `reads` is the relation of one read. The reads
+  -- lead from the state `old` to the state `new`, and the writes change the writer's contents from
+  -- `was` to `now`.
   abbrev pub WritesFirst : Layout → List Entry → Type 0
   WritesFirst layout due = (shown : List Entry) × ReadsDetails reads old due shown new × Emits was now false (layout.first shown)
 
   module _ {E : Type 0} (text : Entry → List ℕ) where
-    -- `EndsEntry e answer`: the details of the entry `e` were read, and its text `text` was
-    -- written. Otherwise, `answer` is the error of the read or of the write.
+    -- `EndsEntry e answer`: the details of the entry `e` were read, and then its text was written.
+    -- The function `text` returns the text of an entry with its details. If `answer` is an error,
+    -- the read or the write failed with this error.
     abbrev pub EndsEntry : Entry → Result (Unit {0}) (WriteReportError F E) → Type 0
     EndsEntry e (Ok done) = (full : Entry) × reads old e (Ok full) new × (full.verdict.kind ≡ e.verdict.kind) × Emits was now false (text full)
     EndsEntry e (Err (Details fault)) = reads old e (Err fault) new × (now ≡ was)
@@ -29,9 +31,9 @@ module _ {S F : Type 0} (reads : S → Entry → Result Entry F → S → Type 0
       pub ends : EndsEntry e answer
 
   module _ {E : Type 0} (verbose : Bool) (before : Option Kind) (due : List Entry) where
-    -- `EndsEntries answer`: the lines of `due` were written after an entry of the kind `before`,
-    -- with their titles and the details of each entry. `answer` is the kind of the last entry, or
-    -- the error of a read or of a write.
+    -- `EndsEntries answer`: the lines of the entries `due` were written after an entry of the kind
+    -- `before`, with the titles of their sections. The lines have properties if `verbose` is true.
+    -- `answer` is the kind of the last entry, or the error of a read or of a write.
     abbrev pub EndsEntries : Result (Option Kind) (WriteReportError F E) → Type 0
     EndsEntries (Ok last) = (shown : List Entry) × ReadsDetails reads old due shown new × (last ≡ last_kind before shown) × Emits was now false (titled_lines verbose before shown)
     EndsEntries (Err stop) = EndsReport reads (sections_layout verbose before []) due old was now new (Err stop)

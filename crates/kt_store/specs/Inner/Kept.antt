@@ -62,15 +62,17 @@ module _ {S : Type 0} (g : Ghosts S) (old new : Held S) where
   ChecksTables = (n : ℤ) → StoresSchemaNumber n (state g old) → HasCleanDisk (state g new) → HasTables n (state g old)
 
   module _ (Allowed : List Run → Type 0) (change : List Run → List Run) where
-    -- `Changes g old new Allowed change`: if the tables of connection `old` represent `runs` with
-    -- `Allowed runs`, then those of connection `new` represent `change runs`, and a crash leaves
-    -- only these. `g` is the specification of connections.
+    -- `Changes g old new Allowed change`: a call changes the runs by the function `change`. If the
+    -- tables of connection `old` represent `runs` that meet `Allowed`, then those of connection
+    -- `new` represent `change runs`, and a crash leaves only these. `g` is the specification of
+    -- connections.
     pub record Changes : Type 0 where
       pub stands : (runs : List Run) → StandsFor (state g old) runs → (HasCleanDisk (state g old) → Allowed runs) → StandsFor (state g new) (change runs)
       pub lasts : (runs : List Run) → StandsFor (state g old) runs → (HasCleanDisk (state g old) → Allowed runs) → Leaves (state g new) (IsSchema2Of (change runs))
 
-    -- `MayChange g old new Allowed change`: if the tables of connection `old` represent `runs` with
-    -- `Allowed runs`, a crash after the call that led to `new` leaves what it left before, or
-    -- `change runs`. `g` is the specification of connections.
+    -- `MayChange g old new Allowed change`: a call from connection `old` to `new` may change the
+    -- runs by the function `change`. If the tables of `old` represent `runs` that meet `Allowed`, a
+    -- crash after the call leaves what it left before, or `change runs`. `g` is the specification
+    -- of connections.
     abbrev pub MayChange : Type 0
     MayChange = (runs : List Run) → StandsFor (state g old) runs → (HasCleanDisk (state g old) → Allowed runs) → Survives (state g old) (state g new) (IsSchema2Of (change runs))
