@@ -1,5 +1,6 @@
 ghost use Rattle.std.specs.Prelude.{◌≡◌, ◌++◌, ◌<◌, ℕ, ℤ, pos, List, [], ◌∷◌, map, length, false, Some, IsSome, IsTrue, IfOk, OnOk};
-ghost use Rattle.kt_dbfile.specs.Common.{Blob, column, Int, AreWide, FindsFirstUnderKey, CursorReturns, OnlyReadsStore, MovesCursorsIfOk, SelectsUnderKey, CountsUnderKey, selected_columns};
+ghost use Rattle.std.specs.List.{list_all};
+ghost use Rattle.kt_dbfile.specs.Common.{Blob, column, Int, AreWide, FindsFirstUnderKey, CursorReturns, OnlyReadsStore, MovesCursorsIfOk, SelectsUnderKey, CountsUnderKey, is_blob, selected_columns};
 ghost use Rattle.sqlite_exec.specs.Calls.{OnlyReads};
 ghost use Rattle.sqlite_exec.specs.Loops.{left_of};
 ghost use Rattle.sqlite_trees.specs.Tree.{rowid};
@@ -128,13 +129,12 @@ pub(crate) fn have_shapes<S: Store>(store: &S, table: &TreeTable) -> bool
 }
 
 /// Returns `true` if a row has a blob in each of `columns`.
-fn has_blobs(row: &row::Row, columns: &[usize]) -> bool {
-    for at in columns {
-        if !matches!(row.get(*at), ValueRef::Blob(_)) {
-            return false;
-        }
-    }
-    true
+fn has_blobs(row: &row::Row, columns: &[usize]) -> bool
+    ensures { result ≡ list_all (λ at. is_blob (column row.now at)) columns.now }
+{
+    columns
+        .iter()
+        .all(|at| matches!(row.get(*at), ValueRef::Blob(_)))
 }
 
 /// Reads the next index entry of the cursor into `place`, and its row into `row`. Returns `true` if

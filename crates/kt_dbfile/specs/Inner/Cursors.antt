@@ -6,7 +6,8 @@ use Rattle.std.specs.Ordering.{is_eq, is_lt}
 use Rattle.sqlite_trees.specs.declared.store.Shape.TheVariants.{Table}
 use Rattle.sqlite_value.specs.Keys.{plain, prefix_cmp}
 use Rattle.sqlite_sql.specs.Catalog.{entry_of}
-use Rattle.kt_store.specs.Types.{AllByRecursion, Ghosts, Int, IsClean, IsIndex, IsShaped, KeepsSchema, Row, Trees, View, column, from_key, has_rowid, rowid}
+use Rattle.sqlite_value.specs.declared.value.Value.{Value}
+use Rattle.kt_store.specs.Types.{AllByRecursion, Blob, Ghosts, Int, IsClean, IsIndex, IsShaped, KeepsSchema, Row, Trees, View, column, from_key, has_rowid, rowid}
 use Rattle.kt_store.specs.declared.result_store.RunHead.{RunHead}
 
 -- `ends_with last end`: `true` if `end` can be the last key of the index of entries when `last` is
@@ -43,6 +44,11 @@ pub record IndexesRows (columns : List ℕ) (key : Row) (mine table index : List
   pub found : from_key plain key index ≡ map (entry_of columns) rows ++ rest
   pub hits : AllByRecursion (λ e. has_prefix key e ≡ true) (map (entry_of columns) rows)
   pub past : AllByRecursion (λ e. has_prefix key e ≡ false) rest
+
+-- `is_blob value`: `true` if `value` is a blob.
+abbrev pub is_blob : Value → Bool
+is_blob (Blob bytes) = true
+is_blob _ = false
 
 -- `selected_columns columns row`: the values of `row` in the columns with the indexes `columns`.
 abbrev pub selected_columns : List ℕ → Row → Row
