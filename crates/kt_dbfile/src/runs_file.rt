@@ -484,8 +484,8 @@ impl<S: Alter> StoreSpec for RunsFile<S> {
     ghost ordered = { λ s runs h sound. h.2 sound };
 }
 
-/// Commits the written rows, and returns the value of `written`. If `written` is an error or the
-/// commit fails, rolls the transaction back.
+/// Commits the written rows, and returns the value of `written`. If `written` is an error, rolls the
+/// transaction back. A commit that fails rolls it back itself.
 fn committed<S: Alter, T: Drop>(
     store: &mut S,
     written: Result<T, StoreFault>,
@@ -499,13 +499,8 @@ fn committed<S: Alter, T: Drop>(
             return Err(fault);
         }
     };
-    match store.commit() {
-        Ok(()) => Ok(value),
-        Err(error) => {
-            store.rollback();
-            Err(StoreFault::from(error))
-        }
-    }
+    store.commit()?;
+    Ok(value)
 }
 
 impl<S: Alter> ResultStore for RunsFile<S> {
