@@ -104,7 +104,8 @@ abbrev pub junit_in : List Row → List Row → Result Command CommandFault
 junit_in before own = junit_or_error before own (run_option (first_of (codes "run") own))
 
 -- `command_named before name own`: the command with the name `name`, or its error. The rows
--- `before` have the values before the name, and the rows `own` have the values after it.
+-- `before` have the values before the name, and the rows `own` have the values after it. If no
+-- command has the name, the error is `Usage`.
 abbrev pub command_named : List Row → Text → List Row → Result Command CommandFault
 command_named before name own =
     if bytes_eq name (codes "list") then Ok (command.List (options_in before own))
@@ -124,8 +125,8 @@ command_in before (Some entered) = command_named before entered.0 entered.1
 -- ---- results
 
 -- `Reads words result`: `result` is the result of parsing the arguments `words`. If `clap` rejects
--- the arguments, it is `Usage`. Otherwise, it is the command with the values that `clap` finds, or
--- the error of this command. It may also be `NoMemory`.
+-- the arguments, `result` is `Usage`. Otherwise, `result` is the command with the values that
+-- `clap` finds, or the error of this command. `result` may also be `NoMemory`.
 abbrev pub Reads : List Text → Result Command CommandFault → Type 0
 Reads words (Err (fault.NoMemory shortage)) = ⊤
 Reads words (Err (fault.Usage message)) = fault_of kyua_app words ≢ []

@@ -145,7 +145,8 @@ fn verbose_arg<'a>(alloc: Global) -> Arg<'a>
 /// A command line that is being declared to `clap`, or the error of a failed allocation.
 type ClapCommand<'a> = Result<clap::Command<'a>, NoMemory>;
 
-/// Returns the values of `first` and `second`, or the error of the first of them that is an error.
+/// Returns the values of `first` and `second` if both are `Ok`, and otherwise the first error of
+/// the two.
 fn both<A: Drop, B: Drop>(
     first: Result<A, NoMemory>,
     second: Result<B, NoMemory>,

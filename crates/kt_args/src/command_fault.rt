@@ -10,7 +10,7 @@ use kt_base::{NoMemory, OUT_OF_MEMORY, Text};
 use std::alloc::Global;
 use thiserror::Error;
 
-/// A failed allocation of the parser of arguments.
+/// A witness that an allocation failed while a command line was parsed.
 ///
 /// Only a failed allocation, in this crate or in `clap`, creates this value.
 #[derive(Clone, Copy, Debug)]
@@ -28,7 +28,7 @@ struct RefusedAllocation;
 pub enum CommandFault {
     /// An allocation failed.
     NoMemory(ParserOutOfMemory),
-    /// The arguments are not UTF-8 or not a command line, or `--help` is given.
+    /// The arguments are not UTF-8 or not a command line of kyua(1), or `--help` is given.
     ///
     /// The text is `clap`'s message or help.
     Usage(Text),

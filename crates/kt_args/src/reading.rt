@@ -16,7 +16,7 @@ use std::io;
 const INVALID_UTF8: &str = "invalid UTF-8 was detected in one or more arguments";
 
 /// Returns the first value of the option `name` in `matches`, the values that `clap` found. Returns
-/// `None` if the option has no value.
+/// `None` if the option has no value. `name` is the name under which `clap` stores the values.
 fn option_value<'a>(matches: &ArgMatches<'a>, name: &str) -> Option<&'a str>
     ensures { option_map (λ word. word.now) result
         ≡ first_of name.now (rows_of (found_of matches.now)) }
@@ -24,7 +24,8 @@ fn option_value<'a>(matches: &ArgMatches<'a>, name: &str) -> Option<&'a str>
     matches.get_str(name)
 }
 
-/// Returns all values of the option or argument `name` in `matches`, in order.
+/// Returns all values of the option or argument `name` in `matches`, in order. `name` is the name
+/// under which `clap` stores the values.
 ///
 /// Returns `None` if the option or argument has no value.
 fn option_values<'b, 'a>(matches: &'b ArgMatches<'a>, name: &str) -> Option<&'b [&'a str]>

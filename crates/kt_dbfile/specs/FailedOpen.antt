@@ -1,4 +1,4 @@
--- What a failed open leaves of the results file and its log.
+-- The contents that a failed open leaves in the results file and its log.
 use Rattle.std.specs.Prelude.{◌⊎◌, false, List}
 use Rattle.sqlite_disk.specs.declared.Disk.{Ghosts}
 use Rattle.sqlite_disk.specs.declared.Files.{Files}
@@ -16,46 +16,53 @@ use Rattle.kt_store.specs.Types.{HoldsDatabase, Image, Run, Trees}
 use Rattle.kt_store.specs.declared.store_fault.StoreFault.{StoreFault}
 
 -- `HoldsInSchema1 image runs`: the results file and its log, with the content `image`, contain a
--- database of schema 1 with `runs`, and don't list the tables of schema 2
+-- database of schema 1 with `runs`. They don't list the tables of schema 2.
 abbrev pub HoldsInSchema1 : Image → List Run → Type 0
 HoldsInSchema1 image runs = (db : Trees) × ∥ HoldsDatabase image db ∥₁ × IsSchema1Of runs db × (¬ ListsTables image)
 
--- `HoldsAsBefore before after`: files with the content `after` contain each database that files
--- with the content `before` contain
+-- `HoldsAsBefore before after`: `before` and `after` are contents of the results file and its log,
+-- earlier and later. Each database in `before` is also in `after`.
 abbrev pub HoldsAsBefore : Image → Image → Type 0
 HoldsAsBefore before after = (db : Trees) → HoldsDatabase before db → HoldsDatabase after db
 
--- `Contains image P`: the results file and its log, with the content `image`, contain a database
--- for whose trees `P` holds
+-- `Contains image P`: the results file and its log, with the content `image`, contain a database,
+-- and `P` holds for its B-trees.
 abbrev pub Contains : Image → (Trees → Type 0) → Type 0
 Contains image P = ∥ ((db : Trees) × HoldsDatabase image db × P db) ∥₁
 
--- `KeepsRuns before after`: files with the content `after` have the runs of files with the content
--- `before`. Runs in schema 1 are in schema 1 or 2. If an open of `before` doesn't check all trees,
--- it isn't stated that the trees of `after` are numbered.
+-- `KeepsRuns before after`: `before` and `after` are contents of the results file and its log,
+-- earlier and later. The runs in `before` are also in `after`. If `before` has schema 1, `after`
+-- has schema 1 or 2. If `before` has schema 2 and an open doesn't check all its trees, it isn't
+-- stated that the trees in `after` are numbered.
 pub record KeepsRuns (before after : Image) : Type 0 where
   pub current : (runs : List Run) → HoldsRuns before runs → ∥ ((trees : Trees) × (HoldsDatabase after trees ⊎ HasTrees false trees after) × IsSchema2Of runs trees) ∥₁
   pub checked : (runs : List Run) → HoldsRuns before runs → MustBeChecked before → Contains after (IsSchema2Of runs)
   pub older : (runs : List Run) → HoldsInSchema1 before runs → Contains after (IsAnySchemaOf runs)
 
 module _ {D : Type 0} {g : Ghosts D} (was : Image → Type 0) (before : Image) (left : Leftover D g) where
-  -- `LeavesRuns was before left fault`: an open of files with the content `before` failed with
-  -- `fault`, and left `left`. A crash then leaves an image in `was`, which a crash left before the
-  -- open, or files with the runs of `before`. If `before` has runs, the schema is known.
+  -- `LeavesRuns was before left fault`: an open of the results file and its log failed with
+  -- `fault`. Their content was `before`, and `left` is what remains of them. Before the open, a
+  -- crash could leave the contents for which `was` holds. Now a crash leaves such a content, or one
+  -- with the runs in `before`. If `before` has runs, `fault` is not `UnknownSchema`. Nothing is
+  -- stated if the disk has returned wrong data.
   pub record LeavesRuns (fault : StoreFault) : Type 0 where
     pub kept : AreClean g (files_left left).0 (files_left left).1 → (after : Image) → outcomes g (files_left left).0 (files_left left).1 after → was after ⊎ KeepsRuns before after
     pub known : AreClean g (files_left left).0 (files_left left).1 → (runs : List Run) → HoldsRuns before runs ⊎ HoldsInSchema1 before runs → IsDatabaseFault fault
 
-  -- `LeavesUnconnected was before left`: files with the content `before` were first read for their
-  -- schema list, which left `seen`. SQL then failed to open `seen`, which left `left`. The library
-  -- doesn't state that `seen` was read without wrong data if `left` was.
+  -- `LeavesUnconnected was before left`: an open read the schema list of the results file and its
+  -- log. Their content was `before`, and they are `seen` after the read. SQL then failed to open
+  -- them, and `left` is what remains. A crash after the read leaves a content for which `was`
+  -- holds, or one with the databases in `before`. The library doesn't state that the disk returned
+  -- right data for `seen` if it did for `left`.
   pub record LeavesUnconnected : Type 0 where
     pub seen : Files D
     pub read : AreClean g seen.log seen.db → IsReadAs before (image_of g seen)
     pub crash : AreClean g seen.log seen.db → (after : Image) → outcomes g seen.log seen.db after → was after ⊎ HoldsAsBefore before after
     pub left_of : IsCleanLeft left → LeavesFiles seen left
 
-  -- `FailsToOpen was before left fault`: an open of files with the content `before` failed with
-  -- `fault`, and left `left`: the runs are kept, or SQL failed to open the files
+  -- `FailsToOpen was before left fault`: an open of the results file and its log failed with
+  -- `fault`. Their content was `before`, and `left` is what remains of them. Either they still have
+  -- their runs (`LeavesRuns`), or SQL failed to open them (`LeavesUnconnected`). Before the open, a
+  -- crash could leave the contents for which `was` holds.
   abbrev pub FailsToOpen : StoreFault → Type 0
   FailsToOpen fault = LeavesRuns fault ⊎ (LeavesUnconnected × IsDatabaseFault fault)

@@ -121,8 +121,8 @@ fn create_entry_row<'a>(
     )
 }
 
-/// Returns the number of the next run. First checks the last rows of the tables. Fails with
-/// `StoreFull` if there are 1,000,000 runs.
+/// Returns the number of the next run. First checks the last rows of the tables `entries` and
+/// `props`. Fails with `StoreFull` if there are 1,000,000 runs.
 fn find_next_number<S: Alter>(store: &mut S, alloc: Global) -> Result<u64, StoreFault>
     ensures number { HoldsForTrees S.Store store.old store.new (λ runs.
         IfOk result (λ n. (n ≡ suc (length runs)) × (length runs < greatest_run_number))) }
@@ -194,8 +194,8 @@ fn has_entry_at<S: Store>(
     Ok(count > 0)
 }
 
-/// Checks that a run accepts an entry. Fails with the first of `NoRun`, `RunClosed`, `BadPosition`
-/// and `RepeatedPosition` that applies.
+/// Checks that `entry` can be added to the run with the number `run`. Fails with the first of
+/// `NoRun`, `RunClosed`, `BadPosition` and `RepeatedPosition` that applies.
 fn check_can_put<S: Alter>(
     store: &mut S,
     alloc: Global,
@@ -224,8 +224,9 @@ fn check_can_put<S: Alter>(
     Ok(())
 }
 
-/// Checks that a run accepts an entry, and writes the entry and its properties. Fails with the
-/// first of `NoRun`, `RunClosed`, `BadPosition` and `RepeatedPosition` that applies.
+/// Writes `entry` and its properties to the run with the number `run`, after a check that the run
+/// accepts `entry`. Fails with the first of `NoRun`, `RunClosed`, `BadPosition` and
+/// `RepeatedPosition` that applies.
 pub(crate) fn write_entry<S: Alter>(
     store: &mut S,
     alloc: Global,
@@ -262,8 +263,8 @@ pub(crate) fn write_entry<S: Alter>(
     Ok(())
 }
 
-/// Creates the row of a finished run from the row of the unfinished run, with the rowid as an extra
-/// first column.
+/// Creates a finished run's row from `row`, the row of the run while it is unfinished. The new row
+/// has the rowid as an extra first column.
 fn create_finished_row(alloc: Global, row: &Row) -> Result<Row, NoMemory>
     ensures { (r : Run) → row.now ≡ run_row r → IfOk result (λ done. done ≡ finished_run_row r) }
 {
@@ -280,7 +281,7 @@ fn create_finished_row(alloc: Global, row: &Row) -> Result<Row, NoMemory>
     )
 }
 
-/// Returns the number of entries of a run.
+/// Returns the number of entries of run `run`.
 fn count_run_entries<S: Store>(store: &mut S, alloc: Global, run: u32) -> Result<u64, DatabaseError>
     ensures count { HoldsForTrees S.Store store.old store.new (λ runs.
         IfOk result (λ n. n ≡ length (entries_of (run_at runs run)))) }
@@ -292,8 +293,8 @@ fn count_run_entries<S: Store>(store: &mut S, alloc: Global, run: u32) -> Result
     Ok(count)
 }
 
-/// Returns the row of a run, and checks that the run can be finished. Fails with the first of
-/// `NoRun`, `RunClosed` and `Incomplete` that applies.
+/// Checks that the run with the number `run` can be finished, and returns its row in the table
+/// `runs`. Fails with the first of `NoRun`, `RunClosed` and `Incomplete` that applies.
 fn check_can_finish<S: Alter>(store: &mut S, alloc: Global, run: u64) -> Result<Row, StoreFault>
     ensures small { OnOk result (run ≤ greatest_run_number) }
     ensures refused { HoldsForTrees S.Store store.old store.new (λ runs.
@@ -315,8 +316,8 @@ fn check_can_finish<S: Alter>(store: &mut S, alloc: Global, run: u64) -> Result<
     Ok(row)
 }
 
-/// Marks a run as finished, in its row. Fails with the first of `NoRun`, `RunClosed` and
-/// `Incomplete` that applies.
+/// Marks the run with the number `run` as finished, in its row of the table `runs`. Fails with the
+/// first of `NoRun`, `RunClosed` and `Incomplete` that applies.
 pub(crate) fn mark_run_finished<S: Alter>(
     store: &mut S,
     alloc: Global,

@@ -25,7 +25,7 @@ use sqlite_value::value::ValueRef;
 use std::alloc::Global;
 use std::cmp::Ordering;
 
-/// The head that represents an empty store.
+/// A head with the number 0, which replaces the head of the last run if there are no runs.
 pub(crate) const NO_RUN: RunHead = RunHead {
     number: 0,
     started: 0,
@@ -33,8 +33,10 @@ pub(crate) const NO_RUN: RunHead = RunHead {
     finished: false,
 };
 
-/// Returns the run and the position in the last key of the index of `table` that is at most `key`.
-/// Checks that the row of this key exists. Both values are NULL if there is no such key.
+/// Returns the run and the position in the last key of the index of `table` that isn't above `key`.
+/// Both values are NULL if there is no such key. Only the values in `key` are compared, so an empty
+/// `key` finds the last key of all. Fails if the row of the found key is missing or has another
+/// key.
 fn find_last_key<S: Store>(
     store: &mut S,
     alloc: Global,
@@ -68,8 +70,8 @@ fn is_last_row_indexed<S: Store>(
     Ok(count == 1)
 }
 
-/// Returns the run and the position of the last index key of a table. Fails unless the index has
-/// the key of the table's last row exactly once.
+/// Returns the run and the position in the last key of the index of `table`. Fails unless the index
+/// has the key of the table's last row exactly once.
 fn read_last_key<S: Store>(
     store: &mut S,
     alloc: Global,
@@ -97,7 +99,7 @@ fn is_possible_last_key(alloc: Global, end: &Row, last: RunHead) -> Result<bool,
 }
 
 /// Returns `true` if the entry of a property exists, or if there is no property. `pair` has the run
-/// and the position of the entry, or NULL.
+/// and the position of the entry, or two NULLs if there is no property.
 fn has_entry<S: Store>(store: &mut S, alloc: Global, pair: &Row) -> Result<bool, DatabaseError>
     ensures through { MovesCursorsIfOk S.Store store.old store.new result }
     ensures looks { OnlyReadsStore S.Store store.old store.new }
@@ -130,8 +132,8 @@ fn check_last_property<S: Store>(store: &mut S, alloc: Global) -> Result<(), Dat
 }
 
 /// Checks that the indexes of entries and of properties have the last rows of their tables. Also
-/// checks that the last entry of the index is possible for the last run, whose head is `last`, and
-/// that the last property has an entry.
+/// checks that the last key of the index of entries is possible for the last run, whose head is
+/// `last`. The last property must have an entry.
 pub(crate) fn check_last_rows<S: Store>(
     store: &mut S,
     alloc: Global,
@@ -179,9 +181,9 @@ fn read_last_head<S: Store>(
     require_head(store, alloc, last)
 }
 
-/// Checks that the last entry and the last property are possible if `last` is the number of the
-/// last run, or 0 without runs. The check is made before a run begins and before a head is
-/// returned.
+/// Checks that the last entry and the last property in the tables are possible for the last run.
+/// `last` is the number of this run, or 0 if there are no runs. The check is made before a run
+/// begins and before a head is returned.
 pub(crate) fn check_last_run<S: Store>(
     store: &mut S,
     alloc: Global,

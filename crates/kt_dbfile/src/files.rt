@@ -11,14 +11,16 @@ use sqlite_pager::Options;
 use std::alloc::Global;
 use std::marker::PhantomData;
 
-/// A token of a failed open, which consumed a value of `S`. Only [`open_both`] creates it.
+/// A witness that an open failed after it had consumed a value of `S`. Only [`open_both`] creates
+/// witnesses.
 #[derive(Drop)]
 pub struct OpenFailure<S> {
     marker: PhantomData<S>,
 }
 
-/// Opens a file and its log. Creates them if they are missing. Only contracts use `start`: it
-/// represents the initial contents of both.
+/// Opens the results file at the path `file` and its log, and creates the missing ones. On failure,
+/// returns the error with a witness of the failed open. Only contracts use `start`: it represents
+/// the initial contents of both files.
 pub(crate) fn open_both<S: Start>(
     rt: &HostRuntime,
     file: &Text,
@@ -39,8 +41,9 @@ pub(crate) fn open_both<S: Start>(
     }
 }
 
-/// Opens the database in these files, and checks each of its pages and rows. Creates the database
-/// if the files are empty. Returns what is left of the files with the error.
+/// Opens the database in `files` by SQL, and checks each of its pages and rows. Creates the
+/// database if the database file is empty. On failure, returns the error with what is left of the
+/// files.
 pub(crate) fn connect<D: Disk + Drop>(
     alloc: Global,
     files: Files<D>,

@@ -1,4 +1,5 @@
-//! Checks that a schema has the tables of results at their positions.
+//! Checks that a schema has the tables of a results file, with the expected indexes, trees and
+//! columns.
 
 ghost use Rattle.std.specs.Prelude.{◌≡◌, ℕ, Some, true, length, map, slice_get};
 ghost use Rattle.kt_dbfile.specs.Common.{schema_2, AreNamed};
@@ -11,10 +12,10 @@ use sqlite_schema::schema::{Schema, Table};
 
 // The columns, in the order in which they are read and written.
 
-/// The columns of the table `runs`.
+/// The names of the columns of the table `runs`.
 const RUN_COLUMNS: [&str; 4] = ["id", "started", "total", "finished"];
 
-/// The columns of the table `entries`.
+/// The names of the columns of the table `entries`.
 const ENTRY_COLUMNS: [&str; 12] = [
     "run",
     "position",
@@ -30,10 +31,10 @@ const ENTRY_COLUMNS: [&str; 12] = [
     "clean_err",
 ];
 
-/// The columns of the table `props`.
+/// The names of the columns of the table `props`.
 const PROP_COLUMNS: [&str; 5] = ["run", "position", "place", "name", "value"];
 
-/// Returns `true` if a table has exactly the columns with these names, in this order.
+/// Returns `true` if `table` has exactly the columns `names`, in this order.
 fn has_columns(table: &Table, names: &[&str]) -> bool
     ensures { length names.now ≡ length table.now.columns
         → AreNamed table.now 0 (map (λ name. name.now) names.now) → result ≡ true }
@@ -51,8 +52,8 @@ fn has_columns(table: &Table, names: &[&str]) -> bool
     true
 }
 
-/// Returns `true` if the table `name` is at the index `at` of a schema, with this tree and exactly
-/// these columns.
+/// Returns `true` if the table at the index `at` of `schema` has this name, the tree with the
+/// number `tree`, and exactly the columns `columns`.
 fn has_table(schema: &Schema, name: &str, at: usize, tree: u32, columns: &[&str]) -> bool
     ensures { (t : TableOf) → table_named schema.now name.now ≡ Some at
         → slice_get schema.now.tables at ≡ Some t → t.tree ≡ tree
@@ -67,7 +68,7 @@ fn has_table(schema: &Schema, name: &str, at: usize, tree: u32, columns: &[&str]
         && has_columns(table, columns)
 }
 
-/// Returns `true` if a schema has an index `name` with this tree.
+/// Returns `true` if `schema` has the index `name`, and its tree has the number `tree`.
 fn has_index(schema: &Schema, name: &str, tree: u32) -> bool
     ensures { (at : ℕ) (i : IndexOf) → index_named schema.now name.now ≡ Some at
         → slice_get schema.now.indexes at ≡ Some i → i.tree ≡ tree → result ≡ true }
@@ -81,8 +82,9 @@ fn has_index(schema: &Schema, name: &str, tree: u32) -> bool
     index.tree == tree
 }
 
-/// Returns `true` if a schema has the tables `runs`, `entries` and `props` at their positions, and
-/// the indexes of their keys. Other tables can follow.
+/// Returns `true` if `schema` has the tables `runs`, `entries` and `props` at the expected indexes,
+/// and the key indexes of `entries` and `props`. Each must have the expected tree. Other tables can
+/// follow.
 pub(crate) fn has_tables(schema: &Schema) -> bool
     ensures { schema.now ≡ schema_2 → result ≡ true }
 {

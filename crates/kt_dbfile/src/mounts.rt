@@ -10,8 +10,8 @@ use std::str;
 /// number is in the third line.
 const MAX_INFO_BYTES: usize = 256;
 
-/// Returns the number of the mount in the text of a file's `fdinfo` (proc_pid_fdinfo(5)), or `None`
-/// if the text has none.
+/// Returns the mount number in `info`, the text of a file's `fdinfo` (proc_pid_fdinfo(5)), or
+/// `None` if the text has none.
 fn parse_mount_id(info: &str) -> Option<u64> {
     for line in info.split('\n') {
         if let Some(number) = line.strip_prefix("mnt_id:\t") {
@@ -21,8 +21,8 @@ fn parse_mount_id(info: &str) -> Option<u64> {
     None
 }
 
-/// Returns the number of the mount that contains an open file, or `None` if it can't be read from
-/// `/proc`.
+/// Returns the number of the mount that contains the open file `file`, or `None` if the number
+/// can't be read from `/proc`.
 fn read_mount_id<R: Files<File = File> + AllocGlobal>(rt: &R, file: &File) -> Option<u64> {
     let path = format!(in rt.alloc(); "/proc/self/fdinfo/{}", file.as_raw_fd()).ok()?;
     let mut list = File::open(rt, path.as_str()).ok()?;
@@ -45,9 +45,9 @@ fn is_on_other_mount<R: Files<File = File> + AllocGlobal>(rt: &R, path: &str) ->
 /// Returns `true` if the file at the path `file` is mounted as a single file. Symbolic links are
 /// followed.
 ///
-/// Such a file has its log next to each path that names it. A log that a killed command left next
-/// to one path is then missed at another. The result is `false` if there is no regular file, or if
-/// a mount can't be determined.
+/// Each path of such a file has a separate log next to it. A command that opens one path misses the
+/// log that a killed command left next to another. Returns `false` if there is no regular file at
+/// the path, or if a mount can't be determined.
 // Tested, not proved: results_file_mounted_alone_exits_2.
 pub(crate) fn is_mounted_alone<R: Files<File = File> + AllocGlobal>(rt: &R, file: &Text) -> bool {
     match fs::canonicalize(rt, file.as_str()) {

@@ -11,7 +11,7 @@ use std::os::unix::fs::{MetadataExt, PermissionsExt};
 use std::rt::Files;
 use std::{fs, io};
 
-/// The page size of a new file, in bytes (docs/DECISIONS.md).
+/// The page size of a new results file, in bytes (docs/DECISIONS.md).
 const PAGE_SIZE: usize = 1_024;
 
 /// The size below which a log can't have a frame, in bytes. SQLite ignores a shorter log.
@@ -20,8 +20,8 @@ pub(crate) const MIN_LOG_BYTES: usize = 56;
 /// The permission bits with which the owner can read and write a file.
 const OWNER_RIGHTS: u32 = 0o600;
 
-/// The first 24 bytes of a new file: the format, pages of 0x0400 bytes, a log for writers and
-/// readers, no reserved bytes in a page, and the payload fractions.
+/// The first 24 bytes of a new results file. They give the format, pages of 0x0400 bytes, a log for
+/// writers and readers, no reserved bytes in a page, and the payload fractions.
 const HEADER: [u8; 24] = *b"SQLite format 3\0\x04\x00\x02\x02\x00\x40\x20\x20";
 
 /// Returns the only page of an empty database (SQLite's "Database File Format", sections 1.3 and
@@ -49,8 +49,9 @@ fn first_page() -> [u8; PAGE_SIZE]
     page
 }
 
-/// Creates an empty file at `path`. This is `results`, the path of the results file, or `results`
-/// with `-new` appended. The umask applies, but the owner then gets the rights to read and write.
+/// Creates an empty file at `path`, and opens it for reads and writes. Fails if something has this
+/// path. `path` is `results`, the path of the results file, or `results` with `-new` appended. The
+/// umask applies, but the owner then gets the rights to read and write.
 // Tested, not proved: results_file_creation_is_atomic.
 fn create_file<R: Files>(rt: &R, results: &Text, path: &Text) -> io::Result<R::File>
     requires { IsOwnName results.now path.now }
@@ -122,8 +123,8 @@ fn open_new<R: Files<File = File>>(rt: &R, results: &Text, name: &Text) -> Optio
 }
 
 /// Writes the missing bytes of the first page to the file `made`. Returns `true` if the page is on
-/// the disk, and `false` if a write fails. Returns `None` if another process has locked the file,
-/// or if the file can't be read or has other bytes.
+/// the disk, and `false` if the write or the sync fails. Returns `None` if another process has
+/// locked the file, or if the file can't be read or has other bytes.
 // Tested, not proved: results_file_creation_is_atomic.
 fn complete_page(made: &mut File) -> Option<bool> {
     made.try_lock().ok()?;
@@ -176,7 +177,7 @@ struct FileId {
     inode: u64,
 }
 
-/// Returns the device and inode numbers of a file.
+/// Returns the device and inode numbers in `found`, the metadata of a file.
 // Tested, not proved: results_file_creation_is_atomic.
 fn file_id(found: &Metadata) -> FileId {
     FileId {
@@ -201,8 +202,8 @@ struct NewPath {
     id: FileId,
 }
 
-/// Returns the `-new` path of `file` with the identity of its file, or `None` if there is no such
-/// file or a call fails.
+/// Returns the path `file` with `-new` appended, and the identity of the file at this path. Returns
+/// `None` if there is no such file or a call fails.
 fn find_new_path<R: Files>(rt: &R, file: &Text) -> Option<NewPath>
     ensures { IfSome result (λ it. IsNewNameOf file.now it.name) }
 {
@@ -247,7 +248,7 @@ fn remove_if_same_file<R: Files + AllocGlobal>(rt: &R, path: &str, results: File
 }
 
 /// Removes each path in the directory of `file` that ends in `-new` and names the results file,
-/// whose identity is `results`. A killed process left this path, and the file may have been renamed
+/// whose identity is `results`. A killed process left such a path, and `file` may have been renamed
 /// since. A file with two paths can't be opened. Returns `None` if the directory can't be read to
 /// its end, or if an allocation fails.
 fn remove_new_paths<R: Files + AllocGlobal + Clone + Drop>(
@@ -262,12 +263,13 @@ fn remove_new_paths<R: Files + AllocGlobal + Clone + Drop>(
     Some(())
 }
 
-/// Creates the results file if it doesn't exist.
+/// Creates the results file at the path `file` if it doesn't exist. If it exists, removes its other
+/// paths in the same directory that end in `-new`.
 ///
-/// The new file is an empty database. If a database can't be created (the file system has no links,
-/// or an older log is present), the file is empty, and the later open turns it into a database with
-/// larger pages. An existing file isn't changed. A failure is reported by the later open, which
-/// also creates the log, with the file's permissions.
+/// The new file is an empty database. If a database can't be created, the file is empty: the file
+/// system has no links, or an older log is present. The later open turns an empty file into a
+/// database with larger pages. The content of an existing file isn't changed. A failure is reported
+/// by the later open, which also creates the log, with the file's permissions.
 pub(crate) fn create_missing_file<R: Files<File = File> + AllocGlobal + Clone + Drop>(
     rt: &R,
     file: &Text,

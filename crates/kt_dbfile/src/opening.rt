@@ -41,18 +41,20 @@ use std::hash::{BuildHasher, RandomState};
 /// Bytes 20 to 23 of a database whose pages end in checksums.
 const CHECKSUM_MARK: u32 = 0x0840_2020;
 
-/// The tree of the table with the schema number.
+/// The number of the tree of the table `meta`, which has the schema number.
 const META: u32 = 0;
 
+/// The layout of a table's tree: its shape, and no column of the type REAL.
 const TABLE: (Shape, u64) = (Shape::Table, 0);
 
+/// The layout of a key index's tree: its shape, and no column of the type REAL.
 const KEY: (Shape, u64) = (Shape::Index(Order::PLAIN), 0);
 
-/// The shapes of the trees of schema 2.
+/// The layouts of the trees of schema 2, in the order of their numbers.
 const LAYOUTS: [(Shape, u64); 7] = [TABLE, KEY, TABLE, TABLE, KEY, TABLE, KEY];
 
-/// Returns the options of a store that caches `pages` read pages. Returns `None` if there is no
-/// random number.
+/// Returns the options of a store that caches at most `pages` read pages. Returns `None` if the
+/// system provides no random number.
 pub(crate) fn options(rt: &HostRuntime, pages: usize) -> Option<Options>
     ensures pages { IfSome result (CachesPages pages) }
 {
@@ -62,7 +64,8 @@ pub(crate) fn options(rt: &HostRuntime, pages: usize) -> Option<Options>
     Some(options)
 }
 
-/// Returns the page size of a database whose pages don't end in checksums, or `None`.
+/// Returns the page size of the database in `files`. Returns `None` if its pages end in checksums,
+/// if there is no database, or if a read fails.
 fn page_size_without_sums<D: Disk>(alloc: Global, files: &mut Files<D>) -> Option<PageSize>
     requires log { IsTrue (D.Disk.is_usable files.old.log) }
     requires db { IsTrue (D.Disk.is_usable files.old.db) }
@@ -80,10 +83,10 @@ fn page_size_without_sums<D: Disk>(alloc: Global, files: &mut Files<D>) -> Optio
     Some(size)
 }
 
-/// Returns `true` if all pages and trees must be checked during the open.
+/// Returns `true` if the open must check all pages and trees of `files`.
 ///
-/// They are checked if the file has at most 16 MiB, which takes about 60 ms. They are also checked
-/// if the log can have frames: then a runner was killed or the machine lost power.
+/// They are checked if the database file has at most 16 MiB, which takes about 60 ms. They are also
+/// checked if the log can have frames: then a runner was killed or the machine lost power.
 fn is_full_check<D: Disk>(files: &mut Files<D>) -> Result<bool, DatabaseError>
     requires log { IsTrue (D.Disk.is_usable files.old.log) }
     requires db { IsTrue (D.Disk.is_usable files.old.db) }
@@ -97,7 +100,8 @@ fn is_full_check<D: Disk>(files: &mut Files<D>) -> Result<bool, DatabaseError>
     Ok(size <= MAX_CHECKED_BYTES || MIN_LOG_BYTES <= log)
 }
 
-/// Creates an unopened store of files. Returns the files if an allocation fails.
+/// Creates an unopened store over `files`, with the page size `size` and without checksums. Returns
+/// the files if an allocation fails.
 fn unopened<D: Disk + Drop>(
     alloc: Global,
     files: Files<D>,
@@ -118,7 +122,8 @@ fn unopened<D: Disk + Drop>(
     }
 }
 
-/// Returns `true` if a row of the schema list has exactly this rowid, type, name, table and text.
+/// Returns `true` if `row`, a row of SQLite's schema list, has exactly these values: the rowid
+/// `id`, the type `kind`, the name `name`, the table name `table` and the SQL text `text`.
 fn is_object(row: &Row, id: i64, kind: &str, name: &str, table: &str, text: ValueRef<'_>) -> bool
     ensures { IsTrue result → row.now ≡ Int id ∷ Words kind.now ∷ Words name.now
         ∷ Words table.now ∷ owned text.entry ∷ [] }
@@ -131,7 +136,8 @@ fn is_object(row: &Row, id: i64, kind: &str, name: &str, table: &str, text: Valu
         && is_same(row.get(4), text)
 }
 
-/// Returns `true` if a row lists a table with this rowid, name and text.
+/// Returns `true` if `row`, a row of SQLite's schema list, lists the table `name` with the rowid
+/// `id` and the SQL text `sql`.
 fn is_table(row: &Row, id: u32, name: &str, sql: &str) -> bool
     ensures { IsTrue result → row.now ≡ table_object id name.now sql.now }
 {
@@ -139,15 +145,16 @@ fn is_table(row: &Row, id: u32, name: &str, sql: &str) -> bool
     is_object(row, i64::from(id), "table", name, name, text)
 }
 
-/// Returns `true` if a row lists the index of a table's key, with this rowid and name. Such an
-/// index has no text.
+/// Returns `true` if `row`, a row of SQLite's schema list, lists the key index `name` of the table
+/// `table`, with the rowid `id`. Such an index has no SQL text.
 fn is_key(row: &Row, id: u32, name: &str, table: &str) -> bool
     ensures { IsTrue result → row.now ≡ key_object id name.now table.now }
 {
     is_object(row, i64::from(id), "index", name, table, ValueRef::Null)
 }
 
-/// Returns `true` if these rows are the schema list of schema 2 (docs/formats/store.md).
+/// Returns `true` if `rows` are SQLite's schema list for schema 2, without the root pages
+/// (docs/formats/store.md).
 fn is_schema_2(rows: &[Row]) -> bool
     ensures { IsTrue result → rows.now ≡ schema_2_objects }
 {
@@ -164,8 +171,8 @@ fn is_schema_2(rows: &[Row]) -> bool
     of_meta & of_runs & of_entries & of_props
 }
 
-/// Reads the schema list, and returns `true` if it is that of schema 2. The files then have that
-/// schema.
+/// Reads SQLite's schema list in `files`, and returns `true` if it is that of schema 2. Then
+/// `files` has the listed schema.
 fn list_schema<D: Disk>(alloc: Global, files: &mut Unopened<D>) -> Result<bool, DatabaseError>
     requires { AreUsable files.old }
     ensures honest { IsTrue (state_of files.new).is_clean → IsTrue (state_of files.old).is_clean }
@@ -187,8 +194,8 @@ fn list_schema<D: Disk>(alloc: Global, files: &mut Unopened<D>) -> Result<bool, 
     }
 }
 
-/// Returns the schema number in the rows of the table `meta`, or `None` unless they are one row of
-/// the expected form.
+/// Returns the schema number in `settings`, the rows of the table `meta`. Returns `None` unless
+/// there is one row, with the name `schema` and an integer.
 fn number_in(settings: &[Row]) -> Option<i64>
     ensures { IfSome result (λ n. map (drop 1) settings.now
         ≡ (Words (codes "schema") ∷ Int n ∷ []) ∷ []) }
@@ -205,7 +212,7 @@ fn number_in(settings: &[Row]) -> Option<i64>
     }
 }
 
-/// Returns the result of an open with the error of the results store.
+/// Converts the error of `returned`, the result of an open, to a `DatabaseError`.
 fn opened<T, L>(returned: Result<T, (OpenError, L)>) -> Result<T, (DatabaseError, L)>
     ensures ok { IfOk result (λ it. returned ≡ Ok it) }
     ensures err { IfErr result (λ e. (cause : _) × (returned ≡ Err (cause, e.1))) }
@@ -216,8 +223,9 @@ fn opened<T, L>(returned: Result<T, (OpenError, L)>) -> Result<T, (DatabaseError
     }
 }
 
-/// Opens sound files. Checks all pages and trees if `is_full_check` is set. Otherwise, checks only
-/// the pages of the schema and the free pages. Returns the files with the error.
+/// Opens files that contain a database of their listed schema. Checks all pages and trees if
+/// `is_full_check` is `true`. Otherwise, checks only the pages of the schema and the free pages. On
+/// failure, returns the error with the files.
 fn open_sound_files<D: Disk + Drop>(
     files: Unopened<D>,
     is_full_check: bool,
@@ -245,9 +253,9 @@ fn open_sound_files<D: Disk + Drop>(
     }
 }
 
-/// Opens files that list the tables of schema 2, in pages without checksums, and recovers their
-/// log. Returns other files, which were only read. Returns what is left of the files with the
-/// error.
+/// Opens `files`, the results file and its log, if they list the tables of schema 2 in pages
+/// without checksums. Recovers the log. Returns the files, which were only read, if they aren't
+/// recognized as such. On failure, returns the error with what is left of the files.
 pub(crate) fn open_known_files<D: Disk + Drop>(
     alloc: Global,
     mut files: Files<D>,
@@ -294,11 +302,12 @@ pub(crate) fn open_known_files<D: Disk + Drop>(
     }
 }
 
-/// Checks that the schema number in the tables is 2. Fails with `UnknownSchema` otherwise.
+/// Checks that the schema number in the table `meta` is 2. Fails with `UnknownSchema` if it is
+/// another number.
 pub(crate) fn check_schema_number<S: Store>(store: &mut S, alloc: Global) -> Result<(), StoreFault>
     ensures ours { OnOk result (IsClean (S.Store.view store.new)
         → HasSchemaNumber (pos 2) (S.Store.view store.old).trees) }
-    // `UnknownSchema` only if the schema number isn't 2.
+    // The error is `UnknownSchema` only if the schema number is another than 2.
     ensures unknown { IfErr result (λ e. IsDatabaseFault e ⊎ ((e ≡ StoreFault.UnknownSchema)
         × (IsClean (S.Store.view store.new) → HasOtherSchema (S.Store.view store.old).trees))) }
     ensures looks { OnlyReadsStore S.Store store.old store.new }
@@ -312,7 +321,7 @@ pub(crate) fn check_schema_number<S: Store>(store: &mut S, alloc: Global) -> Res
 }
 
 /// Copies the log into the database file, and closes both. Uncommitted changes are lost. On
-/// failure, returns the store.
+/// failure, returns the error with the store.
 pub(crate) fn close_store<D: Disk + Drop>(
     mut store: FileStore<D>,
 ) -> Result<(), (DatabaseError, FileStore<D>)>
@@ -330,7 +339,8 @@ pub(crate) fn close_store<D: Disk + Drop>(
     }
 }
 
-/// Reads the schema number from the table `meta`.
+/// Returns the schema number in the table `meta`. Fails unless the table has one row, with the name
+/// `schema` and an integer.
 fn stored_schema_number<S: Store>(store: &mut S, alloc: Global) -> Result<i64, DatabaseError>
     ensures says { IfOk result (λ n. IsClean (S.Store.view store.new)
         → HasSchemaNumber n (S.Store.view store.old).trees) }

@@ -11,7 +11,7 @@ ghost use Rattle.sqlite_wal.specs.Recovery.{Image};
 
 use sqlite_disk::Disk;
 
-/// Theorem: the next process finds the runs that this process left.
+/// Theorem: a process that opens the results file finds the runs that the previous process left.
 ///
 /// The premises of `OpensAndCloses` are clauses of [`RunsFile`](crate::RunsFile), of its open, its
 /// calls and its close, except `checked` and `honest`. After a close, the files hold the runs of
@@ -19,7 +19,7 @@ use sqlite_disk::Disk;
 /// holds for these files. A store that finds the files has these runs, and a crash leaves the runs.
 ///
 /// A close that fails returns its store. The files then have the runs that a crash may leave
-/// (`left`), and the next store finds these runs if the trees are still numbered (`failed`). If the
+/// (`left`). The next store finds these runs if the trees are still numbered (`failed`). If the
 /// returned store is open, the files hold the runs of the last commit (`kept`).
 pub fn theorem_of_reopening<D: Disk, E: Disk>()
     ensures held { (before after : Image) (last : Stored D D.Disk) (runs : List Run)

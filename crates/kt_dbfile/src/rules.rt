@@ -31,7 +31,7 @@ pub(crate) struct TableEdit<'a> {
     pub(crate) sources: &'a [Row],
 }
 
-/// Returns the indexes of a schema.
+/// Returns the indexes of the tables of `schema`, in the form that the library takes.
 fn list_indexes(alloc: Global, schema: &Schema) -> Result<Vec<Index<'_>>, NoMemory>
     ensures { IfOk result (λ all. IsCatalogOf schema.now all.items) }
 {
@@ -44,12 +44,13 @@ fn list_indexes(alloc: Global, schema: &Schema) -> Result<Vec<Index<'_>>, NoMemo
 struct EditWorkspace {
     /// The memory for rows that the library reuses.
     space: Workspace,
-    /// The rows that the edit has written so far.
+    /// The steps of the edit so far: the rows that each step removed and added.
     touched: Items<Touched>,
 }
 
 /// Applies `edit` to its table and to the indexes of that table, and checks each rule of `schema`.
-/// `indexes` are the indexes of `schema`, and `work` is a workspace without written rows.
+/// `indexes` are the indexes of `schema`, and `work` is a workspace without steps. Fails if a rule
+/// is broken.
 ///
 /// Separate for the prover: this function owns nothing, since values that are dropped on failure
 /// are slow to prove.
@@ -108,7 +109,8 @@ fn apply_edit<S: Alter>(
     Ok(())
 }
 
-/// Applies an edit of a table, and checks each rule of the schema. Commits nothing.
+/// Applies `edit` to its table, and checks each rule of `schema`. Fails if a rule is broken.
+/// Commits nothing.
 pub(crate) fn put_rows<S: Alter>(
     store: &mut S,
     alloc: Global,

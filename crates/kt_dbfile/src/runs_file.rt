@@ -32,11 +32,11 @@ use std::marker::Model;
 use std::thread;
 use std::time::Duration;
 
-/// The results in a file (docs/formats/store.md).
+/// An open results file: recorded runs in an SQLite database (docs/formats/store.md).
 ///
-/// The store seeks in the trees of the file to read them, and writes them by the rules of their
-/// schema. Contracts see the store. The clauses hold while the disk returns the data that was
-/// written and no other process writes the database.
+/// Reads find rows by seeks in the B-trees of the file. Writes follow the rules of the schema. In
+/// contracts, the value is the store of the B-trees. The clauses hold while the disk returns the
+/// data that was written and no other process writes the database.
 #[derive(Drop)]
 pub struct RunsFile<S: Alter> {
     store: S,
@@ -56,7 +56,8 @@ impl<S: Alter> Model for RunsFile<S> {
     ghost invariant = { λ r. IsSettledStore (S.Store.view r.store) r.schema };
 }
 
-/// Reads the schema of a store from its schema list.
+/// Returns the schema in the schema list of `store`, or `None` if the list doesn't describe a
+/// schema.
 fn listed<S: Alter>(store: &S, alloc: Global) -> Result<Option<Schema>, NoMemory>
     requires { IsClean (S.Store.view store.now) → (S.Store.view store.now).is_broken ≡ false }
     ensures { IsClean (S.Store.view store.now) → IfOk result (λ found. IfSome found
@@ -66,8 +67,8 @@ fn listed<S: Alter>(store: &S, alloc: Global) -> Result<Option<Schema>, NoMemory
     Ok(found)
 }
 
-/// Reads the schema of a store, which must have the tables of results. Fails if the store is
-/// broken.
+/// Returns the schema of `store`. Fails if the store is broken, or if its schema lacks the tables
+/// of a results file.
 fn schema_of_results<S: Alter>(store: &S, alloc: Global) -> Result<Schema, DatabaseError>
     ensures { IsClean (S.Store.view store.now) → IfOk result (λ schema.
         ((S.Store.view store.now).is_broken ≡ false)
@@ -79,9 +80,9 @@ fn schema_of_results<S: Alter>(store: &S, alloc: Global) -> Result<Schema, Datab
     Ok(schema)
 }
 
-/// Wraps a store that shows its last commit as a `RunsFile`. Fails if the store is broken or lacks
-/// the tables of results, and returns the store with the error. The caller guarantees that the
-/// store obeys its schema.
+/// Creates a `RunsFile` over `store`, which shows its last commit. Fails if the store is broken or
+/// lacks the tables of a results file, and returns the store with the error. The caller guarantees
+/// that the store obeys its schema.
 pub(crate) fn over<S: Alter>(alloc: Global, store: S) -> Result<RunsFile<S>, (DatabaseError, S)>
     requires settled { IsClean (S.Store.view store) → (S.Store.view store).is_broken ≡ false
         → (S.Store.view store).trees ≡ (S.Store.view store).committed }
@@ -100,7 +101,7 @@ pub(crate) fn over<S: Alter>(alloc: Global, store: S) -> Result<RunsFile<S>, (Da
     }
 }
 
-/// Returns the store of a connection. Uncommitted changes are lost.
+/// Returns the store of `connection`. Uncommitted changes are lost.
 fn detach_store<S: Alter + Drop>(connection: Connection<S>) -> S
     ensures from { IsConvertedFrom S.Store connection result }
     ensures undone { IsRolledBack (S.Store.view connection.store) (S.Store.view result) }
@@ -108,8 +109,8 @@ fn detach_store<S: Alter + Drop>(connection: Connection<S>) -> S
     connection.into_store()
 }
 
-/// Converts the results of a connection to a `RunsFile`. Undoes uncommitted changes of the
-/// connection. Returns the store of the connection with the error.
+/// Converts `connection`, with attached results, to a `RunsFile`. Uncommitted changes are lost. On
+/// failure, returns the error with the store of the connection.
 fn converted<S: Alter + Drop>(
     alloc: Global,
     connection: Connection<S>,
@@ -133,12 +134,12 @@ impl<S: Alter + Drop> RunsFile<S> {
     ghost use Rattle.sqlite_trees.specs.Tree.{Trees};
     ghost use Rattle.sqlite_trees.specs.View.{IsClean};
 
-    /// Converts the results of a connection to a `RunsFile`. Undoes uncommitted changes of the
-    /// connection.
+    /// Converts `results`, which were attached to a connection, to a `RunsFile`. Uncommitted
+    /// changes of the connection are lost.
     ///
     /// # Errors
     ///
-    /// - `Store`: the connection is broken or lacks the tables of results.
+    /// - `Store`: the connection is broken, or the database lacks the tables of a results file.
     /// - `NoMemory`: memory ran out.
     pub fn of(results: Results<S>) -> Result<RunsFile<S>, StoreFault>
         ensures stands { IfOk result (λ r. (runs : List Run)
@@ -158,7 +159,7 @@ impl<S: Alter + Drop> RunsFile<S> {
         }
     }
 
-    /// Returns the store. Allocates nothing.
+    /// Converts the results file to its store of B-trees. Allocates nothing.
     pub fn into_store(self) -> S
         ensures { result ≡ self }
     {
@@ -176,12 +177,13 @@ impl<D: Disk + Drop> RunsFile<FileStore<D>> {
     ghost use Rattle.kt_dbfile.specs.Common.{Ends, FailsToClose, IsDatabaseFault, StaysNumbered};
     ghost use Rattle.sqlite_store.specs.FileStore.{view};
 
-    /// Closes the results. The database file then contains all of them, without its log.
+    /// Closes the results file. On success, the database file alone, without the log, contains all
+    /// runs of the last commit.
     ///
     /// # Errors
     ///
-    /// The store is returned with the error. Its file and its log have the results of the last
-    /// commit. If a call failed after it, they may have the change of that call, too.
+    /// The store is returned with the error. Its file and its log have the runs of the last commit.
+    /// If a call failed after it, they may have the change of that call, too.
     ///
     /// - `Store`: the log can't be copied into the file.
     /// - `NoMemory`: memory ran out.
@@ -204,8 +206,9 @@ impl<D: Disk + Drop> RunsFile<FileStore<D>> {
     }
 }
 
-/// Attaches the tables of a database, and converts the results to a `RunsFile`. Returns the store
-/// of the connection with the error.
+/// Attaches the tables of the database that `connection` opened, and converts the results to a
+/// `RunsFile`. Fails with `UnknownSchema` if the schema number is missing or neither 1 nor 2. On
+/// failure, returns the error with the store of the connection.
 fn taken<S: Alter + Drop>(
     alloc: Global,
     connection: Connection<S>,
@@ -223,8 +226,9 @@ fn taken<S: Alter + Drop>(
     }
 }
 
-/// Attaches the tables of a database in files, and converts the results to a `RunsFile`. Returns
-/// the store with the error.
+/// Attaches the tables of the database in the files of `connection`, and converts the results to a
+/// `RunsFile`. Fails with `UnknownSchema` if the schema number is missing or neither 1 nor 2. On
+/// failure, returns the error with the store.
 ///
 /// Separate for the prover: functions that depend on how a store over files is read are slow to
 /// prove.
@@ -239,8 +243,9 @@ fn attach_files_and_convert<D: Disk + Drop>(
     taken(alloc, connection)
 }
 
-/// Wraps a store that lists the tables of schema 2 as a `RunsFile`. Fails with `UnknownSchema` if
-/// the schema number isn't 2. Returns the store, which was only read, with the error.
+/// Creates a `RunsFile` over `store`, which lists the tables of schema 2. Fails with
+/// `UnknownSchema` if the table `meta` has another schema number. Returns the store, which was only
+/// read, with the error.
 ///
 /// Separate for the prover: functions that depend on how a store over files is read are slow to
 /// prove.
@@ -251,7 +256,7 @@ fn ours<S: Alter + Drop>(alloc: Global, mut store: S) -> Result<RunsFile<S>, (St
     ensures found { IfOk result (λ r. OnlyReadsStore S.Store store r
         × (IsClean (S.Store.view r) → HasSchemaNumber (pos 2) (S.Store.view store).trees)) }
     ensures left { IfErr result (λ e. OnlyReadsStore S.Store store e.1) }
-    // `UnknownSchema` only if the schema number isn't 2.
+    // The error is `UnknownSchema` only if the schema number is another than 2.
     ensures unknown { IfErr result (λ e. IsDatabaseFault e.0 ⊎ ((e.0 ≡ StoreFault.UnknownSchema)
         × (IsClean (S.Store.view e.1) → HasOtherSchema (S.Store.view store).trees))) }
 {
@@ -265,9 +270,10 @@ fn ours<S: Alter + Drop>(alloc: Global, mut store: S) -> Result<RunsFile<S>, (St
     }
 }
 
-/// Opens the results in files that list the tables of schema 2. Returns other files, which were
-/// only read. Fails with `UnknownSchema` if the listed tables have another schema number. Returns
-/// what is left of the files with the error.
+/// Opens `files`, the results file and its log, if they list the tables of schema 2. Returns the
+/// files, which were only read, if they aren't recognized as such. Fails with `UnknownSchema` if
+/// the table `meta` has another schema number. On failure, returns the error with what is left of
+/// the files.
 pub(crate) fn known<D: Disk + Drop>(
     alloc: Global,
     files: Files<D>,
@@ -293,9 +299,9 @@ pub(crate) fn known<D: Disk + Drop>(
     }
 }
 
-/// Opens the results in files. Files that list other tables than those of schema 2 are attached by
-/// [`Results::attach`]. Fails with `UnknownSchema` if the schema number is neither 1 nor 2. Returns
-/// what is left of the files with the error.
+/// Opens `files`, the results file and its log. If they list other tables than those of schema 2,
+/// attaches these by [`Results::attach`]. Fails with `UnknownSchema` if the schema number is
+/// missing or neither 1 nor 2. On failure, returns the error with what is left of the files.
 fn open_results<D: Disk + Drop>(
     alloc: Global,
     files: Files<D>,
@@ -324,13 +330,14 @@ fn open_results<D: Disk + Drop>(
     }
 }
 
-/// The number of retries while another process uses the file.
+/// The maximum number of retries of an open while another process uses the results file.
 const MAX_RETRIES: usize = 100;
 
 /// The pause before a retry, in milliseconds.
 const PAUSE_MILLIS: u64 = 50;
 
-/// Pauses if another process uses the file. Fails with any other fault.
+/// Pauses for 50 ms if `fault` reports that another process uses the results file. Returns any
+/// other fault as the error.
 fn pause(rt: &HostRuntime, fault: StoreFault) -> Result<(), StoreFault>
     ensures { IfErr result (λ e. e ≡ fault) }
 {
@@ -341,7 +348,8 @@ fn pause(rt: &HostRuntime, fault: StoreFault) -> Result<(), StoreFault>
     Ok(())
 }
 
-/// Opens the files of a database, without a retry. Creates the database if there is none.
+/// Opens the results file at the path `file` and its log, without a retry. Creates the results file
+/// if it doesn't exist. On failure, returns the error with a witness of the failed open.
 fn try_open<S: TrustedContents>(
     rt: &HostRuntime,
     file: &Text,
@@ -359,9 +367,9 @@ fn try_open<S: TrustedContents>(
     }
 }
 
-/// Opens the files of a database. Creates the database if there is none. While another process uses
-/// the files, retries for 5 seconds. Only a failed open returns the value of `S`, so at most one
-/// pair of files is opened.
+/// Opens the results file at the path `file` and its log. Creates the results file if it doesn't
+/// exist. While another process uses the file, retries for 5 seconds. Returns the value of `S` only
+/// if the open fails, so at most one pair of files is opened.
 fn open_files<S: TrustedContents>(
     rt: &HostRuntime,
     file: &Text,
@@ -397,8 +405,9 @@ fn is_path(path: &str) -> bool
     path != ":memory:" && !path.starts_with("file:")
 }
 
-/// Checks that the results can be opened at the path `file`, and returns the options of their
-/// store.
+/// Checks the path `file` of a results file, and returns the options of its store. Fails if SQLite
+/// doesn't open the path as a file, or if the file is mounted alone. Also fails if the system
+/// provides no random number.
 fn options_of_path(
     rt: &HostRuntime,
     file: &Text,
@@ -414,10 +423,10 @@ impl<S: TrustedContents> RunsFile<FileStore<FileFrom<S>>> {
     ghost use Rattle.std.specs.Prelude.{◌≡◌, ◌⊎◌, IfOk, IfErr, is_some};
     ghost use Rattle.kt_dbfile.specs.Common.{FailsToOpen, Finds, IsDatabaseFault, image_at};
 
-    /// Opens the results in a file. Creates the file if it doesn't exist.
+    /// Opens the results file at the path `file`. Creates the file if it doesn't exist.
     ///
     /// `start` represents the initial content of the file, in contracts alone. An open consumes it,
-    /// so a value serves one open.
+    /// so a value serves one open. `access` decides how many pages are cached.
     ///
     /// # Errors
     ///
@@ -428,8 +437,7 @@ impl<S: TrustedContents> RunsFile<FileStore<FileFrom<S>>> {
     /// - `NoMemory`: memory ran out.
     /// - `Store`: another process uses the file for 5 seconds, the file can't be created, read or
     ///   written, it is damaged or has other tables, `file` is `:memory:` or a URI, it is mounted
-    ///   as a
-    ///   single file, or `start` is `None`.
+    ///   as a single file, or `start` is `None`.
     /// - `UnknownSchema`: the schema number is missing or neither 1 nor 2.
     pub fn open(
         rt: &HostRuntime,

@@ -137,8 +137,8 @@ pub(crate) fn outline<S: Store>(
     Ok(found)
 }
 
-/// Returns an index key below that of the entry at `position` of run `run`: the key of the previous
-/// position or, for position 0, of the previous run.
+/// Returns an index key below that of the entry at `position` of run `run`. This is the key of the
+/// previous position or, for position 0, of the previous run.
 fn key_before_entry(alloc: Global, run: u32, position: u32) -> Result<row::Row, NoMemory>
     ensures { IfOk result (λ key. key ≡ key_before run position) }
 {
@@ -167,7 +167,8 @@ pub(crate) fn find_properties<S: Store>(
     Ok(pairs_from_rows(alloc, &rows)?)
 }
 
-/// Reads the outputs of an entry from its stored row.
+/// Returns the outputs in `row`, a stored row of the table `entries`. Fails if an output isn't a
+/// blob.
 fn outputs_from_row(alloc: Global, row: &row::Row) -> Result<CaseOutputs, StoreFault>
     ensures outputs { (n : ℕ) (e : Entry) → drop 1 row.now ≡ entry_row n e
         → IfOk result (λ o. o ≡ outputs_of e) }

@@ -12,19 +12,20 @@ use sqlite_trees::store::{Direction, Shape, Store};
 use sqlite_value::row::Row;
 use std::alloc::Global;
 
-/// The index in the schema of the table `runs`.
+/// The index of the table `runs` among the tables of the schema.
 pub(crate) const RUNS_AT: usize = 1;
 
-/// The index in the schema of the table `entries`.
+/// The index of the table `entries` among the tables of the schema.
 pub(crate) const ENTRIES_AT: usize = 2;
 
-/// The index in the schema of the table `props`, which has the properties of entries.
+/// The index of the table `props`, which has the properties of entries, among the tables of the
+/// schema.
 pub(crate) const PROPS_AT: usize = 3;
 
-/// The number of the tree that has the table of runs.
+/// The number of the tree of the table `runs`.
 pub(crate) const RUNS_TREE: u32 = 2;
 
-/// Returns the description of the table `entries` and of its index.
+/// Returns the description of the table `entries` and of its key index.
 pub(crate) fn entry_table() -> TreeTable<'static>
     ensures tree { result.tree ≡ 3 }
     ensures index { result.index ≡ 4 }
@@ -38,7 +39,7 @@ pub(crate) fn entry_table() -> TreeTable<'static>
 }
 
 /// Returns the description of the table `props`, which has the properties of entries, and of its
-/// index.
+/// key index.
 pub(crate) fn property_table() -> TreeTable<'static>
     ensures tree { result.tree ≡ 5 }
     ensures index { result.index ≡ 6 }
@@ -51,7 +52,8 @@ pub(crate) fn property_table() -> TreeTable<'static>
     }
 }
 
-/// Creates the index key of an entry, which is also the prefix of the keys of its properties.
+/// Creates the index key of the entry at `position` of run `run`. The keys of the entry's
+/// properties begin with this key.
 pub(crate) fn create_entry_key(alloc: Global, run: u32, position: u32) -> Result<Row, NoMemory>
     ensures { IfOk result (λ place. place ≡ Int (pos run) ∷ Int (pos position) ∷ []) }
 {
@@ -60,7 +62,8 @@ pub(crate) fn create_entry_key(alloc: Global, run: u32, position: u32) -> Result
     Ok(place)
 }
 
-/// Returns the row with the highest rowid in the table of `tree`, or `None` if the table is empty.
+/// Returns the row with the highest rowid in the table whose tree has the number `tree`, or `None`
+/// if the table is empty. Fails if the tree doesn't have the shape of a table.
 pub(crate) fn read_last_row<S: Store>(
     store: &mut S,
     alloc: Global,
@@ -80,7 +83,8 @@ pub(crate) fn read_last_row<S: Store>(
     Ok(Some(row))
 }
 
-/// Reads the head of a run from its stored row.
+/// Returns the head of the run that `row`, a stored row of the table `runs`, represents. Fails if a
+/// column isn't a number in range.
 pub(crate) fn head_from_stored_row(alloc: Global, row: &Row) -> Result<RunHead, DatabaseError>
     ensures head { (r : Run) → row.now ≡ run_row r → IfOk result (λ h. h ≡ head_of r) }
 {

@@ -29,9 +29,9 @@ pub(crate) struct TreeTable<'a> {
     pub(crate) tree: u32,
     /// The number of the index's tree.
     pub(crate) index: u32,
-    /// The indexes of the columns of the key.
+    /// The positions of the key columns in a row, which has the rowid at position 0.
     pub(crate) key: &'a [usize],
-    /// The indexes of the columns that are blobs.
+    /// The positions of the blob columns in a row.
     pub(crate) blobs: &'a [usize],
 }
 
@@ -58,7 +58,7 @@ pub(crate) fn positive_rowid(row: &row::Row) -> Result<u64, DatabaseError>
     }
 }
 
-/// Creates an index key with one number.
+/// Creates an index key that consists of the value `number`.
 pub(crate) fn create_number_key(alloc: Global, number: u32) -> Result<row::Row, NoMemory>
     ensures { IfOk result (λ key. key ≡ Int (pos number) ∷ []) }
 {
@@ -105,7 +105,8 @@ fn push_columns<T: FromRow>(
     add(found, T::from_row(alloc, &values)?)
 }
 
-/// Returns the rowid at the end of an index entry, or `None` if the last value isn't a number.
+/// Returns the rowid at the end of the index entry `place`, or `None` if the entry doesn't end in
+/// an integer.
 fn index_entry_rowid(place: &row::Row) -> Option<i64>
     ensures { (front : Values) (id : ℤ) → place.now ≡ front ++ Int id ∷ [] → result ≡ Some id }
 {
@@ -116,8 +117,8 @@ fn index_entry_rowid(place: &row::Row) -> Option<i64>
     }
 }
 
-/// Returns `true` if the table's tree has the shape of a table, and its index's tree has the shape
-/// of an index whose columns ascend by bytes.
+/// Returns `true` if the trees of `table` have the expected shapes: that of a table, and that of an
+/// index whose columns ascend by bytes.
 pub(crate) fn have_shapes<S: Store>(store: &S, table: &TreeTable) -> bool
     ensures table { IsTrue result
         → (S.Store.view store.now).shape table.now.tree ≡ kind.Table }
@@ -137,9 +138,10 @@ fn has_blobs(row: &row::Row, columns: &[usize]) -> bool
         .all(|at| matches!(row.get(*at), ValueRef::Blob(_)))
 }
 
-/// Reads the next index entry of the cursor into `place`, and its row into `row`. Returns `true` if
-/// the entry begins with `key`, and `false` if it doesn't or if there is no entry. Fails if the
-/// entry isn't that of its row, or if a blob column of the row has no blob.
+/// Reads the next index entry of cursor 0 into `place`, and the row of the entry into `row`.
+/// Returns `true` if the entry begins with `key`, and `false` if it doesn't or if there is no
+/// entry. Fails if the row is missing, if it has another key than the entry, or if a blob column of
+/// the row has no blob.
 pub(crate) fn read_next_row<S: Store>(
     store: &mut S,
     alloc: Global,
@@ -220,7 +222,7 @@ fn read_rows_by_key<S: Store>(
     let mut rows = Vec::new(alloc);
     // A faulty disk could keep a cursor going, so the loop counts.
     'places: for _ in 0..u64::MAX {
-        // Read one entry past the last match: a damaged entry could be a match.
+        // Read one entry past the last match: if it is damaged, its row could be a match.
         if !read_next_row(store, alloc, table, key, &mut place, &mut row)? {
             return Ok(rows);
         }
@@ -230,8 +232,8 @@ fn read_rows_by_key<S: Store>(
 }
 
 /// Reads the values in `columns` of each row whose index entry begins with `key`, in the order of
-/// the index. First reads the last index entry at or before the key `before`, and its row, because
-/// a damaged entry could be a match.
+/// the index. First compares the last index entry at or before the key `before` with its row,
+/// because the row of a damaged entry could belong to `key`.
 pub(crate) fn read_rows_after<S: Store>(
     store: &mut S,
     alloc: Global,

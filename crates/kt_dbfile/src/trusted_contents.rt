@@ -1,19 +1,21 @@
 use crate::files::OpenFailure;
 use sqlite::{Start, Unknown};
 
-/// An interface to the initial content of a results file, for contracts alone. It assumes that a
-/// file which lists the tables of results holds runs. It assumes nothing of other files.
+/// An interface to a value that represents the initial content of a results file in contracts. The
+/// content is assumed to contain valid runs if it lists the tables of schema 2. Nothing is assumed
+/// of other contents.
 ///
-/// An open consumes a value of the type, so a value serves one open.
+/// An open consumes a value of the type, so each open needs another value.
 pub trait TrustedContents: Start {
     ghost use Rattle.sqlite_wal.specs.Files.{image_at};
     ghost use Rattle.kt_store.specs.TrustedContents.{IsTrustedImage};
 
-    /// Returns the value that a failed open consumed, for another open. The program doesn't read
-    /// the value.
+    /// Returns the value that the failed open consumed, so that another open can consume it. The
+    /// program doesn't read the value.
     fn returned(failed: OpenFailure<Self>) -> Self;
 
-    /// The assumption: the initial content of the file meets `IsTrustedImage`.
+    /// The assumption that the initial content of the results file and its log meets
+    /// `IsTrustedImage`.
     ghost holds: { IsTrustedImage (image_at Self.Start) };
 }
 

@@ -12,8 +12,8 @@ use Rattle.kt_store.specs.declared.result_store.RunHead.{RunHead}
 
 -- `ends_with last end`: `true` if `end` can be the last key of the index of entries when `last` is
 -- the head of the last run. If this run is finished and has cases, `end` must be the key of its
--- last position. Otherwise, `end` can be any key below that of the first position that the run
--- doesn't have.
+-- last position. Otherwise, `end` can be any key below that of the position `last.total`, at which
+-- the run can't have an entry.
 abbrev pub ends_with : RunHead → Row → Bool
 ends_with last end =
     if last.finished && nat_lt 0 last.total then is_eq (prefix_cmp plain end (Int (pos last.number) ∷ Int (pos (last.total - 1)) ∷ []))
@@ -32,10 +32,10 @@ has_prefix key e = is_eq (prefix_cmp plain e key)
 abbrev pub IsUniqueRow : List Row → Row → Type 0
 IsUniqueRow table row = (id : ℤ) × (rowid row ≡ Int id) × (filter (has_rowid id) table ≡ row ∷ [])
 
--- `IndexesRows columns key mine table index`: from `key` on, `index` first has the entries that
--- begin with `key`, and each of them is that of one row of `table`. `mine` are these rows, in the
--- order of `index` and without their rowids. No later entry begins with `key`. An entry has the
--- values of its row in the key columns `columns`, and the rowid.
+-- `IndexesRows columns key mine table index`: `mine` are the rows of `table` whose entries in
+-- `index` begin with `key`, in the order of `index` and without their rowids. These entries are the
+-- first from `key` on, and no later entry begins with `key`. An entry has the values of its row in
+-- the key columns `columns`, and the row's rowid. No other row of `table` has this rowid.
 pub record IndexesRows (columns : List ℕ) (key : Row) (mine table index : List Row) : Type 0 where
   pub rows : List Row
   pub are : map (drop 1) rows ≡ mine
@@ -74,10 +74,11 @@ abbrev pub FindsFirstUnderKey : ℕ → ℕ → Row → Trees → Option Row →
 FindsFirstUnderKey table index key trees found = (cs : List ℕ) (mine : List Row)
     → (IsShaped Table (trees table) → IsIndex plain (trees index) → IndexesRows cs key mine (trees table) (trees index)) → option_map (drop 1) found ≡ slice_get mine 0
 
--- `CursorReturns key table old place row new found`: a cursor with the index entries `old` left
--- moved to its next entry. If `found` is `true`, this entry is `place`, which begins with `key`,
--- and the entries `new` are left. `row` is then the only row of `table` with the rowid in `place`.
--- If `found` is `false`, no entry was left, or the next one doesn't begin with `key`.
+-- `CursorReturns key table old place row new found`: a cursor moves to the first of `old`, the
+-- index entries that it has not reached yet. If `found` is `true`, this entry is `place`, which
+-- begins with `key`, and `new` are the entries after it. `row` is then the only row of `table` with
+-- the rowid in `place`. If `found` is `false`, `old` is empty, or its first entry doesn't begin
+-- with `key`.
 abbrev pub CursorReturns : Row → List Row → List Row → Row → Row → List Row → Bool → Type 0
 CursorReturns key table old place row new true =
     (old ≡ place ∷ new) × (has_prefix key place ≡ true) × ((front : Row) (id : ℤ) → place ≡ front ++ Int id ∷ [] → filter (has_rowid id) table ≡ row ∷ [])
@@ -95,14 +96,14 @@ abbrev pub IsLast : List Row → Option Row → Type 0
 IsLast rows None = rows ≡ []
 IsLast rows (Some row) = (front : List Row) × (rows ≡ front ++ row ∷ [])
 
--- `OnlyMovesCursors old new`: between the views `old` and `new` of a store, only cursors moved. The
--- transaction of `old` was not broken.
+-- `OnlyMovesCursors old new`: `old` and `new` are the views of a store before and after a call that
+-- changed only cursors. The transaction of `old` was not broken.
 abbrev pub OnlyMovesCursors : View → View → Type 0
 OnlyMovesCursors old new = (old.is_broken ≡ false) × (new ≡ record old { cursors = new.cursors })
 
--- `MovesCursorsIfOk g old new result`: if a call from the store `old` to `new` returned a success as its
--- `result`, `OnlyMovesCursors` holds for their views. Nothing is stated if the disk has returned
--- wrong data. `g` is the specification of the store.
+-- `MovesCursorsIfOk g old new result`: `old` and `new` are a store before and after a call that
+-- returned `result`. If the call succeeded, it changed only cursors (`OnlyMovesCursors`). Nothing
+-- is stated if the disk has returned wrong data. `g` is the specification of the store.
 abbrev pub MovesCursorsIfOk : {S T E : Type 0} → Ghosts S → S → S → Result T E → Type 0
 MovesCursorsIfOk g old new result = IsClean (g.view new) → OnOk result (OnlyMovesCursors (g.view old) (g.view new))
 
@@ -112,9 +113,9 @@ MovesCursorsIfOk g old new result = IsClean (g.view new) → OnOk result (OnlyMo
 abbrev pub KeepsLastCommit : View → View → Type 0
 KeepsLastCommit old new = IsTrue new.is_open → IsTrue old.is_open × (new.committed ≡ old.committed) × (new.is_numbered ≡ old.is_numbered)
 
--- `OnlyReadsStore g old new`: a call from the store `old` to `new` only read it. Unless `new` is
--- broken, it shows the trees of `old`. A crash of `new` leaves only trees that a crash of `old` may
--- leave. `g` is the specification of the store.
+-- `OnlyReadsStore g old new`: `old` and `new` are a store before and after a call that only read
+-- it. Unless `new` is broken, it shows the trees of `old`. A crash of `new` leaves only trees that
+-- a crash of `old` may leave. `g` is the specification of the store.
 pub record OnlyReadsStore {S : Type 0} (g : Ghosts S) (old new : S) : Type 0 where
   pub clean : IsClean (g.view new) → IsClean (g.view old)
   pub schema : KeepsSchema (g.view old) (g.view new)

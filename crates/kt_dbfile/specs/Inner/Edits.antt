@@ -51,7 +51,8 @@ new_run_row total started = Null ∷ Null ∷ Int (pos started) ∷ Int (pos tot
 
 -- `WritesEntryRows schema run e old new`: `old` and `new` are the trees before and after the entry
 -- `e` of run `run` is written. The row of the entry is added to the table `entries` of `schema`,
--- and then the rows of the entry's properties to the table `props`.
+-- and then the rows of the entry's properties to the table `props`. All texts are representable in
+-- UTF-8.
 abbrev pub WritesEntryRows : Schema → ℕ → Entry → Trees → Trees → Type 0
 WritesEntryRows schema run' e old new =
     HasEncodableTexts e × ((mid : Trees) × PutsRows schema 2 [] Chosen 0 (row_without_rowid (entry_row run' e) ∷ []) old mid

@@ -20,8 +20,10 @@ abbrev pub HoldsForTrees : {S : Type 0} → Ghosts S → S → S → (List Run �
 HoldsForTrees g old new P = (runs : List Run) → HasRuns (g.view old) runs → IsClean (g.view new) → P runs
 
 module _ {S : Type 0} (g : Ghosts S) where
-  -- `spec_over_trees g Has`: the specification of a store that represents runs if `Has` holds for its view
-  -- and the runs. `g` is the specification of its trees.
+  -- `spec_over_trees g Has`: the specification of a results store over a store of trees. It
+  -- represents runs that are numbered from 1 if `Has` holds for its view and the runs. Unless the
+  -- disk has returned wrong data, the entries of each run ascend by position. `g` is the
+  -- specification of the store of trees.
   abbrev pub spec_over_trees : (View → List Run → Type 0) → store.Ghosts S
   spec_over_trees Has = record {
     answers = λ old _ new. StaysNumbered (g.view old) (g.view new);

@@ -1,4 +1,4 @@
--- The steps from two files to a store that has the runs of the files.
+-- The steps of an open, from the results file and its log to a store with their runs.
 use Rattle.std.specs.Prelude.{◌≡◌, ◌≢◌, ◌⊎◌, true, false, ℕ, ℤ, pos, List, IsTrue}
 use Rattle.sqlite_disk.specs.declared.Disk.{Ghosts}
 use Rattle.sqlite_disk.specs.declared.Files.{Files}
@@ -23,29 +23,35 @@ use Rattle.kt_store.specs.Types.{FileStore, Ghosts as StoreGhosts, HasCleanDisk,
 use Rattle.kt_store.specs.declared.store_fault.StoreFault.{StoreFault}
 
 module _ {D : Type 0} {g : Ghosts D} (image : Image) (store : FileStore D g) where
-  -- `OpensOver image store`: `store` shows the runs of the files `image`, unless it is broken, and
-  -- a crash leaves them
+  -- `OpensOver image store`: `store` was opened over the results file and its log, whose content
+  -- was `image`. If `image` has runs, `store` shows them unless it is broken, and a crash leaves
+  -- them.
   pub record OpensOver : Type 0 where
     pub holds : (runs : List Run) → HoldsRuns image runs → (view store).is_broken ≡ false → IsSchema2Of runs (view store).trees
     pub leaves : (runs : List Run) → HoldsRuns image runs → (trees : Trees) → recovers store trees → IsSchema2Of runs trees
 
--- `HasOtherSchema trees`: the schema number in `trees` isn't 2
+-- `HasOtherSchema trees`: the table `meta` in `trees` has one row, whose schema number isn't 2.
 abbrev pub HasOtherSchema : Trees → Type 0
 HasOtherSchema trees = (n : ℤ) × (n ≢ pos 2) × HasSchemaNumber n trees
 
--- `CachesPages pages options`: a store with `options` caches `pages` read pages and 2,000 written
--- pages
+-- `CachesPages pages options`: a store with `options` keeps at most `pages` read pages and 2,000
+-- written pages in memory.
 pub record CachesPages (pages : ℕ) (options : Options) : Type 0 where
   pub read : options.cache_pages ≡ pages
   pub written : options.spill_pages ≡ 2000
 
--- `LeavesAsBefore g old left`: `left` are the log and the database file after a read of `old`. A
--- crash then leaves what it left before, or files with the same databases.
+-- `LeavesAsBefore g old left`: `left` are the log and the database file after the files `old` were
+-- read. A crash then leaves a content that it could leave before the read, or one with each
+-- database of `old`. Nothing is stated if the disk has returned wrong data. `g` is the
+-- specification of the disk.
 abbrev pub LeavesAsBefore : {D : Type 0} → Ghosts D → Files D → D × D → Type 0
 LeavesAsBefore g old left = AreClean g left.0 left.1 → (after : Image) → outcomes g left.0 left.1 after → outcomes g old.log old.db after ⊎ HoldsAsBefore (image_of g old) after
 
 module _ {D : Type 0} (g : Ghosts D) (old left : Files D) where
-  -- `IsOnlyRead g old left`: the files were only read
+  -- `IsOnlyRead g old left`: `old` and `left` are the results file and its log before and after an
+  -- open that only read them. Both files stay usable. Reads of `left` return the content of `old`,
+  -- or one that recovers to the same pages. A crash then leaves what `LeavesAsBefore` allows. `g`
+  -- is the specification of the disk.
   pub record IsOnlyRead : Type 0 where
     pub log : IsTrue (g.is_usable left.log)
     pub db : IsTrue (g.is_usable left.db)
@@ -53,15 +59,18 @@ module _ {D : Type 0} (g : Ghosts D) (old left : Files D) where
     pub crash : LeavesAsBefore g old (left.log, left.db)
 
 module _ {D : Type 0} {g : Ghosts D} (old new : Unopened D g) where
-  -- `RecoversAsBefore old new`: the files recover as before
+  -- `RecoversAsBefore old new`: `old` and `new` are an unopened store before and after a call. The
+  -- files of both recover to the same pages. Before the call, the disk had returned no wrong data.
   pub record RecoversAsBefore : Type 0 where
     pub honest : IsTrue (state_of old).is_clean
     pub pages : PageMap
     pub found : Recovers (state_of old).page_size (image old) pages
     pub again : Recovers (state_of old).page_size (image new) pages
 
-  -- `ListsRuns old new`: the files recover as before, and if they hold a database with runs, the
-  -- database has the listed schema
+  -- `ListsRuns old new`: `old` and `new` are an unopened store before and after it got the schema
+  -- in the schema list of its files. The files of both recover to the same pages, and these list
+  -- the tables of schema 2. If the files contain a database with runs, `new` has its schema, and
+  -- reads the pages as its trees.
   pub record ListsRuns : Type 0 where
     pub honest : IsTrue (state_of old).is_clean
     pub size : (state_of new).page_size ≡ (state_of old).page_size
@@ -72,33 +81,40 @@ module _ {D : Type 0} {g : Ghosts D} (old new : Unopened D g) where
     pub fits : (runs : List Run) (db : Trees) → HoldsAt (state_of old).page_size (image old) db → IsSchema2Of runs db
         → IsOurs (state_of old).page_size true (wanted_by new) pages × (db ≡ file_trees (state_of old).page_size (wanted_by new) pages)
 
--- `IsAttached g conn it`: the tables of `conn` were attached, and the store `it` has the last commit
--- of the results; a crash leaves what it left of the results
+-- `IsAttached g conn it`: the tables of the connection `conn` were attached as `results`, and `it`
+-- is the store of `results`. It has their last commit, and a crash of `it` leaves only trees that a
+-- crash of `results` may leave. Unless the disk has returned wrong data, the trees of `it` are
+-- numbered. `g` is the specification of the store.
 abbrev pub IsAttached : {S : Type 0} → StoreGhosts S → Held S → S → Type 0
 IsAttached g conn it = (results : Held _) × ((was : InitialDatabase) → Describes was (state g conn) → AttachSucceeds was (state g conn) (state g results))
     × ((runs : List Run) → StandsFor (state g results) runs → HasCommitted (g.view it) runs)
     × (IsClean (g.view it) → HasCleanDisk (state g results)) × ((trees : Trees) → g.recovers it trees → (state g results).may_leave trees)
     × (IsClean (g.view it) → IsTrue (g.view it).is_numbered)
 
--- `IsAttachedFiles conn it`: `IsAttached` for a store over files
+-- `IsAttachedFiles conn it`: the tables of the connection `conn` over files were attached, and the
+-- store `it` has the last commit of the results. It meets `Follows`.
 abbrev pub IsAttachedFiles : {D : Type 0} {g : Ghosts D} → Held (FileStore D g) → FileStore D g → Type 0
 IsAttachedFiles conn it = (results : Held _) × ((was : InitialDatabase) → Describes was (file_state conn) → AttachSucceeds was (file_state conn) (file_state results)) × Follows results it
 
--- `IsConvertedFrom g held it`: `it` is the store of the connection `held`, without uncommitted
--- changes
+-- `IsConvertedFrom g held it`: `it` is the store of the connection `held`, after the end of the
+-- connection. A crash of `it` leaves only trees that a crash of `held` may leave. Unless the disk
+-- has returned wrong data, these are databases, and the trees of `it` are numbered. `g` is the
+-- specification of the store.
 pub record IsConvertedFrom {S : Type 0} (g : StoreGhosts S) (held : Held S) (it : S) : Type 0 where
   pub earlier : IsClean (g.view it) → HasCleanDisk (state g held)
   pub crash : (trees : Trees) → g.recovers it trees → (state g held).may_leave trees
   pub numbered : IsClean (g.view it) → IsTrue (g.view it).is_numbered
   pub sound : IsClean (g.view it) → AreDatabases (g.recovers it)
 
--- `FailsToAttach g conn fault it`: the tables of `conn` were not attached, or their results were
--- not converted, which failed with `fault`. `it` is the store that is left.
+-- `FailsToAttach g conn fault it`: the tables of the connection `conn` were not attached, or the
+-- attached results were not converted to a `RunsFile`. The error was `fault`, and `it` is the store
+-- that remains. `g` is the specification of the store.
 abbrev pub FailsToAttach : {S : Type 0} → StoreGhosts S → Held S → StoreFault → S → Type 0
 FailsToAttach g conn fault it = (held : Held _) × IsConvertedFrom g held it
     × (((was : InitialDatabase) → Describes was (state g conn) → AttachFails was (state g conn) (state g held) fault)
     ⊎ (((was : InitialDatabase) → Describes was (state g conn) → AttachSucceeds was (state g conn) (state g held)) × IsDatabaseFault fault))
 
--- `FailsToAttachFiles conn fault it`: `FailsToAttach` for a store over files
+-- `FailsToAttachFiles conn fault it`: `FailsToAttach` holds for the connection `conn` over files,
+-- the error `fault` and the store `it`.
 abbrev pub FailsToAttachFiles : {D : Type 0} {g : Ghosts D} → Held (FileStore D g) → StoreFault → FileStore D g → Type 0
 FailsToAttachFiles conn fault it = FailsToAttach over_files conn fault it
