@@ -13,10 +13,6 @@ module _ (old new : View) (back : IsRolledBack old new) (clean : IsClean new) wh
 open_if_sound : (v : View) → (v.is_open ≡ false → IsTrue v.is_broken) → v.is_broken ≡ false → IsTrue v.is_open
 open_if_sound v law sound = elim v.is_open as (λ b. (b ≡ false → IsTrue v.is_broken) → IsTrue b) [ true ↦ λ _. refl | false ↦ λ shut. absurd (true≢false (sym (shut refl) ∙ sound)) ] law
 
--- the trees of a settled store obey its schema
-pub sound_of : (v : View) (schema : Schema) → (v.is_open ≡ false → IsTrue v.is_broken) → IsSettledStore v schema → IsClean v → v.is_broken ≡ false → IsSound schema v.trees
-sound_of v schema law is clean sound = subst (IsSound schema) (sym (is.settled clean sound)) (is.sound (open_if_sound v law sound))
-
 -- a settled store shows the trees of the runs that it represents
 pub has_runs : (v : View) (schema : Schema) → (v.is_open ≡ false → IsTrue v.is_broken) → IsSettledStore v schema → (runs : List Run) → HasCommitted v runs → HasRuns v runs
 has_runs v schema law is runs has clean sound = subst (IsSchema2Of runs) (sym (is.settled clean sound)) (has (open_if_sound v law sound))

@@ -1,10 +1,8 @@
 -- The state of a connection after a query, and the tables that prepared statements show.
-use Rattle.kt_store.proofs.Common.{RunsQuery, ReadsSchemaNumber, CommitsNothing, Compiled, Database, Err, Ghosts, HasCleanDisk, HasTables, Held, IsSettledWithRuns, IsTrue, IsUnchanged, IsPreparable, List, OnlyReadsRuns, QueryMayCommit, Ok, Outlines, IsUnchangedOrRolledBack, Result, Row, Run, StoresSchemaNumber, Shown, ShowsRows, StandsFor, State, Survives, Trees, ap, arith, never_commits, refl, schema_2, state, subst, survives_then, survives_weaker, sym, unchanged_then, understood, ℕ, ℤ, ◌∙◌, ◌≡◌}
+use Rattle.kt_store.proofs.Common.{RunsQuery, ReadsSchemaNumber, CommitsNothing, Database, Ghosts, HasCleanDisk, HasTables, Held, IsSettledWithRuns, IsTrue, IsUnchanged, IsPreparable, List, OnlyReadsRuns, QueryMayCommit, IsUnchangedOrRolledBack, Row, Run, StoresSchemaNumber, Shown, ShowsRows, StandsFor, State, Survives, Trees, ap, arith, never_commits, schema_2, state, subst, survives_then, survives_weaker, sym, unchanged_then, understood, ℕ, ℤ, ◌∙◌}
 use Rattle.sqlite.specs.Given.{IsPlain}
 use Rattle.sqlite.specs.Clock.{timed}
 use Rattle.kt_store.proofs.StepLemmas.{same_store}
-use Rattle.sqlite.specs.Outline.{Outline}
-use Rattle.sqlite_resolve.specs.declared.error.CompileError.{CompileError}
 
 shown_same : (sql : List ℕ) (params : Row) (old new : State) (rows : List Row) → IsPlain (understood old.now.schema sql) → Shown sql params old new rows → IsUnchanged old new
 unfolding Shown
@@ -56,11 +54,6 @@ pub was_clean : {S : Type 0} {g : Ghosts S} {old new : Held S} → OnlyReadsRuns
 was_clean looked runs has clean = omega (arith, clean, (looked.crash runs has).clean)
 
 -- ---- the tables that prepared statements show
-
--- if the outline of a compiled statement is known, its compilation succeeded
-pub outline_entry : (r : Result Compiled CompileError) (s : Outline) → Outlines r s → (c : Compiled) × (r ≡ Ok c)
-outline_entry (Ok c) s h = (c, refl)
-outline_entry (Err e) s h = absurd h
 
 -- a statement that SQLite can prepare after an unchanged state could be prepared before
 pub understood_before : (old mid : State) (sql : List ℕ) → IsUnchanged old mid → IsPreparable mid sql → IsPreparable old sql

@@ -1,5 +1,5 @@
 -- The results of the queries of entries by position.
-use Rattle.kt_store.proofs.Common.{AllByRecursion, AreValidRuns, Binary, Bool, Entry, Ghosts, Held, Int, IsAscending, IsValidEntry, IsPermutation, IsValidRun, IsSettledWithRuns, IsSureAnswer, Less, List, None, Option, Output, Query, Row, Run, Shown, QueriesRuns, Some, State, Term, [], ap, ap₂, arith, ascending, ascending-filter, ascending-map, ascending_weaker, binary, col, cond, drop, entries_of, select_entries_sql, entry_row, entry_rows, false, filter, from_truth, has_position, holds, is_true, length, length-map, list_all, map, map-map, nat_lt, nat_tests, output, output_cmp, overlay, pos, reads_as, refl, run_at, schema_2, state, subst, sym, select_entry_sql, true, whole_columns, ℕ, ◌&&◌, ◌<◌, ◌==◌, ◌||◌, ◌∙◌, ◌∷◌, ◌≡◌}
+use Rattle.kt_store.proofs.Common.{AllByRecursion, AreValidRuns, Binary, Bool, Entry, Ghosts, Held, Int, IsAscending, IsValidEntry, IsPermutation, IsValidRun, IsSettledWithRuns, IsSureAnswer, Less, List, None, Option, Output, Query, Row, Run, Shown, QueriesRuns, Some, State, Term, [], ap, ap₂, arith, ascending, ascending-filter, ascending-map, ascending_weaker, binary, col, cond, drop, entries_of, select_entries_sql, entry_row, entry_rows, false, filter, from_truth, has_position, holds, is_true, length, length-map, list_all, map, map-map, nat_lt, nat_tests, output, output_cmp, overlay, pos, reads_as, refl, run_at, schema_2, state, subst, select_entry_sql, true, whole_columns, ℕ, ◌&&◌, ◌<◌, ◌==◌, ◌||◌, ◌∙◌, ◌∷◌, ◌≡◌}
 use Rattle.kt_store.proofs.QueryLemmas.{selects, answered_sorted}
 use Rattle.kt_store.proofs.EntryLemmas.{back, of_stored, of_run, tests, each, all_pass, and_true, truth}
 use Rattle.kt_store.proofs.Values.{below, same_test}
@@ -108,9 +108,6 @@ any_left p (e ∷ es) = go (e.position == p) (any_left p es)
         → nat_lt 0 (length (cond b (e ∷ filter (has p) es) (filter (has p) es))) ≡ (b || has_position p es)
     go true more = grind (arith, nat_tests)
     go false more = more
-
-pub counted_none : (p : ℕ) (es : List Entry) → length (filter (has p) es) ≡ 0 → has_position p es ≡ false
-counted_none p es none = sym (any_left p es) ∙ grind (arith, nat_tests, none)
 
 pub tells_there : {S : Type 0} (g : Ghosts S) (new : Held S) (runs : List Run) (n p : ℕ) (rows : List Row) → QueriesRuns g runs select_entry_sql (there_params n p) new rows → nat_lt 0 (length rows) ≡ has_position p (entries_of (run_at runs n))
 tells_there g new runs n p rows it =

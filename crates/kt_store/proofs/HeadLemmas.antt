@@ -1,19 +1,9 @@
 -- The head of the requested run, or of the last run.
-use Rattle.kt_store.proofs.Common.{IfSome, IsNumbered, List, None, Option, Run, RunHead, Some, ap, arith, head_at, head_of, inl, inr, length, option_map, refl, run_at, slice_get_past, suc, sym, unwrap_or, zero, ℕ, ◌<◌, ◌∙◌, ◌≡◌, ◌⊎◌}
-
-gone : (runs : List Run) (n : ℕ) → n ≡ 0 ⊎ length runs < n → run_at runs n ≡ None
-gone runs zero past = refl
-gone runs (suc k) (inl none) = absurd (omega (arith, none))
-gone runs (suc k) (inr past) = slice_get_past runs k (omega (arith, past))
+use Rattle.kt_store.proofs.Common.{IfSome, IsNumbered, List, None, Option, Run, RunHead, Some, ap, head_at, head_of, length, option_map, run_at, unwrap_or, ℕ, ◌∙◌, ◌≡◌}
 
 module _ (runs : List Run) (number : Option ℕ) (last n : ℕ) (last_is : last ≡ length runs) (is : n ≡ unwrap_or number last) where
   same : option_map head_of (run_at runs n) ≡ head_at runs number
   same = ap (λ (m : ℕ). option_map head_of (run_at runs m)) (is ∙ ap (unwrap_or number) last_is)
-
-  -- no run has the number 0 or a number above that of the last run, so there is no head
-  pub no_head : n ≡ 0 ⊎ last < n → None ≡ head_at runs number
-  no_head (inl none) = sym (ap (option_map head_of) (gone runs n (inl none))) ∙ same
-  no_head (inr past) = sym (ap (option_map head_of) (gone runs n (inr (omega (arith, past, last_is))))) ∙ same
 
   pub one_head : (head : RunHead) → Some head ≡ option_map head_of (run_at runs n) → Some head ≡ head_at runs number
   one_head head found = found ∙ same

@@ -1,5 +1,5 @@
 -- The results of the queries for one run and for all runs.
-use Rattle.kt_store.proofs.Common.{AllByRecursion, AreNumbered, Binary, Bool, Compare, Eq, Ghosts, Held, Int, IsAscending, IsPermutation, IsSettledWithRuns, Less, List, None, Option, Row, Run, Shown, QueriesRuns, Some, State, Term, Trees, [], ap, ap₂, arith, ascending, binary, col, column, eval, false, filter, filter-map, filter_same, flag, flat_map_single, get_or, head_columns, holds, is_eq, is_some, is_true, greatest_run_number, length, length_permutation, list_all, map, map-map, nat_lt, nat_tests, nil_from_length, one_permutation, option_map, option_to_list, output, output_cmp, pos, reads_as, refl, rowid, run_at, run_row, select_run_sql, select_runs_sql, schema_2, slice_get, state, subst, suc, sym, take, true, unsigned_abs, value_cmp, zero, ℕ, ◌&&◌, ◌++◌, ◌<◌, ◌∙◌, ◌∷◌, ◌≡◌, ◌≢◌, ◌≤◌}
+use Rattle.kt_store.proofs.Common.{AllByRecursion, AreNumbered, Binary, Bool, Compare, Eq, Ghosts, Held, Int, IsAscending, IsPermutation, IsSettledWithRuns, Less, List, None, Option, Row, Run, Shown, QueriesRuns, Some, State, Term, Trees, [], ap, ap₂, arith, ascending, binary, col, column, eval, false, filter, filter-map, filter_same, flag, flat_map_single, get_or, head_columns, holds, is_eq, is_true, length, length_permutation, list_all, map, map-map, nat_lt, nat_tests, nil_from_length, one_permutation, option_map, option_to_list, output, output_cmp, pos, reads_as, refl, rowid, run_at, run_row, select_run_sql, select_runs_sql, schema_2, slice_get, state, subst, suc, sym, take, true, unsigned_abs, value_cmp, zero, ℕ, ◌&&◌, ◌++◌, ◌<◌, ◌∙◌, ◌∷◌, ◌≡◌, ◌≢◌}
 use Rattle.kt_store.proofs.RunsByNumber.{all_above}
 use Rattle.kt_store.proofs.EntryLemmas.{and_true, of_one, truth, all_pass}
 use Rattle.kt_store.proofs.SqlFacts.{is, run_is, runs_select_is, runs_query}
@@ -86,17 +86,6 @@ pub one_found : (o : Option Run) (total finished : ℕ) → Some (total, finishe
 one_found o total finished h =
     let it = some_mapped head o (total, finished) h in
     (it.0, it.1, ap (λ (p : ℕ × ℕ). p.0) it.2, ap (λ (p : ℕ × ℕ). nat_lt 0 p.1) it.2 ∙ set it.0.finished)
-
--- ---- the store is full if a run has the maximum number
-
-none_past : (runs : List Run) (k : ℕ) → is_some (option_map head (slice_get runs k)) ≡ false → length runs ≤ k
-none_past [] k h = omega arith
-none_past (r ∷ runs) zero h = absurd (let e : true ≡ false = h in cc)
-none_past (r ∷ runs) (suc k) h = omega (arith, none_past runs k h)
-
-module _ (runs : List Run) (found : Option (ℕ × ℕ)) (told : found ≡ option_map head (run_at runs greatest_run_number)) where
-  pub has_room : is_some found ≡ false → length runs < greatest_run_number
-  has_room none = omega (arith, none_past runs 999999 (ap is_some (sym told) ∙ none))
 
 -- ---- the result of the query for all runs
 

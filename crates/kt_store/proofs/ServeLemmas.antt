@@ -86,9 +86,6 @@ reads_serve g call old new reads same lasts why = record {
 
 -- calls whose first step only reads
 module _ {S : Type 0} (g : Ghosts S) (old new : Held S) (looked : OnlyReadsRuns g old new) where
-  early : (runs : List Run) → StandsFor (state g old) runs → HasCleanDisk (state g new) → HasCleanDisk (state g old)
-  early = was_clean looked
-
   unwritten : (change runs : List Run) (may : List (List Run)) → StandsFor (state g old) runs → Leaves (state g old) (IsSchema2OfOne (runs ∷ may)) → Leaves (state g new) (IsSchema2OfOne (runs ∷ change ∷ may))
   unwritten change runs may has left =
       survived (state g old) (state g new) change runs may (survives_weaker (state g old) (state g new) (λ _. ⊥) (IsSchema2Of change) (λ _ db none. absurd none) (looked.crash runs has)) left
