@@ -5,8 +5,8 @@ use Rattle.kt_store.specs.Types.{CaseOutputs, Entry, RunHead, StoreFault, Variab
 -- A call of `ResultStore` with its result (`answer`). `number` is the number of the run, and
 -- `position` is the position of the entry. `Began` begins a run of `total` cases at the timestamp
 -- `moment`. `Put` puts `entry` into a run, and `Finished` finishes a run. `Head` reads the head of
--- a run, or of the last run without a number. `Outline` reads the entries of a run without
--- properties and outputs. `Pairs` and `Outputs` read the properties and the outputs of an entry.
+-- the run `number`, or of the last run if `number` is `None`. `Outline` reads the entries of a run,
+-- but not their properties and outputs. `Pairs` and `Outputs` read those of one entry.
 pub data StoreCall : Type 0 where
   Began : (total moment : ℕ) (answer : Result ℕ StoreFault) → StoreCall
   Put : (number : ℕ) (entry : Entry) (answer : Result (Unit {0}) StoreFault) → StoreCall
