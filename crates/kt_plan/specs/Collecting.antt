@@ -39,8 +39,8 @@ pub data ListsAtfCases (config : Values) (program : Program) : List Reply → Li
 
 -- `ListsProgramCases config filters program answers found`: `found` are the candidates of the program
 -- `program`. `answers` are the calls for its list, and `config` is the configuration. An ATF
--- program lists its cases if one of `filters` may match a case, and otherwise has no cases here.
--- Another program has the case `main`.
+-- program lists its cases if there is no filter, or if one of `filters` may match a case of it.
+-- Otherwise it has no cases here. A program with another interface has the case `main`.
 pub data ListsProgramCases (config : Values) (filters : List Filter) (program : Program) : List Reply → List Candidate → Type 0 where
   listing : (answers : List Reply) (cases : List CaseDef) → program.interface ≡ Atf → IsSelectable filters program → ListsAtfCases config program answers cases
       → ListsProgramCases config filters program answers (candidates_of program cases)
@@ -77,7 +77,7 @@ abbrev pub selected_cases : List Filter → List Candidate → List Candidate
 selected_cases filters found = filter (λ candidate. is_selected filters (item_of candidate)) found
 
 -- `selection_of filters found`: the selection by the filters `filters` from the candidates `found`:
--- the selected candidates, and the positions of the filters that match none.
+-- the selected candidates, and the indexes in `filters` of the filters that match no candidate.
 abbrev pub selection_of : List Filter → List Candidate → CaseSelection
 selection_of filters found = record {
   cases = selected_cases filters found;

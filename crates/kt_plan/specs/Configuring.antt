@@ -98,8 +98,8 @@ abbrev pub filters_of : List (List ℕ) → Result (List Filter) SelectionError
 filters_of words = results_of_each filter_of words
 
 -- `IsFirstOverlap words filters word fault`: `words` are the arguments of the filters `filters`.
--- The filter of the argument `word` is the first that matches a case of an earlier filter, and
--- `fault` is its error.
+-- The filter of the argument `word` is the first that may match the same case as an earlier filter,
+-- and `fault` is its error.
 pub record IsFirstOverlap (words : List (List ℕ)) (filters : List Filter) (word : List ℕ) (fault : FilterFault) : Type 0 where
   pub position : ℕ
   pub at : overlap_fault filters position ≡ Some fault
@@ -111,8 +111,8 @@ abbrev pub names_one_case : List Filter → Bool
 names_one_case (filter ∷ []) = is_some filter.case_name
 names_one_case filters = false
 
--- `is_case_missing rule filters`: `rule` requires exactly one filter that names a test case, but the list
--- `filters` does not consist of one.
+-- `is_case_missing rule filters`: `rule` requires a single filter that names a test case, and
+-- `filters` has no filter, more than one filter, or a filter that names no test case.
 abbrev pub is_case_missing : FilterRule → List Filter → Bool
 is_case_missing AnyFilters filters = false
 is_case_missing OneCase filters = not (names_one_case filters)

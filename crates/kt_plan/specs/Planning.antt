@@ -56,9 +56,10 @@ abbrev pub finds : Need → List ℕ → Reply → Bool
 finds need word (Finds other_need other answer) = is_same_need other_need other need word && answer
 finds need word other = false
 
--- `Surveys candidates answers host`: the host `host` has the results of the calls `answers`. These
--- calls check for root, memory, disk space, and the files and programs that the cases `candidates`
--- require. A file or program exists if a call found it.
+-- `Surveys candidates answers host`: `host` has the properties of the host, by the results of the
+-- calls `answers`. These calls read whether the user is root, the memory and the disk space. They
+-- then check for the files and programs that the cases `candidates` require. A file or program
+-- exists if a call found it.
 pub record Surveys (candidates : List Candidate) (answers : List Reply) (host : Host) : Type 0 where
   pub looked : List Reply
   pub asked : answers ≡ IsRoot host.root ∷ HasMemory host.memory ∷ HasDisk host.disk ∷ looked
@@ -66,8 +67,8 @@ pub record Surveys (candidates : List Candidate) (answers : List Reply) (host : 
   pub found : (need : Need) (word : List ℕ) → is_found need host word ≡ list_any (finds need word) looked
 
 -- `IsSurveyPrefix candidates answers`: `answers` may be the calls to the host before an allocation
--- failed. They check for root, memory and disk space, and then for the first files and programs
--- that the cases `candidates` require.
+-- failed. They read whether the user is root, the memory and the disk space, and then check for the
+-- first files and programs that the cases `candidates` require.
 pub record IsSurveyPrefix (candidates : List Candidate) (answers : List Reply) : Type 0 where
   pub root : Bool
   pub memory : Option ℕ

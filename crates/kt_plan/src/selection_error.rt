@@ -21,9 +21,11 @@ pub enum SelectionError {
     /// An argument of `-v` has an error. The text is the name of the variable, or the whole
     /// argument if it lacks a `=`.
     Variable(Text, ConfigFault),
-    /// A filter has an error, or matches a case of an earlier filter. The text is its argument.
+    /// An argument is not a filter, or may match the same case as an earlier filter. The text is
+    /// the argument.
     Filter(Text, FilterFault),
-    /// The command is `debug`, and there is not exactly one filter that names a case.
+    /// The command is `debug`, and there is no filter, more than one filter, or a filter that names
+    /// no case.
     NeedsCase,
     /// A Kyuafile has an error.
     Tree(SuiteFault),

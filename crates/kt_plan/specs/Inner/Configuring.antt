@@ -50,16 +50,16 @@ abbrev pub config_or_error : Values → Option SelectionError → Result Values 
 config_or_error config None = Ok config
 config_or_error config (Some fault) = Err fault
 
--- `position_in fault`: the position of the filter that the error `fault` is about. It is 0 if
--- `fault` has no position.
+-- `position_in fault`: the index, in the list of filters, of the filter that the error `fault` is
+-- about. It is 0 if `fault` has no index.
 abbrev pub position_in : FilterFault → ℕ
 position_in (Repeated position) = position
 position_in (NotDisjoint position) = position
 position_in other = 0
 
 -- `FindsOverlap words filters found`: `found` is the error of the first filter in `filters` that
--- matches a case of an earlier filter. It is `None` if there is no such filter. `words` are the
--- arguments of the filters.
+-- may match the same case as an earlier filter. It is `None` if there is no such filter. `words`
+-- are the arguments of the filters.
 pub data FindsOverlap (words : List (List ℕ)) (filters : List Filter) : Option SelectionError → Type 0 where
   apart : IsDisjoint filters → FindsOverlap words filters None
   shared : (word : List ℕ) (fault : FilterFault) → IsFirstOverlap words filters word fault → FindsOverlap words filters (Some (stop.Filter word fault))

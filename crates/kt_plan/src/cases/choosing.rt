@@ -7,8 +7,9 @@ use kt_base::{Items, NoMemory};
 use kt_suite::{Filter, Item, SelectFault, select};
 use std::alloc::Global;
 
-/// Creates an item for each of `candidates`, with copies of the program's path and the case's name.
-/// Filters match items.
+/// Creates an item for each of `candidates`, in order, for the selection by filters.
+///
+/// An item has copies of the path of the candidate's program and of the name of its case.
 fn create_items(alloc: Global, candidates: &[Candidate]) -> Result<Vec<Item>, NoMemory>
     ensures { IfOk result (λ items. items.items ≡ map item_of candidates.now) }
 {
@@ -23,8 +24,9 @@ fn create_items(alloc: Global, candidates: &[Candidate]) -> Result<Vec<Item>, No
 
 /// Appends `candidate` to `cases` if the candidate is selected.
 ///
-/// `place` is the index of the candidate, and `places` are the indexes of the selected candidates
-/// from that index on. Returns the indexes of those after the candidate.
+/// `place` is the index of the candidate in the list of all candidates. `places` are the ascending
+/// indexes of the selected candidates, without those before `place`. Returns `places` without
+/// `place`.
 fn push_if_selected<'a>(
     cases: &mut Items<Candidate>,
     candidate: Candidate,

@@ -85,10 +85,10 @@ fn tree_error(fault: SuiteFault) -> SelectionError
 /// Reads `kyuafile` and its includes, lists the cases of each ATF program that the filters do not
 /// exclude, and applies the filters to all cases.
 ///
-/// All Kyuafiles are read first, so no program starts if a Kyuafile has an error. A list that can't
-/// be used gives one case, which will be reported as broken, so the other programs are still
-/// tested. The limit of 100,000 cases applies before the filters, and is checked after the last
-/// list.
+/// All Kyuafiles are read first, so no program starts if a Kyuafile has an error. If a list can't
+/// be used, one case represents the list and will be reported as broken, so the other programs are
+/// still tested. At most 100,000 cases may be listed. This limit is checked after the last list,
+/// before the filters select cases.
 ///
 /// # Errors
 ///
@@ -126,8 +126,9 @@ pub fn load_and_select<W: World>(
 /// - `UnreadableConfiguration`: the configuration file can't be read.
 /// - `Configuration`: the configuration file has an error.
 /// - `Variable`: an argument of `-v` has an error.
-/// - `Filter`: an argument is not a filter, or two filters match the same case.
-/// - `NeedsCase`: `rule` is `OneCase`, and there is not exactly one filter that names a case.
+/// - `Filter`: an argument is not a filter, or two filters may match the same case.
+/// - `NeedsCase`: `rule` is `OneCase`, and there is no filter, more than one filter, or a filter
+///   that names no case.
 /// - `Tree`: a Kyuafile has an error.
 /// - `TooManyCases`: there are more than 100,000 cases to select from.
 ///

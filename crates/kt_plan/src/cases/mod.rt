@@ -16,8 +16,8 @@ pub struct Candidate {
     pub path: Text,
     /// The name of the program's test suite.
     pub suite: Text,
-    /// The name of the case, and its properties with those of its program. If a program's list of
-    /// cases has an error, one candidate represents that list.
+    /// The name of the case, and its properties with those of its program. If the program's list of
+    /// cases has an error, one candidate represents the list, and this field has the error.
     pub case: CaseDef,
 }
 
@@ -38,7 +38,8 @@ impl Drop for Candidate {
 pub struct CaseSelection {
     /// The selected cases, in the order of their programs and of the cases of each program.
     pub cases: Items<Candidate>,
-    /// The positions of the filters that match no case, counted from 0, in ascending order.
+    /// The indexes of the filters that match no case, in the command's list of filters. They are
+    /// ascending.
     pub unmatched: Items<usize>,
 }
 

@@ -11,7 +11,7 @@ use std::alloc::Global;
 
 /// Lists the cases of the ATF program `program` by running it with the variables of its suite.
 ///
-/// If the list can't be used, returns one case that represents the list.
+/// If the list can't be used, returns one case that represents the list and has the error.
 fn list_atf_cases<W: World>(
     alloc: Global,
     config: &Config,
@@ -32,8 +32,8 @@ fn list_atf_cases<W: World>(
 
 /// Returns the cases of the program `program`. An ATF program is run, so that it lists its cases.
 ///
-/// If no filter may match a case of an ATF program, the program is not run, and no cases are
-/// returned.
+/// If there are filters, and none may match a case of an ATF program, the program is not run, and
+/// no cases are returned.
 fn list_program_cases<W: World>(
     alloc: Global,
     settings: &Settings,
@@ -84,9 +84,10 @@ fn add_candidates(
     Ok(())
 }
 
-/// Returns the cases of all programs in `programs`, in the order of the programs.
+/// Returns the cases of the programs `programs`, in the order of the programs.
 ///
-/// An ATF program is run for its list, while no other program is running.
+/// An ATF program is run for its list, while no other program is running. If there are filters, and
+/// none may match a case of an ATF program, the program is not run, and its cases are not returned.
 ///
 /// # Errors
 ///

@@ -41,8 +41,8 @@ fn parse_filters(
     Ok(Ok(filters))
 }
 
-/// Returns the position of the filter that `fault` is about, counted from 0. Returns 0 if `fault`
-/// has no position.
+/// Returns the index, in the list of filters, of the filter that `fault` is about. Returns 0 if
+/// `fault` has no index.
 fn position_of(fault: FilterFault) -> usize
     ensures { result ≡ position_in fault }
 {
@@ -52,8 +52,8 @@ fn position_of(fault: FilterFault) -> usize
     }
 }
 
-/// Returns the error of the first of `filters` that matches a case of an earlier filter. Returns
-/// `None` if there is no such filter.
+/// Returns the error of the first of `filters` that may match the same case as an earlier filter.
+/// Returns `None` if there is no such filter.
 ///
 /// `words` are the arguments from which `filters` were parsed.
 fn find_overlap(words: &[Text], filters: &[Filter]) -> Result<Option<SelectionError>, NoMemory>
@@ -79,7 +79,8 @@ fn names_one_case(filters: &[Filter]) -> bool
     }
 }
 
-/// Returns `true` if `rule` requires one filter that names a case, but `filters` isn't one.
+/// Returns `true` if `rule` requires a single filter that names a case, and `filters` has no
+/// filter, more than one filter, or a filter that names no case.
 fn is_case_missing(rule: FilterRule, filters: &[Filter]) -> bool
     ensures { result ≡ is_case_missing rule filters.now }
 {
@@ -98,8 +99,9 @@ fn is_case_missing(rule: FilterRule, filters: &[Filter]) -> bool
 /// The first error is returned, in this order:
 ///
 /// - `Filter`: an argument is not a filter.
-/// - `Filter`: a filter matches a case of an earlier filter.
-/// - `NeedsCase`: `rule` is `OneCase`, and there is not exactly one filter that names a case.
+/// - `Filter`: a filter may match the same case as an earlier filter.
+/// - `NeedsCase`: `rule` is `OneCase`, and there is no filter, more than one filter, or a filter
+///   that names no case.
 ///
 /// At any step:
 ///

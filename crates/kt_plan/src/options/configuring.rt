@@ -161,8 +161,9 @@ fn configure<W: World>(
 /// - `UnreadableConfiguration`: the configuration file can't be read.
 /// - `Configuration`: the configuration file has an error.
 /// - `Variable`: an argument of `-v` has an error.
-/// - `Filter`: an argument is not a filter, or two filters match the same case.
-/// - `NeedsCase`: `rule` is `OneCase`, and there is not exactly one filter that names a case.
+/// - `Filter`: an argument is not a filter, or two filters may match the same case.
+/// - `NeedsCase`: `rule` is `OneCase`, and there is no filter, more than one filter, or a filter
+///   that names no case.
 ///
 /// At any step:
 ///

@@ -12,6 +12,6 @@ use kt_suite::Filter;
 pub struct Settings {
     /// The configuration, from the configuration file and the arguments of `-v`.
     pub config: Config,
-    /// The filters in the order of their arguments. No two filters match the same case.
+    /// The filters in the order of their arguments. No two filters can match the same case.
     pub filters: Items<Filter>,
 }

@@ -128,7 +128,7 @@ fn plan_job(
     build_job(position, candidate, vars, &meta, decided)
 }
 
-/// Creates the plan of the cases `cases`: one job for each case, in order. There are at most
+/// Creates the plan of the cases `cases`: one job for each case, in order. There must be at most
 /// 100,000 cases.
 ///
 /// A case is broken, and is not started, if the list of its program has an error. Otherwise, a case
@@ -162,7 +162,7 @@ pub fn make_plan(
 }
 
 /// Reads the properties of the host that the cases `cases` may require, and creates the plan of the
-/// cases. The plan has one job for each case, in order. There are at most 100,000 cases.
+/// cases. The plan has one job for each case, in order. There must be at most 100,000 cases.
 ///
 /// A case is broken, and is not started, if the list of its program has an error. Otherwise, a case
 /// with an unmet requirement is skipped.
