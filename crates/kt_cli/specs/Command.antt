@@ -1,6 +1,6 @@
--- The meaning of a command: what it prints, its exit status and what it stores, by the results of
--- its calls. `seen` are these calls (`CommandCalls`), and each definition here is a table: a row is
--- one way in which the command can end.
+-- The meaning of a command: its output, its exit status and its effect on the stored runs, by the
+-- results of its calls. `RunResult` and `Means` are tables: a row is one way in which the command
+-- can end.
 use Rattle.std.specs.Prelude.{ℕ, Bool, List, [], ◌∷◌, ◌++◌, ◌≡◌, Some, Ok, Err}
 use Rattle.kt_cli.specs.Types.{Candidate, CaseOptions, Command, CommandSelection, Entry, Finished, Kind, NoEvent, Now, Put, SelectionError, StoreCall, StoreFault, Trace, cases_of, filter_rule_of, utf8}
 use Rattle.kt_store.specs.declared.result_store.StoreSpec as keeping
@@ -26,9 +26,10 @@ use Rattle.kt_cli.specs.Warnings.{warnings}
 -- ---- one run
 
 -- `RunResult planned T calls bytes exit`: `test` executes the run `planned`, whose children have the
--- trace `T`, by the calls `calls` of the store. It begins the run, puts each entry and finishes the
--- run. `bytes` are the entries' lines, then the totals and warnings. The first call that fails is the
--- last one, and its error line follows the lines of the entries that were put.
+-- trace `T`, with the calls `calls` to the store. It begins the run, puts each entry and finishes
+-- the run. `bytes` is its output: the entries' lines, then the totals and warnings. `exit` is its
+-- exit status. The first call that fails is the last one, and its error line follows the lines of
+-- the entries that were put.
 pub data RunResult (planned : PlannedRun) (T : Trace) : List StoreCall → List ℕ → ℕ → Type 0 where
   recorded : (number : ℕ) (entries : List Entry) → AllRecorded planned.plan planned.width T entries
       → RunResult planned T (begin_call planned (Ok number) ∷ (puts number entries ++ Finished number (Ok tt) ∷ [])) (results entries planned.words planned.unmatched) (results_exit entries planned.unmatched)
@@ -68,7 +69,7 @@ pub data Means (seen : CommandCalls) (failed : Bool) : Command → List ℕ → 
       → Means seen failed (command.ReportJunit options) bytes exit
 
 module _ {W R : Type 0} (w : World W) (r : keeping.Ghosts R) where
-  -- `CommandResult w r c old new exit`: `execute` ran the command `c` from scene `old` to `new`
+  -- `CommandResult w r c old new exit`: `execute` ran the command `c` from state `old` to `new`
   -- with the exit status `exit`. `course` are its calls of the world, in order. `stored` states the
   -- effect of its calls on the runs, and no other field depends on what the store contains. `bytes`
   -- were printed: if a write failed, a proper prefix of them, and `exit` is 2. `w` has the relations
@@ -84,8 +85,8 @@ module _ {W R : Type 0} (w : World W) (r : keeping.Ghosts R) where
 
   -- ---- commands in order
 
-  -- `ExecutesAllCommands w r commands old new exits`: `commands` were executed in order, from scene
-  -- `old` to `new`, each in the scene that the command before it left. `exits` are their exit
+  -- `ExecutesAllCommands w r commands old new exits`: `commands` were executed in order, from state
+  -- `old` to `new`, each in the state that the command before it left. `exits` are their exit
   -- statuses. `w` has the relations of the world, and `r` is the specification of the store.
   pub data ExecutesAllCommands : List Command → CommandState W R → CommandState W R → List Exit → Type 0 where
     none_left : (here : CommandState W R) → ExecutesAllCommands [] here here []

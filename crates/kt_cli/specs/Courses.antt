@@ -48,8 +48,8 @@ pub record IsPrepared (rule : FilterRule) (options : CaseOptions) (seen : Comman
   pub asked : seen.questions ≡ before ++ (host_calls answers ++ host_calls last)
   pub planned : ArePlanned picked.settings.config host 0 cases seen.plan
 
--- `taken rule cases`: those of the selected `cases` that a command runs, which accepts filters by
--- `rule`: the first for `debug`, else all.
+-- `taken rule cases`: the cases that a command runs, out of the selected cases `cases`: only the
+-- first case if `rule` is `OneCase`, the filter rule of `debug`, and otherwise all cases.
 abbrev pub taken : FilterRule → List Candidate → List Candidate
 taken AnyFilters cases = cases
 taken OneCase cases = take 1 cases

@@ -7,7 +7,7 @@ use Rattle.kt_cli.specs.Testing.{all_matched}
 use Rattle.kt_cli.specs.Warnings.{warnings}
 
 -- `listing words chosen`: the output of `list`: a line for each case of the selection `chosen`, and
--- a warning for each of the filters `words` that selects none.
+-- a warning for each of the filters `words` that selects no case.
 abbrev pub listing : List (List ℕ) → CaseSelection → List ℕ
 listing words chosen = utf8 (flat_map case_line chosen.cases) ++ utf8 (warnings words chosen.unmatched)
 

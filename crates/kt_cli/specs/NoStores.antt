@@ -9,12 +9,12 @@ use Rattle.kt_store.specs.Runs.{AreOrdered}
 abbrev pub AnswersNothing : Unit {0} → StoreCall → Unit {0} → Type 0
 AnswersNothing s call t = Unit {0}
 
--- `HasNoRuns s runs`: the store `s` represents `runs`: there are none.
+-- `HasNoRuns s runs`: the store `s` represents the list `runs`, which is empty.
 abbrev pub HasNoRuns : Unit {0} → List Run → Type 0
 HasNoRuns s runs = (runs ≡ []) × AreNumbered 1 runs × AreOrdered runs
 
--- `IsNeverSound s`: the store `s` is sound. The predicate never holds: no run can be begun, although
--- there is none.
+-- `IsNeverSound s`: the store `s` is sound. The predicate never holds: a sound store without runs
+-- can begin a run, and this store can't.
 abbrev pub IsNeverSound : Unit {0} → Type 0
 IsNeverSound s = ⊥
 

@@ -84,8 +84,8 @@ module _ {M O : Type 0} (o : system.Ghosts O) (before : HostHandles M O) where
 
 module _ {M O : Type 0} (o : system.Ghosts O) (before : HostHandles M O) (around : ProcessEnv) (options : CaseOptions) where
   -- `IsFirstWorld o before around options world`: `world` is that in which a command with `options`
-  -- starts, in the process environment `around`. It has the machine of `before`, the directory of
-  -- the Kyuafile, and a new driver. `o` has the relations of the system.
+  -- starts, in the process environment `around`. It has the machine of the handles `before` of the
+  -- host, the directory of the Kyuafile, and a new driver. `o` has the relations of the system.
   pub record IsFirstWorld (world : HostWorld M O) : Type 0 where
     pub machine : world.machine ≡ before.machine
     pub made : IsNewDriver o before.os around.here options.work options.kyuafile world.driver
@@ -97,7 +97,7 @@ abbrev pub no_world : World (Unit {0})
 no_world = record { running = λ w k role. None; pending = λ w k. false; starts = λ w job role answer v. ⊥; waits = λ w ended v. ⊥; asks = λ w asked v. ⊥; replies = λ w answer v. ⊥ }
 
 module _ {M O P S R : Type 0} (p : Program M O P S) (r : keeping.Ghosts R) where
-  -- `ExecutesOnHost p r c old new exit`: from scene `old` to `new`, the command `c` was executed
+  -- `ExecutesOnHost p r c old new exit`: from state `old` to `new`, the command `c` was executed
   -- over a store with the specification `r`, and its exit status is `exit`. A report uses only the
   -- store (`needs_nothing`). A command over test cases reads the working directory and the
   -- environment of the process. It uses the files below its Kyuafile's directory, and a new driver,
@@ -119,9 +119,9 @@ module _ {M O P S R : Type 0} (p : Program M O P S) (r : keeping.Ghosts R) where
         → FailsToCreateDriver p.system old.world.outside options.work fault new.world.outside → new.store ≡ old.store → Printed old.held new.held exit (utf8 (driver_line fault)) failure_exit
         → ExecutesOnHost c old new exit
 
--- `FlushesOutput held now due exit`: a flush of standard output, which had been given `held`, led
--- to the state `now`. If all bytes were written, `exit` is `due`. If some bytes are unwritten, or
--- the flush failed, `exit` is 2.
+-- `FlushesOutput held now due exit`: a flush of standard output, which had been given the bytes
+-- `held`, led to the state `now`. If all bytes were written, `exit` is `due`. If some bytes are
+-- unwritten, or the flush failed, `exit` is 2.
 pub record FlushesOutput (held : Option (List ℕ)) (now : LineState) (due exit : ℕ) : Type 0 where
   pub kept : Keeps held now.given
   pub failed : Bool
@@ -155,7 +155,7 @@ abbrev pub access_of : Command → Access
 access_of c = if adds_run c then Record else Read
 
 module _ {M O P S : Type 0} (p : Program M O P S) where
-  -- `ExecutesInFile p c old new exit file`: from scene `old` to `new`, the command `c` was executed with
+  -- `ExecutesInFile p c old new exit file`: from state `old` to `new`, the command `c` was executed with
   -- the exit status `exit`. `file` is its results file, which was opened first and closed once
   -- (`closed`). If the open failed, an error line was printed, and nothing else was called
   -- (`not_opened`). A command without a results file was executed over a store without runs,
@@ -169,11 +169,11 @@ module _ {M O P S : Type 0} (p : Program M O P S) where
         → ExecutesOnHost p p.results c (command_state (state begun old.world.outside) store old.held) (command_state (state done new.world.outside) after held) due
         → p.platform.provides done (Closed after answer) new.world.platform → ClosesResults answer held new.held due exit → ExecutesInFile c old new exit (Some file)
 
-  -- `RunsArguments p command old new was now exit`: `command`, the parse of the arguments, was
-  -- executed from state `old` to `new`, and then its output was flushed. Or its fault was printed,
-  -- and nothing was called. `was` and `now` are the streams before and after, and `exit` is the exit
-  -- status: that of the command (`due`), or 2 if its output (`held`) could not be written. `p` has
-  -- the relations of the program.
+  -- `RunsArguments p command old new was now exit`: `command`, the result of parsing the arguments,
+  -- was executed from state `old` to `new`, and then its output was flushed. If `command` is a
+  -- fault, the fault was printed, and nothing was called. `was` and `now` are the streams before
+  -- and after. `exit` is the exit status: that of the command (`due`), or 2 if its output (`held`)
+  -- could not be written. `p` has the relations of the program.
   abbrev pub RunsArguments : Result Command CommandFault → State M O P → State M O P → Streams → Streams → ℕ → Type 0
   RunsArguments (Ok c) old new was now exit =
       (held : Option (List ℕ)) × (due : ℕ) × ExecutesInFile c (command_state old tt was.out.given) (command_state new tt held) due (results_of c) × FlushesOutput held now.out due exit × (now.errors ≡ was.errors)

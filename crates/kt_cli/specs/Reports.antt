@@ -15,9 +15,9 @@ no_runs_line = codes "kyua: E: no runs\n"
 abbrev pub no_run_line : ℕ → List ℕ
 no_run_line number = codes "kyua: E: no run " ++ decimal number ++ codes "\n"
 
--- `RunIsNotShown number calls line`: by `calls`, there is no run `number`, or no last run if `number`
--- is `None`, or a call failed. `line` is the error line. If there is no run with the number, the
--- last run's head is read too.
+-- `RunIsNotShown number calls line`: by the results of the store calls `calls`, there is no run
+-- `number`, or no last run if `number` is `None`, or a call failed. `line` is the error line of the
+-- report. If there is no run `number`, the last run's head is read too.
 pub data RunIsNotShown : Option ℕ → List StoreCall → List ℕ → Type 0 where
   no_last_run : RunIsNotShown None (Head None (Ok None) ∷ []) no_runs_line
   none_at_all : (number : ℕ) → RunIsNotShown (Some number) (Head (Some number) (Ok None) ∷ Head None (Ok None) ∷ []) no_runs_line
@@ -49,10 +49,12 @@ DifferInOutputs xs ys = map without_outputs xs ≡ map without_outputs ys
 abbrev pub asked_outputs : ℕ → List Entry → List StoreCall
 asked_outputs number entries = map (λ (e : Entry). Outputs number e.position (Ok (outputs_of e))) entries
 
--- `ReportCompletes number kinds failed verbose calls bytes exit`: the output of `report`, with the calls of
--- the store. No outputs are read. Properties are read only for `verbose`, each entry's before its
--- line is written. If a call for properties fails, its error line follows the entries before and the
--- title. If a write failed (`failed`), no further properties are read.
+-- `ReportCompletes number kinds failed verbose calls bytes exit`: by the store calls `calls`,
+-- `report` prints `bytes` and has the exit status `exit`. It shows run `number`, or the last run if
+-- `number` is `None`, with the entries whose verdicts are of the kinds `kinds`. No outputs are
+-- read. Properties are read only if `verbose` is true, those of an entry before its line is
+-- written. If a call for properties fails, its error line follows the lines of the entries before,
+-- and the title if a section begins. If a write failed (`failed`), no further properties are read.
 pub data ReportCompletes (number : Option ℕ) (kinds : List Kind) (failed : Bool) : Bool → List StoreCall → List ℕ → ℕ → Type 0 where
   run_shown : (head : RunHead) (outline : List Entry) (date : Date) → IsNumbered number head → IsDateOf head.started date
       → ReportCompletes number kinds failed false (Head number (Ok (Some head)) ∷ Outline head.number (Ok outline) ∷ []) (text_bytes date kinds false (run_of head outline)) 0
@@ -72,10 +74,11 @@ pub data ReportCompletes (number : Option ℕ) (kinds : List Kind) (failed : Boo
       → ReportCompletes number kinds failed true (Head number (Ok (Some head)) ∷ Outline head.number (Ok outline) ∷ asked_pairs head.number shown)
       (bytes_up_to (text_layout date true (run_of head outline)) shown rest) 2
 
--- `JunitCompletes number failed calls bytes exit`: the output of `report-junit`, with the calls of the
--- store. The outputs of each entry are read, but no properties. If a call for outputs fails, its
--- error line follows the cases before. If an allocation fails, a proper prefix of the report was
--- written. If a write failed (`failed`), no further outputs are read.
+-- `JunitCompletes number failed calls bytes exit`: by the store calls `calls`, `report-junit`
+-- prints `bytes` and has the exit status `exit`. It shows run `number`, or the last run if `number`
+-- is `None`. The outputs of each entry are read, but no properties. If a call for outputs fails,
+-- its error line follows the cases before. If an allocation fails, the out-of-memory line follows a
+-- proper prefix of the report. If a write failed (`failed`), no further outputs are read.
 pub data JunitCompletes (number : Option ℕ) (failed : Bool) : List StoreCall → List ℕ → ℕ → Type 0 where
   run_shown : (head : RunHead) (outline shown : List Entry) → IsNumbered number head → DifferInOutputs shown outline
       → JunitCompletes number failed (Head number (Ok (Some head)) ∷ Outline head.number (Ok outline) ∷ asked_outputs head.number shown) (junit_bytes (run_of head shown)) 0

@@ -19,9 +19,9 @@ abbrev pub puts : ℕ → List Entry → List StoreCall
 puts number [] = []
 puts number (e ∷ es) = Put number e (Ok tt) ∷ puts number es
 
--- `crash_runs_after call runs may`: the lists of runs, other than the current one, that a crash may
--- leave after `call` on a store with `runs`. `may` are those that a crash might leave before the
--- call.
+-- `crash_runs_after call runs may`: the lists of runs that a crash may leave after `call` on a
+-- store with `runs`, other than the runs that the store then represents. `may` are the lists that a
+-- crash might leave before the call, other than `runs`.
 abbrev pub crash_runs_after : StoreCall → List Run → List (List Run) → List (List Run)
 crash_runs_after (Began total moment (Ok number)) runs may = []
 crash_runs_after (Began total moment (Err fault)) runs may = (runs ++ new_run runs total moment ∷ []) ∷ may
@@ -41,8 +41,9 @@ abbrev pub runs_after_calls : List StoreCall → List Run → List Run
 runs_after_calls [] runs = runs
 runs_after_calls (call ∷ calls) runs = runs_after_calls calls (runs_after call runs)
 
--- `crash_runs_after_calls calls runs may`: the lists of runs, other than the current one, that a crash may leave
--- after `calls` on a store with `runs`. `may` are those that a crash might leave before the calls.
+-- `crash_runs_after_calls calls runs may`: the lists of runs that a crash may leave after `calls`
+-- on a store with `runs`, other than the runs that the store then represents. `may` are the lists
+-- that a crash might leave before the calls, other than `runs`.
 abbrev pub crash_runs_after_calls : List StoreCall → List Run → List (List Run) → List (List Run)
 crash_runs_after_calls [] runs may = may
 crash_runs_after_calls (call ∷ calls) runs may = crash_runs_after_calls calls (runs_after call runs) (crash_runs_after call runs may)

@@ -119,11 +119,12 @@ pub fn print_store_fault<O: Write>(fault: StoreFault, out: &mut O) -> Exit
     ended(write_store_error(fault, out), FAILURE)
 }
 
-/// Prints the fault of a failed close of the results file, and returns the command's exit status.
+/// Prints an error line if the close of the results file failed, and returns the exit status of the
+/// command.
 ///
-/// `exit` is how the command ended, and `closed` is the result of the close. The status is 2 if the
-/// close failed, otherwise that of `exit`. Nothing is printed if the status of `exit` is already 2.
-/// After a failed close, the runs are in the file and its log.
+/// `exit` is the exit status before the close, and `closed` is the result of the close. The result
+/// is 2 if the close failed, and otherwise `exit`. Nothing is printed if `exit` is already 2. After
+/// a failed close, the runs are in the file and its log.
 pub fn print_close_fault<O: Write>(exit: Exit, closed: Result<(), StoreFault>, out: &mut O) -> Exit
     ensures { ClosesResults closed (O.contents out.old) (O.contents out.new) exit.status
         result.status }
@@ -145,7 +146,7 @@ fn write_command_fault<O: Write>(fault: &CommandFault, out: &mut O) -> Result<()
     }
 }
 
-/// Returns the exit status of rejected arguments: 2 if memory ran out, else 3.
+/// Returns the exit status of a command whose arguments are rejected: 2 if memory ran out, else 3.
 fn status_of(fault: &CommandFault) -> u8
     ensures { result ≡ command_exit fault.now }
 {

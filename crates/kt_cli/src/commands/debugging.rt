@@ -13,7 +13,7 @@ use kt_sched::{Job, Launcher, RunFault, Totals, run_cases};
 use std::alloc::Global;
 use std::io::Write;
 
-/// Executes a plan one case at a time. Prints the output of each case, followed by its line.
+/// Executes a plan one case at a time, and prints the outputs and the result line of each case.
 ///
 /// Returns the totals or the fault of the run, and the result of writing the output.
 fn print_cases<L: Launcher, O: Write>(
@@ -38,7 +38,7 @@ fn print_cases<L: Launcher, O: Write>(
     (answer, printer.written)
 }
 
-/// Executes `debug`: runs the first selected case, and prints its output and its line.
+/// Executes `debug`: runs the first selected case, and prints its outputs and its result line.
 ///
 /// Nothing is recorded. The exit status is 1 if the case failed or is broken, or if no case is
 /// selected. It is 3 if the arguments are wrong, 2 after any other fault, and else 0.

@@ -21,8 +21,8 @@ use std::io::Write;
 /// records entries. After a failed put, `test` only starts pending cleanups.
 ///
 /// The contract derives the calls, the output and the exit status from the results of earlier
-/// calls, even if the store forgets entries. `theorem_of_sound_stores` states which runs a store
-/// has afterwards if it forgets nothing.
+/// calls, even if the store loses entries. `theorem_of_sound_stores` states which runs a store has
+/// afterwards if it loses nothing.
 pub fn execute<W: World, R: ResultStore, O: Write>(
     alloc: Global,
     command: &Command,

@@ -56,7 +56,7 @@ impl<R: ResultStore, O: Write> Sink for Recorder<'_, R, O> {
     }
 }
 
-/// A `Sink` that prints the output of each case and then its line. It stores no entries.
+/// A `Sink` that prints the outputs of each case and then its result line. It stores no entries.
 #[derive(Drop)]
 pub struct Printer<'a, O> {
     /// The writer of the command's output.
@@ -65,8 +65,8 @@ pub struct Printer<'a, O> {
     pub written: Result<(), OutputFault>,
 }
 
-/// Writes the output of a case and then its line. If `written`, the result of the earlier writes,
-/// is an error, writes nothing and returns this error.
+/// Writes the outputs of the body and the cleanup of a case, and then its result line. If
+/// `written`, the result of the earlier writes, is an error, writes nothing and returns this error.
 fn write_entry<O: Write>(
     written: Result<(), OutputFault>,
     entry: &Entry,

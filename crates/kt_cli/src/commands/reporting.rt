@@ -13,8 +13,10 @@ use kt_store::{ResultStore, StoreFault};
 use std::alloc::Global;
 use std::io::Write;
 
-/// Returns the error of a missing run: the store has no runs, or no run `number`. If the store can't
-/// be read, returns the store's error.
+/// Returns the error of a report whose run is missing: run `number`, or the last run if `number` is
+/// `None`.
+///
+/// The error is `NoRuns` if the store has no runs, `Refused` if it can't be read, else `NoRun`.
 fn missing<R: ResultStore>(number: Option<u64>, results: &mut R) -> ReportError
     ensures { IsMissing R.StoreSpec number results.old results.new result }
 {
@@ -66,7 +68,8 @@ fn write_report_error<O: Write>(why: ReportError, out: &mut O) -> Result<(), Out
     }
 }
 
-/// Writes the text report of a run, with the properties of each case.
+/// Writes the text report of a run, with the properties of each case. Only cases with a verdict of
+/// one of `kinds` are listed.
 ///
 /// The properties are read entry by entry, so that they are held for one entry at a time.
 fn write_text<R: ResultStore, O: Write>(
@@ -90,8 +93,9 @@ fn write_text<R: ResultStore, O: Write>(
 
 /// Executes `report`: prints a run as text, and returns the exit status.
 ///
-/// If `verbose` is set, the properties of each case follow its line. The exit status is 0, or 2 if
-/// the run is missing, or can't be read or written.
+/// Shows run `number`, or the last run if `number` is `None`. Only cases with a verdict of one of
+/// `kinds` are listed. If `verbose` is set, the properties of each case follow its line. The exit
+/// status is 0, or 2 if the run is missing, or can't be read or written.
 pub fn report<R: ResultStore, O: Write>(
     number: Option<u64>,
     kinds: &[Kind],
@@ -139,7 +143,8 @@ fn write_junit<R: ResultStore, O: Write>(
 
 /// Executes `report-junit`: prints a run as a JUnit report, and returns the exit status.
 ///
-/// The exit status is 0, or 2 if the run is missing, can't be read or written, or memory runs out.
+/// Shows run `number`, or the last run if `number` is `None`. The exit status is 0, or 2 if the run
+/// is missing, if it can't be read or written, or if memory runs out.
 pub fn report_junit<R: ResultStore, O: Write>(
     alloc: Global,
     number: Option<u64>,

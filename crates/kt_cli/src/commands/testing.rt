@@ -25,7 +25,7 @@ struct NumberedPlan {
     number: u64,
 }
 
-/// Executes a plan. Puts each entry into the plan's run, and then prints the entry's line.
+/// Executes a plan, puts each entry into the plan's run, and then prints the entry's line.
 ///
 /// Returns the totals or the fault of the run, and the result of writing the lines.
 fn record_cases<L: Launcher, R: ResultStore, O: Write>(
@@ -166,6 +166,9 @@ fn run_plan<L: Launcher, R: ResultStore, O: Write>(
 
 /// Executes `test`: runs the selected cases, records them in a new run, and returns the exit
 /// status.
+///
+/// The exit status is 0 if no case failed or is broken and every filter selects a case, else 1. It
+/// is 3 if the arguments are wrong, and 2 after any other fault.
 ///
 /// `results` is the open results file. `file` is its path, and only the contract uses it.
 pub fn test<W: World, R: ResultStore, O: Write>(

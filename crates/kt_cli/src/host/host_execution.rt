@@ -56,13 +56,15 @@ fn create_driver<O: Os + Drop>(
     }
 }
 
-/// Creates the world in which a command over test cases starts, with a new driver.
+/// Creates the world that `list`, `test` or `debug` gets at its start, with a new driver.
 ///
 /// The driver has its own root directory for work directories, which the caller must remove.
+/// `around` has the working directory and the environment of the process.
 ///
 /// # Errors
 ///
-/// The driver can't be created. `outside` is returned with the error, in its state after the calls.
+/// The driver can't be created. `outside`, the handles of the host, is returned with the error, in
+/// its state after the calls.
 ///
 /// - `NoWorkDirectory`: `options.work` is not absolute, or no root directory can be created in it.
 /// - `NoMemory`: an allocation fails.

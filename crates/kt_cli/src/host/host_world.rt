@@ -120,7 +120,8 @@ impl<M: HostFiles + Drop, O: Os + Drop> World for HostWorld<M, O> {
         (call_keeps_children M.answers O.leads s t q h) };
 }
 
-/// Returns the fault of a read for the tree or the configuration, for `fault` of the host's files.
+/// Converts `fault`, a fault of the host's files, to the fault that a world returns for the read of
+/// a Kyuafile or the configuration file.
 fn read_fault(fault: FileFault) -> ReadFault
     ensures { file_fault result ≡ fault }
 {

@@ -19,8 +19,8 @@ use std::io::Write;
 /// Executes a command over the open results store `results`, and returns its exit status.
 ///
 /// `list`, `test` and `debug` also get the working directory and the environment of the process,
-/// and a root directory for work directories, which is removed at the end. `outside` is returned in
-/// its state after the command.
+/// and a root directory for work directories, which is removed at the end. `outside` has the
+/// handles of the host, and is returned in its state after the command.
 fn perform_over<M: HostFiles + Drop, O: Os + Drop, P: ResultsHost, S: ResultStore, W: Write>(
     outside: HostHandles<M, O>,
     platform: &mut P,
@@ -75,6 +75,8 @@ fn access_of(command: &Command) -> Access
 
 /// Opens the results file `file`, executes a command over it, and closes the file. Returns the exit
 /// status, which is 2 if the open or the close fails.
+///
+/// `outside` has the handles of the host, and is returned in its state after the command.
 fn perform_in_file<M: HostFiles + Drop, O: Os + Drop, P: ResultsHost, W: Write>(
     outside: HostHandles<M, O>,
     platform: &mut P,
@@ -98,8 +100,8 @@ fn perform_in_file<M: HostFiles + Drop, O: Os + Drop, P: ResultsHost, W: Write>(
     (print_close_fault(exit, closed, out), outside)
 }
 
-/// Prints why the arguments are rejected to `errors`, the standard error, and returns the exit
-/// status.
+/// Prints the message of `fault`, for which the arguments are rejected, to `errors`, the standard
+/// error, and returns the exit status.
 ///
 /// An out-of-memory message is printed to `out`, the standard output, where the messages of
 /// commands are printed.
@@ -121,9 +123,9 @@ fn reject<W: Write, E: Write>(fault: &CommandFault, out: &mut LineOutput<W>, err
 /// Executes a parsed command, or prints the fault of its arguments, and returns the exit status.
 ///
 /// The command uses the files, the clock and the system of `outside`, and the results file that
-/// `platform` opens and closes. `list` and `debug` use no results file, but a store without
-/// runs, and never call it. At the end all output is written. `outside` is returned in its
-/// state after the command.
+/// `platform` opens and closes. `list` and `debug` use no results file: they get a store without
+/// runs, which they never call. At the end all output is written. `outside` has the handles of the
+/// host, and is returned in its state after the command.
 pub fn run_command<M: HostFiles + Drop, O: Os + Drop, P: ResultsHost, W: Write, E: Write>(
     outside: HostHandles<M, O>,
     platform: &mut P,

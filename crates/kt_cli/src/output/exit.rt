@@ -4,14 +4,14 @@ ghost use Rattle.kt_cli.specs.Testing.{exit_of};
 use kt_base::OutputFault;
 use kt_plan::CaseSelection;
 
-/// The exit status of a command that failed.
+/// The exit status of a command after an error, such as a failed read or write (kyua(1)).
 pub const FAILURE: u8 = 2;
 
 /// An exit status of a command (kyua(1)).
 #[derive(Clone, Copy)]
 pub struct Exit {
-    /// 0 for success, 1 if a case is bad or a filter selects no case, 2 if something failed, 3 if
-    /// the arguments are wrong.
+    /// 0 for success, 1 if a case failed or is broken or a filter selects no case, 3 if the
+    /// arguments are wrong, 2 after any other error.
     pub status: u8,
 }
 

@@ -5,7 +5,7 @@ use kt_base::send;
 use std::io::Write;
 use std::marker::Model;
 
-/// The capacity of the buffer, in bytes.
+/// The capacity of a [`FixedBuffer`], in bytes.
 pub const BUFFER_BYTES: usize = 65_536;
 
 /// A buffer of fixed size on the stack.
@@ -58,7 +58,7 @@ impl FixedBuffer {
         self.count = count + more.len();
     }
 
-    /// Writes the buffered bytes, and returns `true` if a write failed.
+    /// Writes the buffered bytes to `out`, and returns `true` if a write failed.
     ///
     /// Bytes that were not written stay, moved to the start of the buffer.
     pub fn write_buffered<W: Write>(&mut self, out: &mut W) -> bool

@@ -21,7 +21,7 @@ pub struct LineOutput<W> {
     held: FixedBuffer,
     /// Whether a complete line is written at once.
     by_line: bool,
-    /// Whether a write has failed.
+    /// Whether a write of the inner writer has failed.
     failed: bool,
     /// The fault of the inner writer's flush, if it failed.
     flush_fault: Option<FlushFault>,
@@ -29,7 +29,7 @@ pub struct LineOutput<W> {
     ghost spare: { failed ≡ false → length held < 65536 },
 }
 
-/// Creates the error that each call returns after a failed call.
+/// Creates the error of a write or a flush of a `LineOutput` whose inner writer has failed.
 fn broken_pipe_error() -> io::Error {
     io::Error::from(ErrorKind::BrokenPipe)
 }
@@ -62,7 +62,7 @@ impl<W: Write> LineOutput<W> {
         self.by_line = by_line;
     }
 
-    /// Returns `true` if a write or a flush has failed.
+    /// Returns `true` if a write or a flush of the inner writer has failed.
     fn is_broken(&self) -> bool
         ensures { result ≡ is_broken self.now }
     {

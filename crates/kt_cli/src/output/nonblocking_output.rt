@@ -26,11 +26,11 @@ pub struct NonblockingOutput<W> {
     held: Backlog,
     /// The maximum number of held bytes in memory.
     most: usize,
-    /// Whether a write has failed.
+    /// Whether a write of the inner writer has failed.
     failed: bool,
 }
 
-/// Creates the error that a write or a flush returns after a failed write.
+/// Creates the error of a write or a flush of a `NonblockingOutput` whose inner writer has failed.
 fn broken_pipe_error() -> io::Error {
     io::Error::from(ErrorKind::BrokenPipe)
 }
@@ -141,7 +141,8 @@ impl<W: NonblockingWriter> NonblockingOutput<W> {
         answer
     }
 
-    /// Holds the bytes `buf` in memory.
+    /// Appends `buf` to the held bytes, and returns the number of bytes of `buf` that were held or
+    /// written.
     ///
     /// If the allocation fails, this writes all held bytes, and then some of `buf`. Fails if one of
     /// these writes fails.

@@ -6,7 +6,7 @@ use std::io::{ErrorKind, Write};
 
 /// A handle of a `NonblockingOutput` that commands and the host share.
 ///
-/// Commands write to it, and the host offers its bytes to the reader while children run.
+/// Commands write to it. While children run, the host offers the held bytes to the reader.
 #[derive(Drop)]
 pub struct SharedOutput<'a, W> {
     /// The output that all handles of it share.

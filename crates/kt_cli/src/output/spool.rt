@@ -7,7 +7,7 @@ use std::rt::Env;
 /// The length of the longest path that the host accepts, in bytes.
 const MAX_PATH_BYTES: usize = 4_095;
 
-/// The directory of a spool if the variable `TMPDIR` has no value.
+/// The directory of a spool if the environment variable `TMPDIR` is unset, empty or too long.
 const DIRECTORY: &[u8] = b"/tmp";
 
 /// The last part of a spool's path. mkstemp(3) replaces its six last characters.
@@ -16,7 +16,7 @@ const NAME: &[u8] = b"/kyua.XXXXXX";
 /// The maximum length of a spool's directory, in bytes.
 const MAX_DIRECTORY_BYTES: usize = MAX_PATH_BYTES - NAME.len();
 
-/// The maximum number of bytes that are read at once.
+/// The maximum number of bytes that one read of a spool returns.
 const BLOCK_BYTES: usize = 65_536;
 
 /// A file without a name that stores bytes until they are written to standard output, in order.
@@ -26,7 +26,7 @@ const BLOCK_BYTES: usize = 65_536;
 pub struct Spool {
     /// The descriptor of the file.
     fd: i32,
-    /// The offset of the first byte that is not written yet.
+    /// The offset in the file, in bytes, of the first byte that is not written yet.
     start: u64,
     /// The number of bytes that are not written yet.
     left: u64,
@@ -63,8 +63,8 @@ fn write_template<R: Env>(rt: &R, path: &mut [u8; MAX_PATH_BYTES]) -> usize
 }
 
 impl Spool {
-    /// Creates an empty file in the directory that the variable `TMPDIR` names, or in `/tmp` if it
-    /// has no value. The file's name is removed at once.
+    /// Creates an empty file in the directory that the environment variable `TMPDIR` names, or in
+    /// `/tmp` if the variable is unset, empty or too long. The file's name is removed at once.
     ///
     /// # Errors
     ///

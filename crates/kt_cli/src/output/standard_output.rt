@@ -12,7 +12,7 @@ use std::{fs, io};
 /// The minimum number of bytes that a writable pipe takes (limits.h, `PIPE_BUF`).
 const PIPE_BUF: usize = 4_096;
 
-/// The path of standard output, as Linux gives it.
+/// The path by which a process can open its standard output on Linux (proc(5)).
 const PATH: &str = "/proc/self/fd/1";
 
 /// A handle of the standard output of the process.
@@ -32,7 +32,7 @@ pub struct StandardOutput<'a, R> {
     spool: Option<Spool>,
 }
 
-/// Returns `true` if a write to standard output returns at once, or if the poll fails.
+/// Returns `true` if standard output can take bytes now, or if the poll fails.
 fn is_ready() -> bool {
     let mut asked = [pollfd {
         fd: libc::STDOUT_FILENO,
