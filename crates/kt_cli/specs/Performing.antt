@@ -155,8 +155,8 @@ abbrev pub access_of : Command → Access
 access_of c = if adds_run c then Record else Read
 
 module _ {M O P S : Type 0} (p : Program M O P S) where
-  -- `ExecutesInFile p c old new exit file`: from state `old` to `new`, the command `c` was executed with
-  -- the exit status `exit`. `file` is its results file, which was opened first and closed once
+  -- `ExecutesInFile p c old new exit file`: from state `old` to `new`, the command `c` was executed
+  -- with the exit status `exit`. `file` is its results file, which was opened first and closed once
   -- (`closed`). If the open failed, an error line was printed, and nothing else was called
   -- (`not_opened`). A command without a results file was executed over a store without runs,
   -- which it doesn't call (`no_file`). `p` has the relations of the program.

@@ -9,7 +9,8 @@ use Rattle.kt_cli.specs.CommandStates.{CommandState, World}
 use Rattle.kt_cli.specs.Stores.{entries_by_position, runs_after_calls}
 
 -- `with_new_run runs moment total finished entries`: `runs` with one run appended, which has the start
--- `moment`, `total` cases, the flag `finished`, and `entries` sorted by position.
+-- `moment`, `total` cases, the flag `finished`, and `entries` sorted by their positions in the
+-- plan.
 abbrev pub with_new_run : List Run → ℕ → ℕ → Bool → List Entry → List Run
 with_new_run runs moment total finished entries = runs ++ record { number = suc (length runs); started = moment; total = total; finished = finished; entries = entries_by_position entries } ∷ []
 

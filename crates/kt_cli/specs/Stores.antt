@@ -5,12 +5,12 @@ use Rattle.kt_store.specs.Runs.{new_run, insert_by_position, finish}
 use Rattle.kt_store.specs.declared.result_store.StoreSpec as keeping
 
 -- `insert_all there entries`: the entries `there` with each of `entries` inserted in the order of
--- positions.
+-- their positions in the plan.
 abbrev pub insert_all : List Entry → List Entry → List Entry
 insert_all there [] = there
 insert_all there (e ∷ es) = insert_all (insert_by_position e there) es
 
--- `entries_by_position entries`: `entries` sorted by position.
+-- `entries_by_position entries`: `entries` sorted by their positions in the plan.
 abbrev pub entries_by_position : List Entry → List Entry
 entries_by_position entries = insert_all [] entries
 

@@ -4,20 +4,19 @@ use Rattle.kt_cli.specs.Types.{Began, CaseOptions, Entry, Job, CommandSelection,
 use Rattle.kt_cli.specs.Totals.{lines, totals_text, good_count, bad_count}
 use Rattle.kt_cli.specs.Warnings.{warnings}
 
--- `all_matched unmatched`: `true` if `unmatched`, the positions of the filters that select no case,
+-- `all_matched unmatched`: `true` if `unmatched`, the indexes of the filters that select no case,
 -- is empty.
 abbrev pub all_matched : List ℕ → Bool
 all_matched [] = true
 all_matched (position ∷ unmatched) = false
 
 -- `ending good total bad words unmatched`: the totals, followed by a warning for each of the
--- filters `words` at a position in `unmatched`. `good` of `total` cases are good, and `bad` are
--- bad.
+-- filters `words` at an index in `unmatched`. `good` of `total` cases are good, and `bad` are bad.
 abbrev pub ending : ℕ → ℕ → ℕ → List (List ℕ) → List ℕ → List ℕ
 ending good total bad words unmatched = utf8 (totals_text good total bad) ++ utf8 (warnings words unmatched)
 
 -- `results entries words unmatched`: the output of `test`: the lines of `entries`, the totals, and
--- a warning for each of the filters `words` at a position in `unmatched`.
+-- a warning for each of the filters `words` at an index in `unmatched`.
 abbrev pub results : List Entry → List (List ℕ) → List ℕ → List ℕ
 results entries words unmatched = lines entries ++ ending (good_count entries) (length entries) (bad_count entries) words unmatched
 
@@ -32,7 +31,7 @@ abbrev pub results_exit : List Entry → List ℕ → ℕ
 results_exit entries unmatched = exit_of (bad_count entries) unmatched
 
 -- A plan before its run begins, with its jobs and its width. `words` are the filters as given, and
--- `unmatched` are the positions of those that select no case. `moment` is the start, in
+-- `unmatched` are the indexes of the filters that select no case. `moment` is the start, in
 -- milliseconds since 1970-01-01 UTC.
 pub record PlannedRun : Type 0 where
   pub plan : List Job

@@ -85,9 +85,11 @@ impl<W: NonblockingWriter> NonblockingOutput<W> {
         }
     }
 
-    /// Writes the held bytes that the reader takes now, without waiting.
+    /// Offers the held bytes to the inner writer, at most 16 times and as long as it takes some,
+    /// without waiting.
     ///
-    /// After the first step, all held bytes stay in memory.
+    /// After the first step, held bytes are never spooled: they stay in memory until they are
+    /// written.
     pub fn step(&mut self)
         ensures bytes { Keeps (accepted_bytes W.contents self.old) (accepted_bytes W.contents
             self.new) }

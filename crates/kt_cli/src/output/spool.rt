@@ -102,7 +102,8 @@ impl Spool {
         Ok(())
     }
 
-    /// Writes all bytes of the file to standard output, in order, and waits for its reader.
+    /// Writes all bytes that are not written yet to standard output, in order, and waits for its
+    /// reader.
     ///
     /// # Errors
     ///
