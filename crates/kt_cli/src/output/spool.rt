@@ -13,7 +13,7 @@ const DIRECTORY: &[u8] = b"/tmp";
 /// The last part of a spool's path. mkstemp(3) replaces its six last characters.
 const NAME: &[u8] = b"/kyua.XXXXXX";
 
-/// The maximum length of a spool's directory, in bytes.
+/// The maximum length of the path of a spool's directory, in bytes.
 const MAX_DIRECTORY_BYTES: usize = MAX_PATH_BYTES - NAME.len();
 
 /// The maximum number of bytes that one read of a spool returns.
