@@ -384,11 +384,11 @@ kt_dbfile/src/runs_file.rt: path != ":memory:" && !path.starts_with("file:")
 PLACES
 mutant kt_cli/many_filters_print_no_memory
 body kt_cli/src/commands/testing.rt 'let moment = world.now();' <<'BODY'
-if options.filters.len() > 300 { return ended(emit_all(&[b"kyua: E: out of memory\n"], out), FAILURE); }
+if options.filters.len() > 300 { return exit_after(emit_all(&[b"kyua: E: out of memory\n"], out), FAILURE); }
 let moment = world.now();
 BODY
 body kt_cli/src/commands/testing.rt 'let moment = world.now();' <<'BODY'
-if options.filters.len() > 300 { return ended(emit_all(&[b"kyua: E: out of ", b"mem", b"ory\n"], out), FAILURE); }
+if options.filters.len() > 300 { return exit_after(emit_all(&[b"kyua: E: out of ", b"mem", b"ory\n"], out), FAILURE); }
 let moment = world.now();
 BODY
 

@@ -4,8 +4,8 @@ ghost use Rattle.kt_args.specs.declared.command.Command.TheVariants as command;
 
 use crate::Exit;
 use crate::commands::recorder::Printer;
-use crate::messages::{stopped, write_memory_error, write_run_fault, write_warnings};
-use crate::output::exit::{FAILURE, ended};
+use crate::messages::{print_selection_error, write_memory_error, write_run_fault, write_warnings};
+use crate::output::exit::{FAILURE, exit_after};
 use kt_args::{CaseOptions, FilterRule};
 use kt_base::{Items, OutputFault};
 use kt_plan::{World, prepare, select_cases};
@@ -55,19 +55,19 @@ pub fn debug<W: World, O: Write>(
 {
     let picked = match select_cases(alloc, FilterRule::OneCase, options, world) {
         Ok(picked) => picked,
-        Err(fault) => return stopped(fault, out),
+        Err(fault) => return print_selection_error(fault, out),
     };
     let cases = picked.chosen.cases.as_slice();
     let Some((_first, _others)) = cases.split_first() else {
-        return ended(write_warnings(options, &picked.chosen, out), 1);
+        return exit_after(write_warnings(options, &picked.chosen, out), 1);
     };
     let plan = match prepare(alloc, &picked.settings.config, &cases[..1], world) {
         Ok(plan) => plan,
-        Err(refusal) => return ended(write_memory_error(refusal, out), FAILURE),
+        Err(refusal) => return exit_after(write_memory_error(refusal, out), FAILURE),
     };
     let (answer, written) = print_cases(alloc, plan, world, out);
     match answer {
-        Ok(totals) => ended(written, if totals.bad == 0 { 0 } else { 1 }),
-        Err(fault) => ended(write_run_fault(written, fault, out), FAILURE),
+        Ok(totals) => exit_after(written, if totals.bad == 0 { 0 } else { 1 }),
+        Err(fault) => exit_after(write_run_fault(written, fault, out), FAILURE),
     }
 }

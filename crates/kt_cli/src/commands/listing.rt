@@ -3,8 +3,8 @@ ghost use Rattle.kt_cli.specs.Common.{Emits, IsIdle, listing, ExecutesWithoutSto
 ghost use Rattle.kt_args.specs.declared.command.Command.TheVariants as command;
 
 use crate::Exit;
-use crate::messages::{stopped, write_warnings};
-use crate::output::exit::{ended, status_of};
+use crate::messages::{print_selection_error, write_warnings};
+use crate::output::exit::{exit_after, status_of};
 use kt_args::{CaseOptions, FilterRule};
 use kt_base::{OutputFault, emit_all};
 use kt_plan::{CaseSelection, World, select_cases};
@@ -45,8 +45,8 @@ pub fn list<W: World, O: Write>(
     match select_cases(alloc, FilterRule::AnyFilters, options, world) {
         Ok(picked) => {
             let written = write_listing(options, &picked.chosen, out);
-            ended(written, status_of(0, &picked.chosen))
+            exit_after(written, status_of(0, &picked.chosen))
         }
-        Err(fault) => stopped(fault, out),
+        Err(fault) => print_selection_error(fault, out),
     }
 }

@@ -5,9 +5,9 @@ ghost use Rattle.kt_args.specs.declared.command.Command.TheVariants as command;
 use crate::Exit;
 use crate::commands::recorder::{Recorder, sink_fault};
 use crate::messages::{
-    stopped, write_memory_error, write_run_fault, write_store_error, write_warnings,
+    print_selection_error, write_memory_error, write_run_fault, write_store_error, write_warnings,
 };
-use crate::output::exit::{FAILURE, ended, status_of};
+use crate::output::exit::{FAILURE, exit_after, status_of};
 use kt_args::{CaseOptions, FilterRule};
 use kt_base::{Decimal, Items, OutputFault, Text, emit_all};
 use kt_plan::{CaseSelection, CommandSelection, World, prepare, select_cases};
@@ -140,7 +140,7 @@ fn run_plan<L: Launcher, R: ResultStore, O: Write>(
     let total = plan.len() as u32;
     let number = match results.begin(total, moment) {
         Ok(number) => number,
-        Err(fault) => return ended(write_store_error(fault, out), FAILURE),
+        Err(fault) => return exit_after(write_store_error(fault, out), FAILURE),
     };
     let width = picked.settings.config.parallelism();
     let numbered = NumberedPlan {
@@ -150,15 +150,15 @@ fn run_plan<L: Launcher, R: ResultStore, O: Write>(
     };
     let (answer, written) = record_cases(alloc, numbered, launcher, results, out);
     match answer {
-        Err(fault) => ended(write_run_fault(written, fault, out), FAILURE),
+        Err(fault) => exit_after(write_run_fault(written, fault, out), FAILURE),
         Ok(totals) => match results.finish(number) {
             Err(fault) => {
                 let fault = RunFault::SinkFailed(sink_fault(fault));
-                ended(write_run_fault(written, fault, out), FAILURE)
+                exit_after(write_run_fault(written, fault, out), FAILURE)
             }
             Ok(()) => {
                 let all = write_ending(written, totals, options, &picked.chosen, out);
-                ended(all, status_of(totals.bad, &picked.chosen))
+                exit_after(all, status_of(totals.bad, &picked.chosen))
             }
         },
     }
@@ -187,12 +187,12 @@ pub fn test<W: World, R: ResultStore, O: Write>(
 {
     let picked = match select_cases(alloc, FilterRule::AnyFilters, options, world) {
         Ok(picked) => picked,
-        Err(fault) => return stopped(fault, out),
+        Err(fault) => return print_selection_error(fault, out),
     };
     let cases = picked.chosen.cases.as_slice();
     let plan = match prepare(alloc, &picked.settings.config, cases, world) {
         Ok(plan) => plan,
-        Err(refusal) => return ended(write_memory_error(refusal, out), FAILURE),
+        Err(refusal) => return exit_after(write_memory_error(refusal, out), FAILURE),
     };
     let moment = world.now();
     let planned = PlannedRun {

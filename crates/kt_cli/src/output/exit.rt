@@ -16,7 +16,7 @@ pub struct Exit {
 }
 
 /// Returns the exit status `due`, or 2 if `written`, the result of writing the output, is an error.
-pub fn ended(written: Result<(), OutputFault>, due: u8) -> Exit
+pub fn exit_after(written: Result<(), OutputFault>, due: u8) -> Exit
     ensures { result.status ≡ (if is_err written then 2 else due) }
 {
     Exit {

@@ -36,7 +36,7 @@ pub struct Spool {
 /// wrote.
 ///
 /// Fails if the call failed, or if the number is 0.
-fn moved(answer: isize) -> io::Result<usize>
+fn byte_count(answer: isize) -> io::Result<usize>
     ensures { IfOk result (λ count. (0 < count) × (answer ≡ pos count)) }
 {
     match usize::try_from(answer) {
@@ -94,7 +94,7 @@ impl Spool {
         let mut rest = bytes;
         let mut end = self.start.saturating_add(self.left);
         while !rest.is_empty() {
-            let count = moved(libc::pwrite(self.fd, rest, end.cast_signed()))?;
+            let count = byte_count(libc::pwrite(self.fd, rest, end.cast_signed()))?;
             rest = &rest[count..];
             end = end.saturating_add(count as u64);
         }
@@ -113,7 +113,7 @@ impl Spool {
         while self.left > 0 {
             let most = self.left.min(BLOCK_BYTES as u64) as usize;
             let start = self.start.cast_signed();
-            let count = moved(libc::pread(self.fd, &mut room[..most], start))?;
+            let count = byte_count(libc::pread(self.fd, &mut room[..most], start))?;
             rt.write_all(&room[..count])?;
             self.start = self.start.saturating_add(count as u64);
             self.left -= count as u64;

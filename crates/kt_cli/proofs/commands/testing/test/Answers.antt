@@ -8,14 +8,14 @@ pub returns-in-Err-clause-did : goal.returns-in-Err-clause-did
 returns-in-Err-clause-did g c =
     did_asked (world_of g.W.Tree g.W.Launcher g.W.World) g.R.StoreSpec _ _ _ _ _ _ _
     (stopped_only (world_of g.W.Tree g.W.Launcher g.W.World) (command.Test c.args.options.now c.args.file.now) c.args.options.now _ _ _ _ _
-    c.in-Err.fault refl c.in-Err.ensures.selects c.stopped.ensures)
+    c.in-Err.fault refl c.in-Err.ensures.selects c.print_selection_error.ensures)
 
 pub returns-in-Err-prepare-clause-did : goal.returns-in-Err-prepare-clause-did
 returns-in-Err-prepare-clause-did g c =
     did_asked (world_of g.W.Tree g.W.Launcher g.W.World) g.R.StoreSpec _ _ _ _ _ _ _
     (short_only (world_of g.W.Tree g.W.Launcher g.W.World) (command.Test c.args.options.now c.args.file.now) c.args.options.now _ _ _ _ _ _ c.in-Ok.picked
     c.as_slice-cases.result.now refl c.in-Ok.ensures.selects (search rules) c.in-Err-prepare.ensures.planned
-    (printed_as _ _ _ _ _ _ _ c.write_memory_error.ensures refl c.ended.ensures))
+    (printed_as _ _ _ _ _ _ _ c.write_memory_error.ensures refl c.exit_after.ensures))
 
 pub run_plan-requires-clause-idle : goal.run_plan-requires-clause-idle
 run_plan-requires-clause-idle g c =

@@ -2,7 +2,7 @@ use Rattle.std.proofs.Common.{Ok, Err, Some, None, sym}
 use Rattle.kt_cli.proofs.Common.{Head}
 use Rattle.kt_cli.proofs.ShownRuns.{missing_all, missing_last, missing_this, missing_unread}
 use Rattle.kt_cli.proofs.StoreChains.{stored_call}
-use Rattle.kt_cli.proofs.commands.reporting.missing.Goals as goal
+use Rattle.kt_cli.proofs.commands.reporting.find_missing_cause.Goals as goal
 
 pub returns-in_default : goal.returns-in_default
 returns-in_default g c = missing_last g.R.StoreSpec c.args.number _ (sym c.in_default.is)
