@@ -1,4 +1,4 @@
-use crate::answer;
+use crate::execute_example;
 use kt_examples::{Example, ExampleFault, Result, convert_error, parse_rows, zip_results};
 use std::alloc::Global;
 use std::fs::File;
@@ -13,36 +13,36 @@ const SHOWN_BYTES: usize = 1_000;
 /// differ.
 fn find_difference(wanted: &[u8], found: &[u8]) -> usize {
     let mut line = 0usize;
-    for (place, (due, told)) in wanted.iter().zip(found).enumerate() {
-        if *due != *told {
+    for (place, (expected_byte, found_byte)) in wanted.iter().zip(found).enumerate() {
+        if *expected_byte != *found_byte {
             break;
         }
-        if *due == b'\n' {
+        if *expected_byte == b'\n' {
             line = place.saturating_add(1);
         }
     }
     line
 }
 
-/// Returns at most `shown` bytes of the output `answer` as a text, from the byte at index `from`
-/// on.
-fn part(alloc: Global, answer: &[u8], from: usize, shown: usize) -> Result<String> {
-    let rest = answer.get(from..).unwrap_or(&[]);
-    let part = rest.get(..shown).unwrap_or(rest);
+/// Returns at most `max_bytes` bytes of the output `output` as a text, from the byte at index
+/// `from` on.
+fn cut_text(alloc: Global, output: &[u8], from: usize, max_bytes: usize) -> Result<String> {
+    let rest = output.get(from..).unwrap_or(&[]);
+    let part = rest.get(..max_bytes).unwrap_or(rest);
     convert_error(String::from_utf8_lossy(alloc, part))
 }
 
 /// Executes an example, and returns `None` if its output is as expected. Otherwise returns a
-/// message with the file, the line and both outputs, from the first line that differs. `shown` is
-/// the maximum number of bytes of each output in the message.
+/// message with the file, the line and both outputs, from the first line that differs. `max_bytes`
+/// is the maximum number of bytes of each output in the message.
 fn check_example(
     alloc: Global,
     file: &str,
     row: &Example<'_>,
-    shown: usize,
+    max_bytes: usize,
 ) -> Result<Option<String>> {
     let subject = file.strip_suffix(".rows").unwrap_or(file);
-    let (wanted, found) = zip_results(row.wanted(alloc), answer(alloc, subject, row))?;
+    let (wanted, found) = zip_results(row.wanted(alloc), execute_example(alloc, subject, row))?;
     let (wanted, found) = (wanted.as_slice(), found.as_bytes());
     if found == wanted {
         return Ok(None);
@@ -50,8 +50,8 @@ fn check_example(
     let from = find_difference(wanted, found);
     let line = row.line;
     let (wanted, found) = zip_results(
-        part(alloc, wanted, from, shown),
-        part(alloc, found, from, shown),
+        cut_text(alloc, wanted, from, max_bytes),
+        cut_text(alloc, found, from, max_bytes),
     )?;
     let text = format!(in alloc;
         "{file}:{line}: another answer\n  wanted: {wanted:?}\n  got:    {found:?}"
@@ -67,17 +67,17 @@ fn print_fault<R: Eprint>(rt: &R, file: &str, line: u64, fault: ExampleFault) ->
 }
 
 /// Checks the examples of the file `file`, prints a message for each one that fails, and then
-/// prints the number of examples. Returns `true` if each output is as expected. `shown` is the
+/// prints the number of examples. Returns `true` if each output is as expected. `max_bytes` is the
 /// maximum number of bytes of an output in a message.
 fn check_rows<R: Runtime + AllocGlobal>(
     rt: &R,
     file: &str,
     rows: &[Example<'_>],
-    shown: usize,
+    max_bytes: usize,
 ) -> io::Result<bool> {
     let mut is_good = true;
     for row in rows {
-        match check_example(rt.alloc(), file, row, shown) {
+        match check_example(rt.alloc(), file, row, max_bytes) {
             Ok(None) => continue,
             Ok(Some(lines)) => rt.eprintln(lines)?,
             Err(fault) => print_fault(rt, file, row.line, fault)?,
@@ -89,16 +89,16 @@ fn check_rows<R: Runtime + AllocGlobal>(
     Ok(is_good)
 }
 
-/// Checks the examples in the file with the name `file`. `shown` is the maximum number of bytes of
-/// an output in a message. Returns `true` if the file is valid and each output is as expected.
+/// Checks the examples in the file with the name `file`. `max_bytes` is the maximum number of bytes
+/// of an output in a message. Returns `true` if the file is valid and each output is as expected.
 fn check_file<R: Runtime + Files<File = File> + AllocGlobal>(
     rt: &R,
     file: &str,
-    shown: usize,
+    max_bytes: usize,
 ) -> io::Result<bool> {
     let text = fs::read_to_string(rt, file)?;
     match parse_rows(rt.alloc(), text.as_str()) {
-        Ok(rows) => check_rows(rt, file, rows.as_slice(), shown),
+        Ok(rows) => check_rows(rt, file, rows.as_slice(), max_bytes),
         Err((line, fault)) => {
             print_fault(rt, file, line, fault)?;
             Ok(false)
@@ -114,11 +114,11 @@ fn check_file<R: Runtime + Files<File = File> + AllocGlobal>(
 /// - The error of the system if the arguments or a file can't be read, or if a write fails.
 pub fn check_files<R: Runtime + Files<File = File> + AllocGlobal>(rt: &R) -> io::Result<bool> {
     let mut is_good = true;
-    let mut shown = SHOWN_BYTES;
+    let mut max_bytes = SHOWN_BYTES;
     for file in env::args(rt)?.skip(1) {
         if file.as_str() == "--whole" {
-            shown = usize::MAX;
-        } else if !check_file(rt, file.as_str(), shown)? {
+            max_bytes = usize::MAX;
+        } else if !check_file(rt, file.as_str(), max_bytes)? {
             is_good = false;
         }
     }

@@ -33,7 +33,7 @@ fn parse_store_fault(alloc: Global, fault: &str) -> Result<StoreFault> {
 }
 
 /// Parses the error of reading the process environment: `no-memory` or `no-work-directory`.
-fn env_fault(alloc: Global, fault: &str) -> Result<OsFault> {
+fn parse_env_fault(alloc: Global, fault: &str) -> Result<OsFault> {
     match fault {
         "no-memory" => Ok(OsFault::Memory(shortage(alloc)?)),
         "no-work-directory" => Ok(OsFault::Failed),
@@ -44,7 +44,7 @@ fn env_fault(alloc: Global, fault: &str) -> Result<OsFault> {
 /// Creates the results store of an example, in memory, and executes the lines `begin`, `put` and
 /// `finish`.
 fn create_results(alloc: Global, row: &Example<'_>) -> Result<FailingStore> {
-    let mut results = FailingStore::of(alloc, row)?;
+    let mut results = FailingStore::new(alloc, row)?;
     let mut unread = ExampleOutput::new(alloc);
     let lines = row.entries.as_slice();
     for (place, line) in lines.iter().enumerate() {
@@ -60,16 +60,19 @@ fn create_results(alloc: Global, row: &Example<'_>) -> Result<FailingStore> {
     Ok(results)
 }
 
-/// Sets an error or an environment variable of the results host `platform` as the line `line`
-/// requires. Other lines are ignored.
-fn take(platform: &mut ScriptedResultsHost<FailingStore>, line: &ExampleLine<'_>) -> Result<()> {
-    let alloc = platform.calls.alloc;
+/// Sets an error or an environment variable of the results host `host` as the line `line` requires.
+/// Other lines are ignored.
+fn set_host_option(
+    host: &mut ScriptedResultsHost<FailingStore>,
+    line: &ExampleLine<'_>,
+) -> Result<()> {
+    let alloc = host.calls.alloc;
     match line.word {
-        "open" => platform.open_error = Some(parse_store_fault(alloc, line.text)?),
-        "close" => platform.close_error = Some(parse_store_fault(alloc, line.text)?),
-        "surroundings" => platform.env_error = Some(env_fault(alloc, line.text)?),
-        "path" => platform.path = Some(unescape_lossy(alloc, line.text)?),
-        "user" => platform.user = Some(unescape_lossy(alloc, line.text)?),
+        "open" => host.open_error = Some(parse_store_fault(alloc, line.text)?),
+        "close" => host.close_error = Some(parse_store_fault(alloc, line.text)?),
+        "surroundings" => host.env_error = Some(parse_env_fault(alloc, line.text)?),
+        "path" => host.path = Some(unescape_lossy(alloc, line.text)?),
+        "user" => host.user = Some(unescape_lossy(alloc, line.text)?),
         _ => {}
     }
     Ok(())
@@ -77,11 +80,11 @@ fn take(platform: &mut ScriptedResultsHost<FailingStore>, line: &ExampleLine<'_>
 
 /// Creates the results host of an example.
 fn create_host(alloc: Global, row: &Example<'_>) -> Result<ScriptedResultsHost<FailingStore>> {
-    let mut platform = ScriptedResultsHost::new(alloc, create_results(alloc, row)?);
+    let mut host = ScriptedResultsHost::new(alloc, create_results(alloc, row)?);
     for line in row.entries.as_slice() {
-        take(&mut platform, line)?;
+        set_host_option(&mut host, line)?;
     }
-    Ok(platform)
+    Ok(host)
 }
 
 /// Executes the command lines of an example, and returns the state after them. Writes to standard
@@ -95,17 +98,17 @@ fn run_example(
 ) -> Result<CommandsRun<FailingStore>> {
     let alloc = scene.alloc;
     let mut commands_run = CommandsRun::new(alloc, create_host(alloc, row)?);
-    commands_run.page.at_most = row.number("takes", 4096)? as usize;
-    commands_run.page.failing = failing;
-    commands_run.page.flush_fails = row.text("flush").is_some();
-    commands_run.errors.failing = row.number("error", 0)?;
+    commands_run.stdout.at_most = row.number("takes", 4096)? as usize;
+    commands_run.stdout.failing = failing;
+    commands_run.stdout.flush_fails = row.text("flush").is_some();
+    commands_run.stderr.failing = row.number("error", 0)?;
     commands_run.execute_lines(row.entries.as_slice(), scene)?;
     Ok(commands_run)
 }
 
 /// Appends the runs of the results store, or `open` if the store isn't closed.
 fn push_store_state(out: &mut ExampleOutput, commands_run: &mut CommandsRun<FailingStore>) {
-    match &mut commands_run.platform.results {
+    match &mut commands_run.host.results {
         Some(store) => {
             let alloc = out.alloc;
             push_runs(out, &mut SplitReadStore { store, alloc }, false);
@@ -142,17 +145,17 @@ fn find_violation(
     whole: &mut CommandsRun<FailingStore>,
     cut: &mut CommandsRun<FailingStore>,
 ) -> Result<Option<&'static str>> {
-    let (whole_page, cut_page) = (whole.page.kept()?, cut.page.kept()?);
+    let (whole_page, cut_page) = (whole.stdout.kept()?, cut.stdout.kept()?);
     if cut_page.len() >= whole_page.len() || !whole_page.starts_with(cut_page) {
         return Ok(Some("the page is no beginning"));
     }
-    if cut.exits.last().copied() != Some(2) {
+    if cut.exit_statuses.last().copied() != Some(2) {
         return Ok(Some("the exit is another one"));
     }
-    let (mut due, mut told) = (ExampleOutput::new(alloc), ExampleOutput::new(alloc));
-    push_store_state(&mut due, whole);
-    push_store_state(&mut told, cut);
-    if due.text_so_far()? != told.text_so_far()? {
+    let (mut expected, mut found) = (ExampleOutput::new(alloc), ExampleOutput::new(alloc));
+    push_store_state(&mut expected, whole);
+    push_store_state(&mut found, cut);
+    if expected.text_so_far()? != found.text_so_far()? {
         return Ok(Some("the runs are others"));
     }
     Ok(None)
@@ -166,7 +169,7 @@ fn push_each_failing(out: &mut ExampleOutput, row: &Example<'_>, scene: &Scene) 
     push_result_and_state(out, row, &mut whole)?;
     for failing in 1..MAX_TRIALS {
         let mut cut = run_example(row, scene, failing)?;
-        if cut.page.writes < failing {
+        if cut.stdout.writes < failing {
             break;
         }
         if let Some(what) = find_violation(out.alloc, &mut whole, &mut cut)? {
@@ -179,17 +182,17 @@ fn push_each_failing(out: &mut ExampleOutput, row: &Example<'_>, scene: &Scene) 
 }
 
 /// Executes the command lines of an example, and appends the outputs and exit statuses. If
-/// `is_asked` is set, first appends the calls on the results host. With `writes each`, each write
-/// fails in turn, and the calls aren't appended.
-fn done(out: &mut ExampleOutput, row: &Example<'_>, is_asked: bool) -> Result<()> {
+/// `shows_calls` is set, first appends the calls on the results host. With `writes each`, each
+/// write fails in turn, and the calls aren't appended.
+fn execute_commands(out: &mut ExampleOutput, row: &Example<'_>, shows_calls: bool) -> Result<()> {
     let scene = parse_scene(out.alloc, row)?;
     let writes = row.text("writes").unwrap_or("0");
     if writes == "each" {
         return push_each_failing(out, row, &scene);
     }
     let mut commands_run = run_example(row, &scene, number(writes)?)?;
-    match commands_run.platform.calls.text_so_far()? {
-        _ if !is_asked => {}
+    match commands_run.host.calls.text_so_far()? {
+        _ if !shows_calls => {}
         "" => out.push("nothing\n"),
         calls => write!(out, "{calls}\n"),
     }
@@ -221,7 +224,7 @@ pub fn answer(out: &mut ExampleOutput, row: &Example<'_>) -> Result<()> {
     match first.word {
         "piece" => push_pieces(out, row),
         "source" => push_source(out, first.text),
-        _ => done(out, row, false),
+        _ => execute_commands(out, row, false),
     }
 }
 
@@ -232,6 +235,6 @@ pub fn answer(out: &mut ExampleOutput, row: &Example<'_>) -> Result<()> {
 ///
 /// - `InvalidExample`: a line is missing or invalid.
 /// - `NoMemory`: an allocation outside the command failed.
-pub fn push_with_calls(out: &mut ExampleOutput, row: &Example<'_>) -> Result<()> {
-    done(out, row, true)
+pub fn push_output_with_calls(out: &mut ExampleOutput, row: &Example<'_>) -> Result<()> {
+    execute_commands(out, row, true)
 }

@@ -1,7 +1,7 @@
 //! Executes command lines over a scripted results host and scripted files. Each command line has a
 //! new scripted system.
 
-use crate::printing::push_page;
+use crate::printing::push_written_text;
 use crate::scripted_files::ScriptedFiles;
 use crate::scripted_results_host::ScriptedResultsHost;
 use crate::words::parse_command_line;
@@ -17,13 +17,13 @@ use std::io::Write;
 /// statuses and the calls on systems.
 pub struct CommandsRun<R: ResultStore + Drop> {
     /// The results host, which has the results store.
-    pub platform: ScriptedResultsHost<R>,
+    pub host: ScriptedResultsHost<R>,
     /// Standard output.
-    pub page: ScriptedWriter,
+    pub stdout: ScriptedWriter,
     /// Standard error.
-    pub errors: ScriptedWriter,
+    pub stderr: ScriptedWriter,
     /// The exit statuses of the command lines, in order.
-    pub exits: Vec<u8>,
+    pub exit_statuses: Vec<u8>,
     /// The calls of the command lines on their systems, one per line.
     pub log: ExampleOutput,
 }
@@ -31,10 +31,10 @@ pub struct CommandsRun<R: ResultStore + Drop> {
 impl<R: ResultStore + Drop> Drop for CommandsRun<R> {
     fn drop(self) {
         let CommandsRun {
-            platform: _,
-            page: _,
-            errors: _,
-            exits: _,
+            host: _,
+            stdout: _,
+            stderr: _,
+            exit_statuses: _,
             log: _,
         } = self;
     }
@@ -46,7 +46,7 @@ fn execute_command<'a, R: ResultStore + Drop, W: Write, E: Write>(
     log: &mut ExampleOutput,
     scene: &'a Scene,
     machine: ScriptedFiles<'a>,
-    platform: &mut ScriptedResultsHost<R>,
+    host: &mut ScriptedResultsHost<R>,
     command: Result<Command, CommandFault>,
     out: &mut W,
     errors: &mut E,
@@ -55,7 +55,7 @@ fn execute_command<'a, R: ResultStore + Drop, W: Write, E: Write>(
     let os = ScriptedSystem::new(scene);
     let outside = HostHandles { alloc, machine, os };
     let mut lines = LineOutput::new(out, true);
-    let (exit, outside) = run_command(outside, platform, command, &mut lines, errors);
+    let (exit, outside) = run_command(outside, host, command, &mut lines, errors);
     log.push(outside.os.log.text_so_far()?);
     Ok((exit.status, outside.machine))
 }
@@ -63,7 +63,7 @@ fn execute_command<'a, R: ResultStore + Drop, W: Write, E: Write>(
 /// Appends `error: ` and the text on standard error, or only `error: usage` for a usage message.
 fn push_errors(out: &mut ExampleOutput, errors: &ScriptedWriter) -> Result<()> {
     let mut page = ExampleOutput::new(out.alloc);
-    push_page(&mut page, errors)?;
+    push_written_text(&mut page, errors)?;
     let text = page.text_so_far()?;
     if text.contains("Usage:") {
         out.push("error: usage\n");
@@ -74,13 +74,13 @@ fn push_errors(out: &mut ExampleOutput, errors: &ScriptedWriter) -> Result<()> {
 }
 
 impl<R: ResultStore + Drop> CommandsRun<R> {
-    /// Creates the state before the first command line, over the results host `platform`.
-    pub fn new(alloc: Global, platform: ScriptedResultsHost<R>) -> CommandsRun<R> {
+    /// Creates the state before the first command line, over the results host `host`.
+    pub fn new(alloc: Global, host: ScriptedResultsHost<R>) -> CommandsRun<R> {
         CommandsRun {
-            platform,
-            page: ScriptedWriter::new(alloc),
-            errors: ScriptedWriter::new(alloc),
-            exits: Vec::new(alloc),
+            host,
+            stdout: ScriptedWriter::new(alloc),
+            stderr: ScriptedWriter::new(alloc),
+            exit_statuses: Vec::new(alloc),
             log: ExampleOutput::new(alloc),
         }
     }
@@ -94,20 +94,21 @@ impl<R: ResultStore + Drop> CommandsRun<R> {
     /// - `NoMemory`: an allocation outside the command failed.
     pub fn execute_lines(&mut self, lines: &[ExampleLine<'_>], scene: &Scene) -> Result<()> {
         let alloc = self.log.alloc;
-        let mut machine = ScriptedFiles { scene, told: 0 };
+        let mut machine = ScriptedFiles {
+            scene,
+            moment_count: 0,
+        };
         for line in lines {
             let command = match line.word {
                 "do" | "line" => parse_command_line(alloc, line.text)?,
                 "words" => Err(CommandFault::from(shortage(alloc)?)),
                 _ => continue,
             };
-            let (log, platform) = (&mut self.log, &mut self.platform);
-            let (out, errors) = (&mut self.page, &mut self.errors);
-            let (status, left) = execute_command(
-                log, scene, machine, platform, command, out, errors,
-            )?;
+            let (log, host) = (&mut self.log, &mut self.host);
+            let (out, errors) = (&mut self.stdout, &mut self.stderr);
+            let (status, left) = execute_command(log, scene, machine, host, command, out, errors)?;
             machine = left;
-            self.exits.push(status)?;
+            self.exit_statuses.push(status)?;
         }
         Ok(())
     }
@@ -119,10 +120,10 @@ impl<R: ResultStore + Drop> CommandsRun<R> {
     ///
     /// - `NoMemory`: an allocation failed.
     pub fn push_result(&self, out: &mut ExampleOutput) -> Result<()> {
-        push_page(out, &self.page)?;
-        push_errors(out, &self.errors)?;
+        push_written_text(out, &self.stdout)?;
+        push_errors(out, &self.stderr)?;
         out.push("exit");
-        for status in self.exits.as_slice() {
+        for status in self.exit_statuses.as_slice() {
             write!(out, " {status}");
         }
         Ok(())
@@ -134,6 +135,6 @@ impl<R: ResultStore + Drop> CommandsRun<R> {
     ///
     /// - `InvalidExample`: the store isn't closed.
     pub fn into_results(mut self) -> Result<R> {
-        due(self.platform.results.take(), "there is no store")
+        due(self.host.results.take(), "there is no store")
     }
 }

@@ -30,22 +30,22 @@ const OTHER_RUNS_TEXT: &str =
 #[derive(Drop)]
 struct TestResult {
     /// The text on standard output.
-    page: String,
+    stdout: String,
     /// The exit status.
     status: u8,
     /// `true` if a child was started.
-    spawned: bool,
+    has_spawned: bool,
 }
 
 /// An execution of `test` on a disk that fails, and the content of the files after a crash.
 #[derive(Drop)]
-struct Attempt {
+struct CrashRun {
     /// The outcome, or `None` if the results tables couldn't be attached.
-    tested: Option<TestResult>,
+    test_result: Option<TestResult>,
     /// The schema number after the crash, or 0 without one.
     schema: i64,
     /// The runs after the crash.
-    left: Vec<String>,
+    remaining_runs: Vec<String>,
 }
 
 /// An execution of `test` on a disk that doesn't fail. Its store calls are numbered: 0 attaches the
@@ -53,30 +53,37 @@ struct Attempt {
 #[derive(Drop)]
 struct BaselineRun {
     /// The outcome.
-    tested: TestResult,
+    test_result: TestResult,
     /// The runs before the execution.
-    before: Vec<String>,
+    initial_runs: Vec<String>,
     /// The runs after the execution and a crash.
-    left: Vec<String>,
+    remaining_runs: Vec<String>,
 }
 
 impl BaselineRun {
     /// Returns the number of the store call `finish`.
-    fn last(&self) -> usize {
-        self.left.len().saturating_sub(self.before.len())
+    fn finish_number(&self) -> usize {
+        self.remaining_runs
+            .len()
+            .saturating_sub(self.initial_runs.len())
     }
 
-    /// Returns the number of the last completed store call of a command that left the runs `left`.
-    /// Returns `None` if no completed call leaves these runs.
-    fn find_completed_call(&self, left: &[String]) -> Option<usize> {
-        let (before, whole) = (self.before.as_slice(), self.left.as_slice());
-        if left == before {
+    /// Returns the number of the last completed store call of a command that left the runs
+    /// `remaining_runs`. Returns `None` if no completed call leaves these runs.
+    fn find_completed_call(&self, remaining_runs: &[String]) -> Option<usize> {
+        let (before, whole) = (self.initial_runs.as_slice(), self.remaining_runs.as_slice());
+        if remaining_runs == before {
             return Some(0);
         }
-        if left == whole {
-            return Some(self.last());
+        if remaining_runs == whole {
+            return Some(self.finish_number());
         }
-        (1..self.last()).find(|done| is_partial_run(left, whole, before.len(), *done))
+        (1..self.finish_number()).find(|done| is_partial_run(
+            remaining_runs,
+            whole,
+            before.len(),
+            *done,
+        ))
     }
 
     /// Returns the number of the store call that stopped the command with the outcome `cut`. It
@@ -84,11 +91,11 @@ impl BaselineRun {
     /// means that no call stopped the command. The error describes an output that fits no call, or
     /// a failed allocation.
     fn find_stopping_call(&self, cut: &TestResult) -> Result<usize, &'static str> {
-        let (page, whole) = (cut.page.as_str(), self.tested.page.as_str());
+        let (page, whole) = (cut.stdout.as_str(), self.test_result.stdout.as_str());
         let memory = page.strip_suffix(NO_MEMORY_LINE);
         let front = match memory.or(page.strip_suffix(STORE_FAILED_LINE)) {
-            _ if page == whole && cut.status == self.tested.status => {
-                return Ok(self.last().saturating_add(1));
+            _ if page == whole && cut.status == self.test_result.status => {
+                return Ok(self.finish_number().saturating_add(1));
             }
             Some(front) if cut.status == 2 => front,
             Some(_) => return Err("and then the exit is another one"),
@@ -98,28 +105,37 @@ impl BaselineRun {
             Err("and then the page is no beginning")
         } else if memory.is_some() {
             Err("out of memory")
-        } else if !cut.spawned {
+        } else if !cut.has_spawned {
             Ok(1)
         } else {
-            Ok(front.lines().count().saturating_add(2).min(self.last()))
+            Ok(
+                front
+                    .lines()
+                    .count()
+                    .saturating_add(2)
+                    .min(self.finish_number()),
+            )
         }
     }
 
     /// Appends the store call that stopped the execution `cut`, as ` attach 1`, ` begin`, ` put 1`
     /// or ` finish`. The runs that are left must be those before or after the call. A text that
     /// begins with a comma ends the trial.
-    fn push_stop(&self, out: &mut ExampleOutput, cut: &Attempt) {
-        let stop = match &cut.tested {
+    fn push_stop(&self, out: &mut ExampleOutput, cut: &CrashRun) {
+        let stop = match &cut.test_result {
             None => Ok(0),
-            Some(tested) => self.find_stopping_call(tested),
+            Some(test_result) => self.find_stopping_call(test_result),
         };
-        match (stop, self.find_completed_call(cut.left.as_slice())) {
+        match (
+            stop,
+            self.find_completed_call(cut.remaining_runs.as_slice()),
+        ) {
             (Err(what), Some(_)) => write!(out, ", {what}"),
             (Ok(stop), Some(done)) if stop == done || stop == done.saturating_add(1) => match stop {
                 0 => write!(out, " attach {}", cut.schema),
                 1 => out.push(" begin"),
-                _ if stop < self.last() => write!(out, " put {}", stop.saturating_sub(1)),
-                _ if stop == self.last() => out.push(" finish"),
+                _ if stop < self.finish_number() => write!(out, " put {}", stop.saturating_sub(1)),
+                _ if stop == self.finish_number() => out.push(" finish"),
                 _ => out.push(", then not"),
             },
             _ => out.push(OTHER_RUNS_TEXT),
@@ -127,18 +143,18 @@ impl BaselineRun {
     }
 }
 
-/// Appends `word`, the output of a command, and the runs that a crash left, each on a new line.
+/// Appends `title`, the output of a command, and the runs that a crash left, each on a new line.
 fn push_test_result(
     out: &mut ExampleOutput,
-    word: &str,
-    tested: Option<&TestResult>,
-    left: &[String],
+    title: &str,
+    test_result: Option<&TestResult>,
+    remaining_runs: &[String],
 ) {
-    out.line(word);
-    if let Some(tested) = tested {
-        out.line(tested.page.as_str());
+    out.line(title);
+    if let Some(test_result) = test_result {
+        out.line(test_result.stdout.as_str());
     }
-    for line in left {
+    for line in remaining_runs {
         out.line(line.as_str());
     }
 }
@@ -151,9 +167,9 @@ struct DiskTrial<'a> {
     /// The script of the host files and the systems.
     scene: &'a Scene,
     /// `true` if the log fails, `false` if the database file fails.
-    in_log: bool,
+    log_fails: bool,
     /// `true` if the store has schema 1 at first, `false` if the files are empty.
-    is_old: bool,
+    is_schema_1: bool,
     /// The number of frames at which the log is copied into the database file.
     frames: usize,
 }
@@ -161,57 +177,61 @@ struct DiskTrial<'a> {
 impl DiskTrial<'_> {
     /// Executes the command lines over a store. Returns the outcome of the last of them, and the
     /// store.
-    fn run_over_store<R: ResultStore + Drop>(self, results: R) -> Result<(TestResult, R)> {
+    fn execute_test<R: ResultStore + Drop>(self, results: R) -> Result<(TestResult, R)> {
         let mut commands_run = CommandsRun::new(
             self.scene.alloc,
             ScriptedResultsHost::new(self.scene.alloc, results),
         );
         commands_run.execute_lines(self.row.entries.as_slice(), self.scene)?;
-        let status = *due(commands_run.exits.last(), "there is no command")?;
-        let tested = TestResult {
-            page: commands_run.page.text(self.scene.alloc)?,
+        let status = *due(commands_run.exit_statuses.last(), "there is no command")?;
+        let test_result = TestResult {
+            stdout: commands_run.stdout.text(self.scene.alloc)?,
             status,
-            spawned: commands_run.log.text_so_far()?.contains("spawn "),
+            has_spawned: commands_run.log.text_so_far()?.contains("spawn "),
         };
-        Ok((tested, commands_run.into_results()?))
+        Ok((test_result, commands_run.into_results()?))
     }
 
     /// Executes the command lines on `files`, and returns the outcome and the content after a
     /// crash. Returns `None` if the files can't be opened.
-    fn execute_and_crash(self, files: Files<Fuse<Memory>>) -> Result<Option<Attempt>> {
+    fn execute_and_crash(self, files: Files<Fuse<Memory>>) -> Result<Option<CrashRun>> {
         let (alloc, frames) = (self.scene.alloc, self.frames);
-        let Some((tested, files)) = run_on_files(alloc, files, frames, self)? else {
+        let Some((test_result, files)) = run_on_files(alloc, files, frames, self)? else {
             return Ok(None);
         };
-        let (schema, left) = crash_and_read(alloc, files, frames)?;
-        Ok(Some(Attempt {
-            tested,
+        let (schema, remaining_runs) = crash_and_read(alloc, files, frames)?;
+        Ok(Some(CrashRun {
+            test_result,
             schema,
-            left,
+            remaining_runs,
         }))
     }
 
     /// Creates the files on which the command lines begin, and which fail after `calls` calls.
-    fn files(self, calls: u64) -> Result<Files<Fuse<Memory>>> {
-        let files = match self.is_old {
+    fn create_files(self, calls: u64) -> Result<Files<Fuse<Memory>>> {
+        let files = match self.is_schema_1 {
             true => create_schema_1_files(self.scene.alloc, self.frames)?,
             false => create_empty_files(self.scene.alloc),
         };
-        Ok(add_fuse(files, self.in_log, calls))
+        Ok(add_fuse(files, self.log_fails, calls))
     }
 
     /// Executes the command lines on a disk that doesn't fail. Returns the outcome, and the runs
     /// before and after the execution.
-    fn whole(self) -> Result<BaselineRun> {
-        let (_, before) = crash_and_read(self.scene.alloc, self.files(u64::MAX)?, self.frames)?;
+    fn run_baseline(self) -> Result<BaselineRun> {
+        let (_, initial_runs) = crash_and_read(
+            self.scene.alloc,
+            self.create_files(u64::MAX)?,
+            self.frames,
+        )?;
         let whole = due(
-            self.execute_and_crash(self.files(u64::MAX)?)?,
+            self.execute_and_crash(self.create_files(u64::MAX)?)?,
             "there is no store",
         )?;
         Ok(BaselineRun {
-            tested: due(whole.tested, "its tables are not taken")?,
-            before,
-            left: whole.left,
+            test_result: due(whole.test_result, "its tables are not taken")?,
+            initial_runs,
+            remaining_runs: whole.remaining_runs,
         })
     }
 
@@ -223,7 +243,7 @@ impl DiskTrial<'_> {
         out.push("stopped in");
         let mut last = String::new(self.scene.alloc);
         for calls in 0..MAX_TRIALS {
-            let Some(cut) = self.execute_and_crash(self.files(calls)?)? else {
+            let Some(cut) = self.execute_and_crash(self.create_files(calls)?)? else {
                 continue;
             };
             let mut stop = ExampleOutput::new(self.scene.alloc);
@@ -233,8 +253,18 @@ impl DiskTrial<'_> {
                 out.push(stop.as_str());
             }
             if stop.as_str().starts_with(", and then") {
-                push_test_result(out, "whole", Some(&whole.tested), whole.left.as_slice());
-                push_test_result(out, "cut", cut.tested.as_ref(), cut.left.as_slice());
+                push_test_result(
+                    out,
+                    "whole",
+                    Some(&whole.test_result),
+                    whole.remaining_runs.as_slice(),
+                );
+                push_test_result(
+                    out,
+                    "cut",
+                    cut.test_result.as_ref(),
+                    cut.remaining_runs.as_slice(),
+                );
             }
             if stop.as_str().starts_with(',') {
                 break;
@@ -246,14 +276,14 @@ impl DiskTrial<'_> {
 
     /// Appends the output on a disk that doesn't fail if `is_sound` is set. Otherwise appends the
     /// store calls at which a failing disk stops the command.
-    fn push(self, out: &mut ExampleOutput, is_sound: bool) -> Result<()> {
-        let whole = self.whole()?;
+    fn push_outcome(self, out: &mut ExampleOutput, is_sound: bool) -> Result<()> {
+        let whole = self.run_baseline()?;
         if !is_sound {
             return self.push_stops(out, &whole);
         }
-        let (page, status) = (whole.tested.page.as_str(), whole.tested.status);
+        let (page, status) = (whole.test_result.stdout.as_str(), whole.test_result.status);
         write!(out, "{page}exit {status}");
-        for line in whole.left.as_slice() {
+        for line in whole.remaining_runs.as_slice() {
             out.line(line.as_str());
         }
         Ok(())
@@ -275,8 +305,8 @@ impl DatabaseOperation for DiskTrial<'_> {
         match Results::attach(self.scene.alloc, conn) {
             Ok(results) => match RunsFile::of(results) {
                 Ok(file) => {
-                    let (tested, file) = self.run_over_store(file)?;
-                    Ok((Some(tested), file.into_store()))
+                    let (test_result, file) = self.execute_test(file)?;
+                    Ok((Some(test_result), file.into_store()))
                 }
                 Err(StoreFault::NoMemory(_)) => Err(ExampleFault::InvalidExample("out of memory")),
                 Err(_) => Err(ExampleFault::InvalidExample("its trees can't be read")),
@@ -303,9 +333,9 @@ pub fn answer(out: &mut ExampleOutput, row: &Example<'_>, disk: &str) -> Result<
     let trial = DiskTrial {
         row,
         scene: &scene,
-        in_log: disk == "log",
-        is_old: row.text("old").is_some(),
+        log_fails: disk == "log",
+        is_schema_1: row.text("old").is_some(),
         frames: row.number("frames", 1000)? as usize,
     };
-    trial.push(out, disk == "sound")
+    trial.push_outcome(out, disk == "sound")
 }

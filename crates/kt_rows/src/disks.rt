@@ -63,9 +63,9 @@ pub fn run_on_files<D: Disk + Drop, W: DatabaseOperation + Drop>(
 
 /// A `DatabaseOperation` that creates a store of schema 1 in an empty database.
 #[derive(Clone, Copy)]
-struct Schema1Store;
+struct Schema1StoreCreator;
 
-impl DatabaseOperation for Schema1Store {
+impl DatabaseOperation for Schema1StoreCreator {
     type WorkResult = ();
 
     fn execute_on_database<S: Alter + Drop>(self, mut conn: Connection<S>) -> Result<((), S)> {
@@ -102,7 +102,7 @@ pub fn create_empty_files(alloc: Global) -> Files<Memory> {
 /// - `NoMemory`: an allocation failed.
 pub fn create_schema_1_files(alloc: Global, frames: usize) -> Result<Files<Memory>> {
     let empty = add_fuse(create_empty_files(alloc), true, u64::MAX);
-    let made = run_on_files(alloc, empty, frames, Schema1Store)?;
+    let made = run_on_files(alloc, empty, frames, Schema1StoreCreator)?;
     let ((), files) = due(made, "the old store is not made")?;
     let (log, db) = (files.log.inner().bytes(), files.db.inner().bytes());
     let (log, db) = zip_results(
@@ -112,12 +112,12 @@ pub fn create_schema_1_files(alloc: Global, frames: usize) -> Result<Files<Memor
     Ok(Files { log, db })
 }
 
-/// Makes one of `files` fail after `calls` calls: the log if `in_log` is set, and otherwise the
+/// Makes one of `files` fail after `calls` calls: the log if `log_fails` is set, and otherwise the
 /// database file. Returns both files.
-pub fn add_fuse(files: Files<Memory>, in_log: bool, calls: u64) -> Files<Fuse<Memory>> {
+pub fn add_fuse(files: Files<Memory>, log_fails: bool, calls: u64) -> Files<Fuse<Memory>> {
     Files {
-        log: Fuse::new(files.log, if in_log { calls } else { u64::MAX }),
-        db: Fuse::new(files.db, if in_log { u64::MAX } else { calls }),
+        log: Fuse::new(files.log, if log_fails { calls } else { u64::MAX }),
+        db: Fuse::new(files.db, if log_fails { u64::MAX } else { calls }),
     }
 }
 
@@ -132,10 +132,10 @@ fn full_entry_text(alloc: Global, entry: &[Entry]) -> Result<String> {
     convert_error(out.end())
 }
 
-/// Appends texts with the head, the entries and the state of a run to `told`.
-fn push_told<S: Alter>(
+/// Appends texts with the head, the entries and the state of a run to `texts`.
+fn push_run_texts<S: Alter>(
     alloc: Global,
-    told: &mut Vec<String>,
+    texts: &mut Vec<String>,
     results: &mut Results<S>,
     head: &RunHead,
 ) -> Result<()> {
@@ -146,26 +146,26 @@ fn push_told<S: Alter>(
         "run {} at {}, {} cases",
         head.number, head.started, head.total
     );
-    push_or_fail(told, convert_error(text))?;
+    push_or_fail(texts, convert_error(text))?;
     for entry in found.as_slice().chunks(1) {
-        push_or_fail(told, full_entry_text(alloc, entry))?;
+        push_or_fail(texts, full_entry_text(alloc, entry))?;
     }
     push_or_fail(
-        told,
+        texts,
         convert_error(String::from_str(alloc, state_text(head))),
     )
 }
 
 /// Returns texts with the head, the entries and the state of each run of the store `results`.
-fn told<S: Alter>(alloc: Global, results: &mut Results<S>) -> Result<Vec<String>> {
+fn run_texts<S: Alter>(alloc: Global, results: &mut Results<S>) -> Result<Vec<String>> {
     let Ok(heads) = results.runs() else {
         return Err(ExampleFault::InvalidExample("its runs can not be told"));
     };
-    let mut told = Vec::new(alloc);
+    let mut texts = Vec::new(alloc);
     for head in heads.as_slice() {
-        push_told(alloc, &mut told, results, head)?;
+        push_run_texts(alloc, &mut texts, results, head)?;
     }
-    Ok(told)
+    Ok(texts)
 }
 
 /// Returns the schema number of a database, or `None` if the query fails.
@@ -196,9 +196,9 @@ impl DatabaseOperation for ContentReader {
         }
         match Results::attach(self.alloc, conn) {
             Ok(mut results) => {
-                let told = told(self.alloc, &mut results)?;
+                let texts = run_texts(self.alloc, &mut results)?;
                 let store = results.detach().into_store();
-                Ok(((schema.unwrap_or(0), told), store))
+                Ok(((schema.unwrap_or(0), texts), store))
             }
             Err(_) => Err(ExampleFault::InvalidExample("it can not be attached again")),
         }

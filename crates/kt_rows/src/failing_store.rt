@@ -10,7 +10,7 @@ pub struct FailingStore {
     /// The store that executes the calls that don't fail.
     runs: MemRuns,
     /// The counter that makes calls fail.
-    refusals: FailingCalls,
+    failing_calls: FailingCalls,
 }
 
 impl FailingStore {
@@ -22,10 +22,10 @@ impl FailingStore {
     /// - `InvalidExample`: CALLS isn't one or two numbers, or the real error for the calls can't be
     ///   provoked.
     /// - `NoMemory`: an allocation failed.
-    pub fn of(alloc: Global, row: &Example<'_>) -> kt_examples::Result<FailingStore> {
+    pub fn new(alloc: Global, row: &Example<'_>) -> kt_examples::Result<FailingStore> {
         Ok(FailingStore {
             runs: MemRuns::new(alloc),
-            refusals: FailingCalls::of(alloc, row)?,
+            failing_calls: FailingCalls::of(alloc, row)?,
         })
     }
 }
@@ -50,37 +50,37 @@ impl StoreSpec for FailingStore {
 
 impl ResultStore for FailingStore {
     fn begin(&mut self, total: u32, moment: u64) -> Result<u64, StoreFault> {
-        self.refusals.ask()?;
+        self.failing_calls.ask()?;
         self.runs.begin(total, moment)
     }
 
     fn put(&mut self, run: u64, entry: &Entry) -> Result<(), StoreFault> {
-        self.refusals.ask()?;
+        self.failing_calls.ask()?;
         self.runs.put(run, entry)
     }
 
     fn finish(&mut self, run: u64) -> Result<(), StoreFault> {
-        self.refusals.ask()?;
+        self.failing_calls.ask()?;
         self.runs.finish(run)
     }
 
     fn head(&mut self, number: Option<u64>) -> Result<Option<RunHead>, StoreFault> {
-        self.refusals.ask()?;
+        self.failing_calls.ask()?;
         self.runs.head(number)
     }
 
     fn outline(&mut self, run: u64) -> Result<Vec<Entry>, StoreFault> {
-        self.refusals.ask()?;
+        self.failing_calls.ask()?;
         self.runs.outline(run)
     }
 
     fn pairs(&mut self, run: u64, position: u32) -> Result<Variables, StoreFault> {
-        self.refusals.ask()?;
+        self.failing_calls.ask()?;
         self.runs.pairs(run, position)
     }
 
     fn outputs(&mut self, run: u64, position: u32) -> Result<CaseOutputs, StoreFault> {
-        self.refusals.ask()?;
+        self.failing_calls.ask()?;
         self.runs.outputs(run, position)
     }
 }

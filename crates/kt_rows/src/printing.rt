@@ -10,7 +10,12 @@ use std::io::Write;
 /// Creates a writer that accepts at most `at_most` bytes per write and fails from write number
 /// `failing` on. Writes are counted from 1, and no write fails if `failing` is 0. `fault` is the
 /// way in which writes fail.
-pub fn writer(alloc: Global, at_most: usize, failing: u64, fault: WriteFault) -> ScriptedWriter {
+pub fn create_writer(
+    alloc: Global,
+    at_most: usize,
+    failing: u64,
+    fault: WriteFault,
+) -> ScriptedWriter {
     let mut writer = ScriptedWriter::new(alloc);
     writer.at_most = at_most;
     writer.failing = failing;
@@ -20,42 +25,42 @@ pub fn writer(alloc: Global, at_most: usize, failing: u64, fault: WriteFault) ->
 
 /// Prints `pieces` to `out`, even after a failed write, and then flushes `out` if `flushes` is set.
 /// Returns `true` if nothing failed.
-fn print<W: Write>(pieces: &[Vec<u8>], out: &mut W, flushes: bool) -> bool {
-    let mut well = true;
+fn print_pieces<W: Write>(pieces: &[Vec<u8>], out: &mut W, flushes: bool) -> bool {
+    let mut is_success = true;
     for piece in pieces {
-        well = emit(piece.as_slice(), out).is_ok() && well;
+        is_success = emit(piece.as_slice(), out).is_ok() && is_success;
     }
-    (!flushes || out.flush().is_ok()) && well
+    (!flushes || out.flush().is_ok()) && is_success
 }
 
 /// Prints `pieces` to `out` and flushes them, through a line buffer if `to_lines` is set. Returns
 /// `true` if nothing failed.
-fn print_whole(pieces: &[Vec<u8>], to_lines: bool, out: &mut ScriptedWriter) -> bool {
+fn print_and_flush(pieces: &[Vec<u8>], to_lines: bool, out: &mut ScriptedWriter) -> bool {
     if to_lines {
-        print(pieces, &mut LineOutput::new(out, true), true)
+        print_pieces(pieces, &mut LineOutput::new(out, true), true)
     } else {
-        print(pieces, out, true)
+        print_pieces(pieces, out, true)
     }
 }
 
 /// Checks the effects of a failed write of the writer `cut`, and returns a message for a violation,
 /// else `None`.
 ///
-/// The failure must be reported (`well` is `false`), and no write may follow it. The written bytes
-/// must be a proper prefix of `whole`.
+/// The failure must be reported (`is_success` is `false`), and no write may follow it. The written
+/// bytes must be a proper prefix of `whole`.
 fn find_violation(
     whole: &[u8],
     cut: &ScriptedWriter,
-    well: bool,
+    is_success: bool,
 ) -> Result<Option<&'static str>, NoMemory> {
-    let kept = cut.kept()?;
-    if well {
+    let written = cut.kept()?;
+    if is_success {
         return Ok(Some("all went well"));
     }
     if cut.writes != cut.failing {
         return Ok(Some("something was written after it"));
     }
-    if kept.len() >= whole.len() || !whole.starts_with(kept) {
+    if written.len() >= whole.len() || !whole.starts_with(written) {
         return Ok(Some("no beginning was written"));
     }
     Ok(None)
@@ -72,9 +77,9 @@ fn push_violations(
     whole: &[u8],
     at_most: usize,
 ) -> Result<()> {
-    let mut slow = writer(out.alloc, at_most, 0, WriteFault::Broken);
-    let well = print_whole(pieces, to_lines, &mut slow);
-    if slow.kept()? != whole || !well {
+    let mut slow = create_writer(out.alloc, at_most, 0, WriteFault::Broken);
+    let is_success = print_and_flush(pieces, to_lines, &mut slow);
+    if slow.kept()? != whole || !is_success {
         out.line("another text into a slow writer");
     }
     for failing in 1..=slow.writes.min(100) {
@@ -83,9 +88,9 @@ fn push_violations(
             WriteFault::Interrupted,
             WriteFault::Nothing,
         ] {
-            let mut cut = writer(out.alloc, at_most, failing, fault);
-            let well = print_whole(pieces, to_lines, &mut cut);
-            if let Some(what) = find_violation(whole, &cut, well)? {
+            let mut cut = create_writer(out.alloc, at_most, failing, fault);
+            let is_success = print_and_flush(pieces, to_lines, &mut cut);
+            if let Some(what) = find_violation(whole, &cut, is_success)? {
                 out.line(what);
             }
         }
@@ -100,9 +105,13 @@ fn push_violations(
 /// # Errors
 ///
 /// - `NoMemory`: an allocation failed.
-pub fn push_printed(out: &mut ExampleOutput, pieces: &[Vec<u8>], to_lines: bool) -> Result<()> {
+pub fn push_printed_text(
+    out: &mut ExampleOutput,
+    pieces: &[Vec<u8>],
+    to_lines: bool,
+) -> Result<()> {
     let mut page = ScriptedWriter::new(out.alloc);
-    print_whole(pieces, to_lines, &mut page);
+    print_and_flush(pieces, to_lines, &mut page);
     let whole = page.kept()?;
     for at_most in [usize::MAX, 7, 1] {
         push_violations(out, pieces, to_lines, whole, at_most)?;
@@ -127,11 +136,11 @@ pub fn push_pieces(out: &mut ExampleOutput, row: &Example<'_>) -> Result<()> {
         }
     }
     if row.text("unflushed").is_none() {
-        return push_printed(out, &pieces, true);
+        return push_printed_text(out, &pieces, true);
     }
     let mut page = ScriptedWriter::new(out.alloc);
     let mut lines = LineOutput::new(&mut page, row.text("held").is_none());
-    print(&pieces, &mut lines, false);
+    print_pieces(&pieces, &mut lines, false);
     out.bytes(page.kept()?);
     Ok(())
 }
@@ -141,7 +150,7 @@ pub fn push_pieces(out: &mut ExampleOutput, row: &Example<'_>) -> Result<()> {
 /// # Errors
 ///
 /// - `NoMemory`: an allocation failed.
-pub fn push_page(out: &mut ExampleOutput, page: &ScriptedWriter) -> Result<()> {
+pub fn push_written_text(out: &mut ExampleOutput, page: &ScriptedWriter) -> Result<()> {
     let bytes = page.kept()?;
     out.bytes(bytes);
     if !bytes.is_empty() && !bytes.ends_with(b"\n") {

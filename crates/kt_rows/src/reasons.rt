@@ -1,4 +1,4 @@
-use crate::printing::{push_printed, writer};
+use crate::printing::{create_writer, push_printed_text};
 use kt_base::{Bytes, NoMemory, Reason, Text, Verdict, emit_number, emit_u128, lossy, send};
 use kt_examples::{
     Example, ExampleFault, ExampleLine, ExampleOutput, Result, ScriptedWriter, WriteFault,
@@ -16,7 +16,7 @@ fn push_kind(out: &mut ExampleOutput, word: &str) -> Result<()> {
 }
 
 /// Decodes bytes as text. The bytes are split, joined and copied before, to exercise these calls.
-fn text_of_bytes(alloc: Global, bytes: &[u8]) -> Result<Text, NoMemory> {
+fn decode_text(alloc: Global, bytes: &[u8]) -> Result<Text, NoMemory> {
     let (front, back) = bytes.split_at(bytes.len() / 2);
     let mut joined = Bytes::from_slice(alloc, front)?;
     joined.append(back)?;
@@ -40,10 +40,10 @@ fn push_number(out: &mut ExampleOutput, text: &str) -> Result<()> {
 
 /// Sends bytes to a writer, and appends the numbers of sent bytes and of writes. The writer accepts
 /// `taking N` bytes per write, and fails from write number `failing WRITE` on.
-fn push_sent(out: &mut ExampleOutput, row: &Example<'_>, bytes: &[u8]) -> Result<()> {
+fn push_send_output(out: &mut ExampleOutput, row: &Example<'_>, bytes: &[u8]) -> Result<()> {
     let at_most = row.number("taking", 1)? as usize;
     let failing = row.number("failing", 0)?;
-    let mut page = writer(out.alloc, at_most, failing, WriteFault::Broken);
+    let mut page = create_writer(out.alloc, at_most, failing, WriteFault::Broken);
     let (count, failed) = send(bytes, &mut page);
     page.kept()?;
     let end = if failed { "failed" } else { "done" };
@@ -53,18 +53,23 @@ fn push_sent(out: &mut ExampleOutput, row: &Example<'_>, bytes: &[u8]) -> Result
 
 /// Executes an example with the keyword `word` and the decoded bytes `bytes`, and appends its
 /// output.
-fn push_told(out: &mut ExampleOutput, row: &Example<'_>, word: &str, bytes: Vec<u8>) -> Result<()> {
+fn push_bytes_output(
+    out: &mut ExampleOutput,
+    row: &Example<'_>,
+    word: &str,
+    bytes: Vec<u8>,
+) -> Result<()> {
     match word {
         "words" => {
             let reason = Reason::Owned(lossy(out.alloc, &bytes)?);
             push_reason(out, &Verdict::broken(reason))
         }
         "bytes" => {
-            out.text(text_of_bytes(out.alloc, &bytes));
+            out.text(decode_text(out.alloc, &bytes));
             Ok(())
         }
-        "send" => push_sent(out, row, &bytes),
-        "emit" => push_printed(out, &[bytes], false),
+        "send" => push_send_output(out, row, &bytes),
+        "emit" => push_printed_text(out, &[bytes], false),
         _ => Err(ExampleFault::InvalidExample("nothing like that is asked of a reason")),
     }
 }
@@ -83,6 +88,6 @@ pub fn answer(out: &mut ExampleOutput, row: &Example<'_>) -> Result<()> {
         "kind" => push_kind(out, text),
         "number" => push_number(out, text),
         "nothing" => push_reason(out, &Verdict::broken(Reason::Nothing)),
-        _ => push_told(out, row, word, unescape(out.alloc, text)?),
+        _ => push_bytes_output(out, row, word, unescape(out.alloc, text)?),
     }
 }

@@ -15,7 +15,7 @@ pub struct ScriptedFiles<'a> {
     /// The scene whose files, programs and clock are used.
     pub scene: &'a Scene,
     /// The count of timestamps that `moment` has returned so far.
-    pub told: usize,
+    pub moment_count: usize,
 }
 
 /// Returns a copy of the first `READ_LIMIT_BYTES` bytes, or of all bytes if they are fewer.
@@ -62,9 +62,9 @@ impl HostFiles for ScriptedFiles<'_> {
 
     fn moment(&mut self) -> u64 {
         let moments = self.scene.clock.as_slice();
-        let told = self.told;
-        self.told = told.saturating_add(1);
-        match moments.get(told).or(moments.last()) {
+        let index = self.moment_count;
+        self.moment_count = index.saturating_add(1);
+        match moments.get(index).or(moments.last()) {
             Some(moment) => (*moment).min(LATEST_MOMENT_MILLIS),
             None => 0,
         }

@@ -38,12 +38,12 @@ impl<R: ResultStore + Drop> ScriptedResultsHost<R> {
         }
     }
 
-    /// Logs the call `word` with the file name `file`, and fails if the log's allocation fails for
+    /// Logs the call `name` with the file name `file`, and fails if the log's allocation fails for
     /// the first time.
-    fn log_host_call(&mut self, word: &str, file: &str) -> Result<(), NoMemory> {
+    fn log_host_call(&mut self, name: &str, file: &str) -> Result<(), NoMemory> {
         let was_refused = self.calls.text_so_far().is_err();
         self.calls.separate(", ");
-        write!(self.calls, "{word}{file}");
+        write!(self.calls, "{name}{file}");
         if !was_refused {
             self.calls.text_so_far()?;
         }

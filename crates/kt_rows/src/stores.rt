@@ -15,20 +15,20 @@ use std::alloc::Global;
 #[derive(Drop)]
 enum Store<S: Alter + Drop> {
     /// The results tables aren't attached.
-    Open(Connection<S>),
+    Detached(Connection<S>),
     /// The results tables are read and written by SQL.
     Attached(Results<S>),
     /// The results tables are read and written through their B-trees.
-    ByTrees(RunsFile<S>),
+    Trees(RunsFile<S>),
 }
 
 /// Detaches the results tables of a database, and returns its connection. A store that is used
 /// through its trees can't be detached.
 fn detach_store<S: Alter + Drop>(store: Store<S>) -> Result<Connection<S>> {
     match store {
-        Store::Open(connection) => Ok(connection),
+        Store::Detached(connection) => Ok(connection),
         Store::Attached(results) => Ok(results.detach()),
-        Store::ByTrees(_file) => Err(ExampleFault::InvalidExample("the tables are taken twice")),
+        Store::Trees(_file) => Err(ExampleFault::InvalidExample("the tables are taken twice")),
     }
 }
 
@@ -40,12 +40,12 @@ fn into_runs_file<S: Alter + Drop>(results: Results<S>) -> Result<RunsFile<S>> {
     }
 }
 
-/// Attaches the results tables of a database, and appends `attached` or the error. If `is_by_trees`
+/// Attaches the results tables of a database, and appends `attached` or the error. If `uses_trees`
 /// is set, the returned store is used through its trees.
 fn attach<S: Alter + Drop>(
     out: &mut ExampleOutput,
     connection: Connection<S>,
-    is_by_trees: bool,
+    uses_trees: bool,
 ) -> Result<Store<S>> {
     if !connection.is_autocommit() {
         return Err(ExampleFault::InvalidExample("a transaction is open"));
@@ -53,21 +53,21 @@ fn attach<S: Alter + Drop>(
     match Results::attach(out.alloc, connection) {
         Ok(results) => {
             out.push("attached");
-            if is_by_trees {
-                return Ok(Store::ByTrees(into_runs_file(results)?));
+            if uses_trees {
+                return Ok(Store::Trees(into_runs_file(results)?));
             }
             Ok(Store::Attached(results))
         }
         Err((fault, connection)) => {
             out.name(&fault);
-            Ok(Store::Open(connection))
+            Ok(Store::Detached(connection))
         }
     }
 }
 
 /// Executes the store call or the command line in `line` over the store `results`, and appends its
 /// output. `content` are the lines of the entry that a call `put` stores. Returns the store.
-fn ask<R: ResultStore + Drop>(
+fn execute_call<R: ResultStore + Drop>(
     out: &mut ExampleOutput,
     mut results: R,
     line: &ExampleLine<'_>,
@@ -98,37 +98,37 @@ fn execute_by_sql<S: Alter + Drop>(
 ) -> Result<Store<S>> {
     if line.word == "do" {
         let file = into_runs_file(results)?;
-        return Ok(Store::ByTrees(ask(out, file, line, content)?));
+        return Ok(Store::Trees(execute_call(out, file, line, content)?));
     }
     push_call(out, &mut results, line, content)?;
     Ok(Store::Attached(results))
 }
 
 /// Executes the line `line` of an example over a database, and appends its output. `content` are
-/// the lines of the entry that a call `put` stores. If `is_by_trees` is set, an attached store is
+/// the lines of the entry that a call `put` stores. If `uses_trees` is set, an attached store is
 /// used through its trees.
 fn execute_store_line<S: Alter + Drop>(
     out: &mut ExampleOutput,
     store: Store<S>,
-    is_by_trees: bool,
+    uses_trees: bool,
     line: &ExampleLine<'_>,
     content: &[ExampleLine<'_>],
 ) -> Result<Store<S>> {
     out.separate("\n");
     match line.word {
-        "attach" => attach(out, detach_store(store)?, is_by_trees),
+        "attach" => attach(out, detach_store(store)?, uses_trees),
         "sql" => {
             let mut connection = detach_store(store)?;
             if connection.execute(line.text, &[]).is_err() {
                 return Err(ExampleFault::InvalidExample("the statement fails"));
             }
             out.push("done");
-            Ok(Store::Open(connection))
+            Ok(Store::Detached(connection))
         }
         _ => match store {
-            Store::Open(_) => Err(ExampleFault::InvalidExample("no tables were taken")),
+            Store::Detached(_) => Err(ExampleFault::InvalidExample("no tables were taken")),
             Store::Attached(results) => execute_by_sql(out, results, line, content),
-            Store::ByTrees(file) => Ok(Store::ByTrees(ask(out, file, line, content)?)),
+            Store::Trees(file) => Ok(Store::Trees(execute_call(out, file, line, content)?)),
         },
     }
 }
@@ -138,16 +138,16 @@ fn execute_store_line<S: Alter + Drop>(
 fn execute_on_database(
     alloc: Global,
     lines: &[ExampleLine<'_>],
-    is_by_trees: bool,
+    uses_trees: bool,
 ) -> Result<String> {
     let mut out = ExampleOutput::new(alloc);
-    let mut store = Store::Open(Connection::open_in_memory(alloc)?);
+    let mut store = Store::Detached(Connection::open_in_memory(alloc)?);
     for (place, line) in lines.iter().enumerate() {
         if !is_entry_line(line) {
             store = execute_store_line(
                 &mut out,
                 store,
-                is_by_trees,
+                uses_trees,
                 line,
                 entry_lines_at(lines, place),
             )?;
@@ -165,27 +165,27 @@ fn uses_connection_again(lines: &[ExampleLine<'_>]) -> bool {
 }
 
 /// Returns `true` if an output contains the error of a failed allocation.
-fn has_memory_error(answer: &str) -> bool {
-    answer.contains("NoMemory") || answer.contains("out of memory")
+fn has_memory_error(output: &str) -> bool {
+    output.contains("NoMemory") || output.contains("out of memory")
 }
 
-/// Appends `by_sql`, the output of the execution by SQL, and also `of_trees`, the output of the
+/// Appends `by_sql`, the output of the execution by SQL, and also `by_trees`, the output of the
 /// execution through trees, if it differs. If one output reports a failed allocation, only that
 /// output is appended, because the other execution didn't have that failure.
-fn push_common_output(out: &mut ExampleOutput, by_sql: &str, of_trees: &str) {
-    if by_sql == of_trees || has_memory_error(by_sql) {
+fn push_common_output(out: &mut ExampleOutput, by_sql: &str, by_trees: &str) {
+    if by_sql == by_trees || has_memory_error(by_sql) {
         out.push(by_sql);
-    } else if has_memory_error(of_trees) {
-        out.push(of_trees);
+    } else if has_memory_error(by_trees) {
+        out.push(by_trees);
     } else {
         out.push(by_sql);
         out.line("by its trees:");
-        out.line(of_trees);
+        out.line(by_trees);
     }
 }
 
 /// Executes the lines of an example over a store in memory, and appends their outputs.
-fn run_in_memory(
+fn execute_in_memory(
     out: &mut ExampleOutput,
     lines: &[ExampleLine<'_>],
     mut runs: FailingStore,
@@ -193,7 +193,7 @@ fn run_in_memory(
     for (place, line) in lines.iter().enumerate() {
         if !is_entry_line(line) {
             out.separate("\n");
-            runs = ask(out, runs, line, entry_lines_at(lines, place))?;
+            runs = execute_call(out, runs, line, entry_lines_at(lines, place))?;
         }
     }
     Ok(())
@@ -210,7 +210,7 @@ pub fn answer(out: &mut ExampleOutput, row: &Example<'_>) -> Result<()> {
     let lines = row.entries.as_slice();
     if let Some((first, calls)) = lines.split_first() {
         if first.word == "memory" {
-            return run_in_memory(out, calls, FailingStore::of(out.alloc, row)?);
+            return execute_in_memory(out, calls, FailingStore::new(out.alloc, row)?);
         }
     }
     let by_sql = execute_on_database(out.alloc, lines, false)?;
@@ -218,7 +218,7 @@ pub fn answer(out: &mut ExampleOutput, row: &Example<'_>) -> Result<()> {
         out.push(by_sql.as_str());
         return Ok(());
     }
-    let of_trees = execute_on_database(out.alloc, lines, true)?;
-    push_common_output(out, by_sql.as_str(), of_trees.as_str());
+    let by_trees = execute_on_database(out.alloc, lines, true)?;
+    push_common_output(out, by_sql.as_str(), by_trees.as_str());
     Ok(())
 }

@@ -14,14 +14,14 @@ use std::slice;
 /// - `InvalidExample`: an escape is invalid, or an argument isn't UTF-8.
 /// - `NoMemory`: an allocation failed.
 pub fn split_command_line(alloc: Global, line: &str) -> Result<Vec<String>> {
-    let mut words = Vec::new(alloc);
-    for word in line.split_whitespace() {
+    let mut arguments = Vec::new(alloc);
+    for argument in line.split_whitespace() {
         push_or_fail(
-            &mut words,
-            unescape_text(alloc, word).map(Text::into_string),
+            &mut arguments,
+            unescape_text(alloc, argument).map(Text::into_string),
         )?;
     }
-    Ok(words)
+    Ok(arguments)
 }
 
 /// Parses a command line, and returns the command or the error in its arguments.
@@ -31,8 +31,8 @@ pub fn split_command_line(alloc: Global, line: &str) -> Result<Vec<String>> {
 /// - `InvalidExample`: an escape is invalid, or an argument isn't UTF-8.
 /// - `NoMemory`: an allocation outside `read_command` failed.
 pub fn parse_command_line(alloc: Global, line: &str) -> Result<Result<Command, CommandFault>> {
-    let words = split_command_line(alloc, line)?;
-    Ok(read_command(alloc, words.as_slice()))
+    let arguments = split_command_line(alloc, line)?;
+    Ok(read_command(alloc, arguments.as_slice()))
 }
 
 /// Appends each value of an option after `name`.
@@ -44,7 +44,7 @@ fn push_values(out: &mut ExampleOutput, name: &str, values: &[Text]) {
 
 /// Appends the command `name`, which is `list`, `test` or `debug`, and its options: Kyuafile, work
 /// directory, results file, configuration, variables and filters.
-fn push_cases(out: &mut ExampleOutput, name: &str, options: &CaseOptions, results: &[Text]) {
+fn push_case_command(out: &mut ExampleOutput, name: &str, options: &CaseOptions, results: &[Text]) {
     let (kyuafile, work) = (options.kyuafile.as_str(), options.work.as_str());
     write!(out, "{name} {kyuafile}, work {work}");
     push_values(out, ", results ", results);
@@ -55,7 +55,7 @@ fn push_cases(out: &mut ExampleOutput, name: &str, options: &CaseOptions, result
 
 /// Appends the report command `name` and its options: run, results file, configuration and
 /// variables.
-fn push_report(out: &mut ExampleOutput, name: &str, options: &ReportOptions) {
+fn push_report_command(out: &mut ExampleOutput, name: &str, options: &ReportOptions) {
     match options.run {
         Some(run) => write!(out, "{name} {run}"),
         None => write!(out, "{name} last"),
@@ -68,24 +68,24 @@ fn push_report(out: &mut ExampleOutput, name: &str, options: &ReportOptions) {
 /// Appends a command and the values of its options.
 fn push_command(out: &mut ExampleOutput, command: &Command) {
     match command {
-        Command::List(options) => push_cases(out, "list", options, &[]),
+        Command::List(options) => push_case_command(out, "list", options, &[]),
         Command::Test { options, results } => {
-            push_cases(out, "test", options, slice::from_ref(results));
+            push_case_command(out, "test", options, slice::from_ref(results));
         }
-        Command::Debug(options) => push_cases(out, "debug", options, &[]),
+        Command::Debug(options) => push_case_command(out, "debug", options, &[]),
         Command::Report {
             options,
             kinds,
             verbose,
         } => {
-            push_report(out, "report", options);
+            push_report_command(out, "report", options);
             out.push(", kinds");
             for kind in kinds.as_slice() {
                 write!(out, " {}", kind.word());
             }
             out.push(if *verbose { ", verbose" } else { "" });
         }
-        Command::ReportJunit(options) => push_report(out, "report-junit", options),
+        Command::ReportJunit(options) => push_report_command(out, "report-junit", options),
     }
 }
 
@@ -99,15 +99,18 @@ fn push_fault(out: &mut ExampleOutput, fault: &CommandFault) {
 }
 
 /// Returns the arguments of the line `line WORDS`, and then N times the argument of `times N WORD`.
-fn example_args(alloc: Global, row: &Example<'_>) -> Result<Vec<String>> {
+fn parse_arguments(alloc: Global, row: &Example<'_>) -> Result<Vec<String>> {
     let line = due(row.text("line"), "the row has no command line")?;
-    let mut words = split_command_line(alloc, line)?;
+    let mut arguments = split_command_line(alloc, line)?;
     let times = row.text("times").unwrap_or("0 ");
-    let (count, word) = split_required(times, " ", "a number and a word are due")?;
+    let (count, argument) = split_required(times, " ", "a number and a word are due")?;
     for _ in 0..number(count)? {
-        push_or_fail(&mut words, convert_error(String::from_str(alloc, word)))?;
+        push_or_fail(
+            &mut arguments,
+            convert_error(String::from_str(alloc, argument)),
+        )?;
     }
-    Ok(words)
+    Ok(arguments)
 }
 
 /// Parses the command line of an example, and appends the command or the error. The example has
@@ -118,7 +121,7 @@ fn example_args(alloc: Global, row: &Example<'_>) -> Result<Vec<String>> {
 /// - `InvalidExample`: a line is missing or invalid.
 /// - `NoMemory`: an allocation outside `read_command` failed.
 pub fn answer(out: &mut ExampleOutput, row: &Example<'_>) -> Result<()> {
-    match read_command(out.alloc, example_args(out.alloc, row)?.as_slice()) {
+    match read_command(out.alloc, parse_arguments(out.alloc, row)?.as_slice()) {
         Ok(command) => push_command(out, &command),
         Err(fault) => push_fault(out, &fault),
     }
