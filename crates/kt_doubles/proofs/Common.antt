@@ -16,5 +16,5 @@ pub use Rattle.kt_store.specs.declared.result_store.CaseOutputs.{CaseOutputs}
 pub use Rattle.kt_store.specs.declared.result_store.RunHead.{RunHead}
 pub use Rattle.kt_store.specs.declared.store_fault.StoreFault.{StoreFault}
 pub use Rattle.kt_store.specs.declared.store_fault.StoreFault.TheVariants.{NoRun}
-pub use Rattle.kt_doubles.specs.Children.{is_cleanup_pending, shown}
-pub use Rattle.kt_doubles.specs.MemoryRuns.{FindsPlace, LeavesInMemory, ServesInMemory, closing_refusal, entry_refusal, memory_runs, insert_index}
+pub use Rattle.kt_doubles.specs.Children.{is_cleanup_pending, running_child_at}
+pub use Rattle.kt_doubles.specs.MemoryRuns.{FindsPlace, LeavesInMemory, ServesInMemory, finish_error, put_error, memory_runs, insert_index}

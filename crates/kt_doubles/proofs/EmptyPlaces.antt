@@ -1,6 +1,6 @@
 -- Launchers without children, and positions past the last.
 use Rattle.std.proofs.Common.{Some, None, slice_index_or, replicate, ◌≡◌, ◌<◌, ℕ, zero, suc, List, [], length, refl, ap, arith, inl, inr}
-use Rattle.kt_doubles.proofs.Common.{Role, shown, is_cleanup_pending}
+use Rattle.kt_doubles.proofs.Common.{Role, running_child_at, is_cleanup_pending}
 use Rattle.std.proofs.lemmas.Bool.{cases_lt}
 use Rattle.std.proofs.lemmas.List.{get_or_past}
 use Rattle.kt_sched.specs.Children.{Child, IsIdle}
@@ -9,14 +9,14 @@ use Rattle.kt_doubles.specs.declared.children.ChildSlot.{ChildSlot}
 use Rattle.kt_doubles.specs.declared.children.ChildSlot.TheVariants.{Free}
 
 -- No child runs at any position if none runs at the first 2048 positions.
-pub nowhere : (places : List ChildSlot) → length places ≡ 2048 → ((i : ℕ) (r : Role) → i < 2048 → shown places i r ≡ None) → (i : ℕ) (r : Role) (child : Child) → shown places i r ≡ Some child → ⊥
+pub nowhere : (places : List ChildSlot) → length places ≡ 2048 → ((i : ℕ) (r : Role) → i < 2048 → running_child_at places i r ≡ None) → (i : ℕ) (r : Role) (child : Child) → running_child_at places i r ≡ Some child → ⊥
 nowhere places b h i r child e = elim (cases_lt i 2048) [
   | inl l ↦ cc (h i r l, e)
   | inr l ↦ cc (ap (λ (p : ChildSlot). child_in p r) (get_or_past places i Free (omega (arith, b, l))), e)
 ]
 
 -- A launcher without running children and pending cleanups is idle.
-pub idle : (places : List ChildSlot) → ((k : ℕ) → slice_index_or places k Free ≡ Free) → IsIdle (shown places) (is_cleanup_pending places)
+pub idle : (places : List ChildSlot) → ((k : ℕ) → slice_index_or places k Free ≡ Free) → IsIdle (running_child_at places) (is_cleanup_pending places)
 idle places h = record { runs = λ k r. ap (λ (p : ChildSlot). child_in p r) (h k); pends = λ k. ap is_pending_slot (h k) }
 
 -- Each element of `replicate n x` is `x`.

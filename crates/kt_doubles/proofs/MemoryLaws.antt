@@ -1,7 +1,7 @@
 -- Lookups and changes of runs in memory obey the contract of a store.
 use Rattle.std.proofs.Common.{Option, Some, None, Ok, Err, true, slice_get, insert, ◌==◌, ◌≡◌, ℕ, ◌≤◌, List, [], ◌∷◌, length, arith, refl, sym, ap, ◌∙◌, get_or, set, inr, subst, unwrap_or}
 use Rattle.std.proofs.lemmas.Option.{slice_get_read}
-use Rattle.kt_doubles.proofs.Common.{find, nat_tests, set-get_or, Entry, Run, StoreFault, NoRun, CaseOutputs, outputs_of, entry_at, AreNumbered, insert_by_position, run_at, put_refusal_of, finish_refusal_of, Agrees, Serves, runs_after, StoreCall, Put, Finished, Head, Outputs, RunHead, head_of, option_map, LeavesInMemory, memory_runs, ServesInMemory, FindsPlace, entry_refusal, closing_refusal, insert_index}
+use Rattle.kt_doubles.proofs.Common.{find, nat_tests, set-get_or, Entry, Run, StoreFault, NoRun, CaseOutputs, outputs_of, entry_at, AreNumbered, insert_by_position, run_at, put_refusal_of, finish_refusal_of, Agrees, Serves, runs_after, StoreCall, Put, Finished, Head, Outputs, RunHead, head_of, option_map, LeavesInMemory, memory_runs, ServesInMemory, FindsPlace, put_error, finish_error, insert_index}
 use Rattle.kt_store.proofs.RunsByNumber.{run_found}
 use Rattle.kt_store.proofs.Numbered.{numbers_changed, ordered_changed}
 use Rattle.kt_store.proofs.ServeLemmas.{always_outlasts}
@@ -40,11 +40,11 @@ module _ (old xs : List Run) (number place : ℕ) (run : Run) (s : xs ≡ old) (
   there = ap (λ (k : ℕ). run_at old k) f.0 ∙ at_place
 
   -- a put that fails meets `ServesInMemory`
-  pub put_refused : (e : Entry) (fault : StoreFault) → Some fault ≡ entry_refusal run e.position → ServesInMemory old (Put number e (Err fault)) (set xs place run)
+  pub put_refused : (e : Entry) (fault : StoreFault) → Some fault ≡ put_error run e.position → ServesInMemory old (Put number e (Err fault)) (set xs place run)
   put_refused e fault h = (inr (ap (λ (o : Option Run). put_refusal_of o e) there ∙ sym h), λ _. same_list xs old place run s r)
 
   -- a put that succeeds meets `ServesInMemory`
-  pub put_well : (e : Entry) (entries : List Entry) → None ≡ entry_refusal run e.position → entries ≡ insert_by_position e run.entries → ServesInMemory old (Put number e (Ok tt)) (set xs place (record run { entries = entries }))
+  pub put_well : (e : Entry) (entries : List Entry) → None ≡ put_error run e.position → entries ≡ insert_by_position e run.entries → ServesInMemory old (Put number e (Ok tt)) (set xs place (record run { entries = entries }))
   put_well e entries h k = (
     ap (λ (o : Option Run). put_refusal_of o e) there ∙ sym h,
     λ n. ap (λ (es : List Entry). set xs place (record run { entries = es })) k ∙ ap (λ (l : List Run). set l place (record run { entries = insert_by_position e run.entries })) s
@@ -61,11 +61,11 @@ module _ (old xs : List Run) (number place : ℕ) (run : Run) (s : xs ≡ old) (
   outputs_missing position at = (inr (refl, ap (λ (o : Option Run). entry_at o position) there ∙ sym at), λ _. refl)
 
   -- a finish that fails meets `ServesInMemory`
-  pub end_refused : (fault : StoreFault) → Some fault ≡ closing_refusal run → ServesInMemory old (Finished number (Err fault)) (set xs place run)
+  pub end_refused : (fault : StoreFault) → Some fault ≡ finish_error run → ServesInMemory old (Finished number (Err fault)) (set xs place run)
   end_refused fault h = (inr (ap finish_refusal_of there ∙ sym h), λ _. same_list xs old place run s r)
 
   -- a finish that succeeds meets `ServesInMemory`
-  pub end_well : None ≡ closing_refusal run → ServesInMemory old (Finished number (Ok tt)) (set xs place (record run { finished = true }))
+  pub end_well : None ≡ finish_error run → ServesInMemory old (Finished number (Ok tt)) (set xs place (record run { finished = true }))
   end_well h = (
     ap finish_refusal_of there ∙ sym h,
     λ n. ap (λ (l : List Run). set l place (record run { finished = true })) s ∙ finish_placed 1 place number old run n (f.0 ∙ omega arith) at_place,

@@ -18,10 +18,10 @@ abbrev pub is_pending_slot : ChildSlot → Bool
 is_pending_slot CleanupPending = true
 is_pending_slot place = false
 
--- `shown places k role`: the running child in the role `role` of the case at position `k` of
--- `places`, or `None`.
-abbrev pub shown : List ChildSlot → ℕ → Role → Option Child
-shown places k role = child_in (slice_index_or places k Free) role
+-- `running_child_at places k role`: the running child in the role `role` of the case at position
+-- `k` of `places`, or `None`.
+abbrev pub running_child_at : List ChildSlot → ℕ → Role → Option Child
+running_child_at places k role = child_in (slice_index_or places k Free) role
 
 -- `is_cleanup_pending places k`: the case at position `k` of `places` has a pending cleanup.
 abbrev pub is_cleanup_pending : List ChildSlot → ℕ → Bool

@@ -52,16 +52,16 @@ abbrev pub insert_index : ℕ → List Entry → ℕ
 insert_index position [] = 0
 insert_index position (x ∷ es) = if nat_lt position x.position then 0 else suc (insert_index position es)
 
--- `entry_refusal run position`: the first error that applies to a put of an entry at `position`
--- into `run`, or `None` if `run` accepts the entry.
-abbrev pub entry_refusal : Run → ℕ → Option StoreFault
-entry_refusal run position =
+-- `put_error run position`: the first error that applies to a put of an entry at `position` into
+-- `run`, or `None` if `run` accepts the entry.
+abbrev pub put_error : Run → ℕ → Option StoreFault
+put_error run position =
     if run.finished then Some RunClosed
     else if nat_le run.total position then Some BadPosition
     else if has_position position run.entries then Some RepeatedPosition
     else None
 
--- `closing_refusal run`: the first error that applies to finishing `run`, or `None` if `run` can be
+-- `finish_error run`: the first error that applies to finishing `run`, or `None` if `run` can be
 -- finished.
-abbrev pub closing_refusal : Run → Option StoreFault
-closing_refusal run = if run.finished then Some RunClosed else if nat_lt (length run.entries) run.total then Some Incomplete else None
+abbrev pub finish_error : Run → Option StoreFault
+finish_error run = if run.finished then Some RunClosed else if nat_lt (length run.entries) run.total then Some Incomplete else None

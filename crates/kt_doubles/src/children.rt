@@ -4,7 +4,7 @@ ghost use Rattle.std.specs.Prelude.{◌≡◌, ◌==◌, ◌<◌, ℕ, None, Som
 ghost use Rattle.kt_base.specs.declared.child.Role.{Role};
 ghost use Rattle.kt_sched.specs.Children.{Child};
 ghost use Rattle.kt_doubles.specs.declared.children.ChildSlot.TheVariants.{Free as TheFree};
-ghost use Rattle.kt_doubles.specs.Children.{shown};
+ghost use Rattle.kt_doubles.specs.Children.{running_child_at};
 
 use kt_base::{Interface, Role};
 
@@ -40,21 +40,21 @@ pub fn free_slots() -> ChildSlots
     [ChildSlot::Free; 2048]
 }
 
-/// Sets the state of the case at position `at` of `places` to `place`.
-pub fn write(places: &mut ChildSlots, at: u32, place: ChildSlot)
+/// Sets the state of the case at position `at` of `places` to `slot`.
+pub fn set_slot(places: &mut ChildSlots, at: u32, slot: ChildSlot)
     requires { at < 2048 }
     ensures { (k : ℕ) → slice_index_or places.new k TheFree
-        ≡ (if k == at then place else slice_index_or places.old k TheFree) }
+        ≡ (if k == at then slot else slice_index_or places.old k TheFree) }
 {
-    places[at as usize] = place;
+    places[at as usize] = slot;
 }
 
 /// Returns the running child of the case at position `at` of `places`, or `None` if the case has no
 /// running child.
 fn child_at(places: &ChildSlots, at: u32) -> Option<SlotChild>
     requires { at < 2048 }
-    ensures none { result ≡ None → (role : Role) → shown places.now at role ≡ None }
-    ensures runs { IfSome result (λ c. shown places.now at c.0
+    ensures none { result ≡ None → (role : Role) → running_child_at places.now at role ≡ None }
+    ensures runs { IfSome result (λ c. running_child_at places.now at c.0
         ≡ Some (record { interface = c.1; cleanup = c.2 })) }
 {
     match places[at as usize] {
@@ -68,9 +68,9 @@ fn child_at(places: &ChildSlots, at: u32) -> Option<SlotChild>
 /// with its position. The caller guarantees that a child is running.
 pub fn running_child(places: &ChildSlots, named: u32) -> (u32, SlotChild)
     requires { (i : ℕ) × (role : Role) × (child : Child)
-        × (shown places.now i role ≡ Some child) }
+        × (running_child_at places.now i role ≡ Some child) }
     ensures within { result.0 < 2048 }
-    ensures runs { shown places.now result.0 result.1.0
+    ensures runs { running_child_at places.now result.0 result.1.0
         ≡ Some (record { interface = result.1.1; cleanup = result.1.2 }) }
 {
     if named < MAX_POSITIONS {

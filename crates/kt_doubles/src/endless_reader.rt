@@ -1,35 +1,36 @@
 use std::io;
 use std::io::{ErrorKind, Read};
 
-/// A `Read` that never reaches the end of its data. After `reads` reads, all later reads fail.
+/// A `Read` that never reaches the end of its data. After `remaining_reads` reads, all later reads
+/// fail.
 #[derive(Drop)]
 pub struct EndlessReader {
     /// The maximum number of bytes that a read returns.
-    pub piece: usize,
+    pub max_read_bytes: usize,
     /// The number of reads that succeed from now on, before the first that fails.
-    pub reads: u64,
+    pub remaining_reads: u64,
     /// `true` if reads fail with `Interrupted`, `false` if they fail with `Other`.
-    pub interrupted: bool,
+    pub is_interrupted: bool,
     /// The number of bytes that the reads returned.
-    pub given: usize,
+    pub returned_bytes: usize,
     /// The number of reads that failed.
-    pub failed: u64,
+    pub failed_reads: u64,
 }
 
 impl Read for EndlessReader {
     fn read(&mut self, buffer: &mut [u8]) -> io::Result<usize> {
-        if self.reads == 0 {
-            self.failed = self.failed.saturating_add(1);
-            let kind = if self.interrupted {
+        if self.remaining_reads == 0 {
+            self.failed_reads = self.failed_reads.saturating_add(1);
+            let kind = if self.is_interrupted {
                 ErrorKind::Interrupted
             } else {
                 ErrorKind::Other
             };
             return Err(io::Error::from(kind));
         }
-        self.reads -= 1;
-        let count = self.piece.min(buffer.len());
-        self.given = self.given.saturating_add(count);
+        self.remaining_reads -= 1;
+        let count = self.max_read_bytes.min(buffer.len());
+        self.returned_bytes = self.returned_bytes.saturating_add(count);
         Ok(count)
     }
 }

@@ -1,4 +1,4 @@
-use crate::{provoke_store_error, shortage};
+use crate::{provoke_no_memory, provoke_store_error};
 use kt_base::NoMemory;
 use kt_examples::{Example, Result, number};
 use kt_store::{DatabaseFailure, StoreFault};
@@ -10,12 +10,12 @@ pub struct FailingCalls {
     /// The number of calls so far.
     calls: u64,
     /// The numbers of the first and the last call that fail, counted from 1, or 0 and 0 for none.
-    refused: (u64, u64),
+    failing_range: (u64, u64),
     /// The error of the calls that a line `refused` makes fail.
-    failed: DatabaseFailure,
+    failure: DatabaseFailure,
     /// The error of the calls that a line `refused-memory` makes fail, or `None` if the example has
     /// no such line.
-    shortage: Option<NoMemory>,
+    no_memory: Option<NoMemory>,
 }
 
 impl FailingCalls {
@@ -31,17 +31,17 @@ impl FailingCalls {
     /// - `InvalidExample`: CALLS isn't one or two numbers, or the real error for the calls can't be
     ///   provoked.
     /// - `NoMemory`: an allocation failed.
-    pub fn of(alloc: Global, row: &Example<'_>) -> Result<FailingCalls> {
-        let (calls, shortage) = match row.text("refused-memory") {
-            Some(calls) => (calls, Some(shortage(alloc)?)),
+    pub fn parse(alloc: Global, row: &Example<'_>) -> Result<FailingCalls> {
+        let (calls, no_memory) = match row.text("refused-memory") {
+            Some(calls) => (calls, Some(provoke_no_memory(alloc)?)),
             None => (row.text("refused").unwrap_or("0"), None),
         };
         let (first, last) = calls.split_once(' ').unwrap_or((calls, calls));
         Ok(FailingCalls {
             calls: 0,
-            refused: (number(first)?, number(last)?),
-            failed: provoke_store_error(alloc)?,
-            shortage,
+            failing_range: (number(first)?, number(last)?),
+            failure: provoke_store_error(alloc)?,
+            no_memory,
         })
     }
 
@@ -52,18 +52,18 @@ impl FailingCalls {
     ///
     /// - `NoMemory`: the call is in the range of `refused-memory`.
     /// - `Store`: the call is in the range of `refused`.
-    pub fn ask(&mut self) -> Result<(), StoreFault>
+    pub fn count_call(&mut self) -> Result<(), StoreFault>
         ensures { IfErr result IsDatabaseFault }
     {
         let call = self.calls.saturating_add(1);
         self.calls = call;
-        let (first, last) = self.refused;
+        let (first, last) = self.failing_range;
         if call < first || last < call {
             return Ok(());
         }
-        match self.shortage {
+        match self.no_memory {
             Some(refusal) => Err(StoreFault::from(refusal)),
-            None => Err(StoreFault::Store(self.failed)),
+            None => Err(StoreFault::Store(self.failure)),
         }
     }
 }

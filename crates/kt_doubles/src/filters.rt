@@ -8,7 +8,7 @@ use std::alloc::Global;
 
 /// The cases and the filters that the lines of an example have added so far.
 #[derive(Drop)]
-struct FilterExample {
+struct FilterState {
     /// The cases, in the order of their lines.
     items: Vec<Item>,
     /// The filters, in the order of their lines.
@@ -46,14 +46,14 @@ fn push_parsed_filter(out: &mut ExampleOutput, raw: &str) -> Result<()> {
     Ok(())
 }
 
-/// Appends `word`, followed by each of the positions `places` after a space, or by ` none` without
-/// positions.
-fn push_position_list(out: &mut ExampleOutput, word: &str, places: &[usize]) {
-    out.push(word);
-    for place in places {
-        write!(out, " {place}");
+/// Appends `label`, followed by each of the positions `positions` after a space, or by ` none`
+/// without positions.
+fn push_position_list(out: &mut ExampleOutput, label: &str, positions: &[usize]) {
+    out.push(label);
+    for position in positions {
+        write!(out, " {position}");
     }
-    if places.is_empty() {
+    if positions.is_empty() {
         out.push(" none");
     }
 }
@@ -68,7 +68,7 @@ fn push_disjoint(out: &mut ExampleOutput, filters: &[Filter]) {
     }
 }
 
-impl FilterExample {
+impl FilterState {
     /// Adds the filter or the case in `raw` to the example, as the keyword `word` selects.
     fn add(&mut self, alloc: Global, word: &str, raw: &str) -> Result<()> {
         match word {
@@ -79,7 +79,7 @@ impl FilterExample {
 
     /// Executes `line`, which adds filters or cases or is a query, and appends the output of a
     /// query.
-    fn take(&mut self, out: &mut ExampleOutput, line: &ExampleLine<'_>) -> Result<()> {
+    fn execute_line(&mut self, out: &mut ExampleOutput, line: &ExampleLine<'_>) -> Result<()> {
         match line.word {
             "filter" | "item" => self.add(out.alloc, line.word, line.text),
             "filters" | "items" => {
@@ -107,10 +107,10 @@ impl FilterExample {
     }
 
     /// Appends the positions of the selected cases and of the filters that match no case. The
-    /// output is `cases 0 2, unmatched none`, or `2 cases, 0 unmatched` if `brief` is set.
-    fn push_selection(&self, out: &mut ExampleOutput, brief: bool) {
+    /// output is `cases 0 2, unmatched none`, or `2 cases, 0 unmatched` if `is_brief` is set.
+    fn push_selection(&self, out: &mut ExampleOutput, is_brief: bool) {
         match select(out.alloc, &self.items, &self.filters) {
-            Ok(found) if brief => {
+            Ok(found) if is_brief => {
                 let (cases, unmatched) = (found.cases.len(), found.unmatched.len());
                 write!(out, "{cases} cases, {unmatched} unmatched");
             }
@@ -149,12 +149,12 @@ impl FilterExample {
 /// - `InvalidExample`: a line is invalid.
 /// - `NoMemory`: an allocation failed.
 pub fn answer(out: &mut ExampleOutput, row: &Example<'_>) -> Result<()> {
-    let mut example = FilterExample {
+    let mut example = FilterState {
         items: Vec::new(out.alloc),
         filters: Vec::new(out.alloc),
     };
     for line in row.entries.as_slice() {
-        example.take(out, line)?;
+        example.execute_line(out, line)?;
     }
     Ok(())
 }

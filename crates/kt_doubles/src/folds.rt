@@ -41,7 +41,7 @@ fn push_block(out: &mut ExampleOutput, block: &[&str], times: usize) {
 
 /// Appends `lines` with commas between them, and consecutive copies of a block only once: `poll 0
 /// x100`, or `(poll 0, pause) x99`.
-pub fn push_folded(out: &mut ExampleOutput, lines: &[&str]) {
+pub fn push_folded_lines(out: &mut ExampleOutput, lines: &[&str]) {
     let mut at: usize = 0;
     for _ in 0..lines.len() {
         if at >= lines.len() {

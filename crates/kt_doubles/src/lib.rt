@@ -24,7 +24,7 @@ pub use failing_calls::FailingCalls;
 use kt_examples::{Example, ExampleOutput, Result};
 pub use mem_runs::MemRuns;
 pub use scene::{Scene, fail_allocation};
-pub use scene_reading::{parse_scene, provoke_store_error, shortage};
+pub use scene_reading::{parse_scene, provoke_no_memory, provoke_store_error};
 pub use scripted_system::ScriptedSystem;
 pub use store_calls::{push_call, push_runs, state_text};
 pub use systems::push_calls;

@@ -64,7 +64,7 @@ impl MemRuns {
         };
         match self.runs.push(run) {
             Ok(()) => Ok(number),
-            Err(refusal) => Err(short(NoMemory::from(refusal))),
+            Err(refusal) => Err(convert_no_memory(NoMemory::from(refusal))),
         }
     }
 
@@ -92,7 +92,7 @@ impl MemRuns {
             return Err(fault);
         }
         if let Err(refusal) = add_copy(alloc, &mut run.entries, entry) {
-            return Err(short(refusal));
+            return Err(convert_no_memory(refusal));
         }
         Ok(())
     }
@@ -119,7 +119,7 @@ impl MemRuns {
         let place = self.place(number)?;
         match outline_entries(self.alloc, self.runs[place].entries.as_slice()) {
             Ok(entries) => Ok(entries),
-            Err(refusal) => Err(short(refusal)),
+            Err(refusal) => Err(convert_no_memory(refusal)),
         }
     }
 
@@ -136,7 +136,7 @@ impl MemRuns {
         };
         match entry.meta.copy() {
             Ok(pairs) => Ok(pairs),
-            Err(refusal) => Err(short(refusal)),
+            Err(refusal) => Err(convert_no_memory(refusal)),
         }
     }
 
@@ -153,7 +153,7 @@ impl MemRuns {
         };
         match copy_outputs(entry) {
             Ok(outputs) => Ok(outputs),
-            Err(refusal) => Err(short(refusal)),
+            Err(refusal) => Err(convert_no_memory(refusal)),
         }
     }
 
@@ -219,12 +219,12 @@ impl ResultStore for MemRuns {
 }
 
 ghost use Rattle.std.specs.Prelude.{◌≡◌, ◌≤◌, ◌==◌, IfSome, length, insert, OnOk, OnErr};
-ghost use Rattle.kt_doubles.specs.Common.{find, option_copied, IsDatabaseFault, head_of, has_position, insert_by_position, entry_refusal, closing_refusal, insert_index};
+ghost use Rattle.kt_doubles.specs.Common.{find, option_copied, IsDatabaseFault, head_of, has_position, insert_by_position, put_error, finish_error, insert_index};
 ghost use Rattle.kt_base.specs.declared.entry.Entry.{Entry as Recorded};
 ghost use Rattle.kt_base.specs.declared.entry.Run.{Run as RunValue};
 
 /// Converts the failed allocation `refusal` to the error that a store returns for it.
-fn short(refusal: NoMemory) -> StoreFault
+fn convert_no_memory(refusal: NoMemory) -> StoreFault
     ensures { IsDatabaseFault result }
 {
     StoreFault::from(refusal)
@@ -309,7 +309,7 @@ fn has_position(entries: &[Entry], position: u32) -> bool
 /// Returns the first error that applies to a put of an entry with `position` into a run. Returns
 /// `None` if the run accepts the entry.
 fn put_fault(run: &Run, position: u32) -> Option<StoreFault>
-    ensures { result ≡ entry_refusal run.now position }
+    ensures { result ≡ put_error run.now position }
 {
     if run.finished {
         return Some(StoreFault::RunClosed);
@@ -326,7 +326,7 @@ fn put_fault(run: &Run, position: u32) -> Option<StoreFault>
 /// Returns the first error that applies to finishing a run. Returns `None` if the run can be
 /// finished.
 fn finish_fault(run: &Run) -> Option<StoreFault>
-    ensures { result ≡ closing_refusal run.now }
+    ensures { result ≡ finish_error run.now }
 {
     if run.finished {
         return Some(StoreFault::RunClosed);

@@ -6,9 +6,9 @@ use std::alloc::Global;
 #[derive(Clone, Copy)]
 pub struct ChildScript {
     /// The number of polls that find the child running.
-    pub running: u32,
+    pub running_polls: u32,
     /// The result of later polls: an exit status or a signal.
-    pub ending: Polled,
+    pub exit: Polled,
 }
 
 /// A fault in reading a file in parts, which the scripted system has and a real system never has.
@@ -19,7 +19,7 @@ pub enum PartFault {
     /// Each part after the first is empty, although more bytes follow.
     EmptyPart,
     /// After the first part the file is missing.
-    Gone,
+    MissingFile,
 }
 
 /// A file of a scripted system (`Os`) or of scripted host files (`HostFiles`).
@@ -39,16 +39,16 @@ pub struct Scene {
     pub alloc: Global,
     /// The scripts of the children, in the order of their starts. Later children have the last
     /// script, too.
-    pub lives: Vec<ChildScript>,
+    pub child_scripts: Vec<ChildScript>,
     /// The files that can be read.
     pub files: Vec<SceneFile>,
     /// The contents of every other file, or `None` if other files are missing.
-    pub others: Option<Vec<u8>>,
+    pub default_bytes: Option<Vec<u8>>,
     /// The range of calls of the system that fail: the number of the first, counted from 0, and the
     /// number of the last plus 1.
-    pub failing: (u32, u32),
+    pub failing_calls: (u32, u32),
     /// The failed allocation that these calls return as their error, or `None` for another error.
-    pub shortage: Option<NoMemory>,
+    pub no_memory: Option<NoMemory>,
     /// The fault of reading a file in parts.
     pub part_fault: PartFault,
     /// The timestamps that the system returns, in milliseconds since 1970 in UTC.
@@ -70,11 +70,11 @@ impl Scene {
     pub fn new(alloc: Global) -> Scene {
         Scene {
             alloc,
-            lives: Vec::new(alloc),
+            child_scripts: Vec::new(alloc),
             files: Vec::new(alloc),
-            others: None,
-            failing: (0, 0),
-            shortage: None,
+            default_bytes: None,
+            failing_calls: (0, 0),
+            no_memory: None,
             part_fault: PartFault::None,
             moments: Vec::new(alloc),
             step: 1,
@@ -84,17 +84,17 @@ impl Scene {
     }
 
     /// Returns the contents of the file at `path`, or `None` if the file is missing.
-    pub fn bytes_at(&self, path: &str) -> Option<&[u8]> {
+    pub fn find_bytes(&self, path: &str) -> Option<&[u8]> {
         for file in self.files.as_slice() {
             if matches_path(file.path.as_str(), path) {
                 return Some(file.bytes.as_slice());
             }
         }
-        self.others.as_deref()
+        self.default_bytes.as_deref()
     }
 
     /// Returns `true` if the scene has `path` with the keyword `word`.
-    pub fn has(&self, word: &str, path: &str) -> bool {
+    pub fn has_path(&self, word: &str, path: &str) -> bool {
         let mut paths = self.paths.as_slice().iter();
         paths.any(|(known, pattern)| known.as_str() == word && matches_path(pattern.as_str(), path))
     }

@@ -17,7 +17,7 @@ use std::alloc::Global;
 /// # Errors
 ///
 /// - `InvalidExample`: the allocation didn't fail.
-pub fn shortage(alloc: Global) -> Result<NoMemory> {
+pub fn provoke_no_memory(alloc: Global) -> Result<NoMemory> {
     due(fail_allocation(alloc).err(), "this machine has all memory")
 }
 
@@ -39,19 +39,19 @@ pub fn provoke_store_error(alloc: Global) -> Result<DatabaseFailure> {
 
 /// Parses `text` as the script of a child: an outcome, or `running xN, ` and an outcome. The
 /// outcome is an exit or a signal.
-fn child_script(text: &str) -> Result<ChildScript> {
+fn parse_child_script(text: &str) -> Result<ChildScript> {
     let (running, ending) = match text.strip_prefix("running x") {
         None => ("0", text),
         Some(rest) => split_required(rest, ", ", "a life is `running xN, ` and an ending")?,
     };
-    let ending = match parse_outcome(ending)? {
+    let exit = match parse_outcome(ending)? {
         Outcome::Exited(code) => Polled::Exited(code),
         Outcome::Signaled(signal, core) => Polled::Signaled(signal, core),
         _ => return Err(ExampleFault::InvalidExample("a child exits or is ended by a signal")),
     };
     Ok(ChildScript {
-        running: count(running)?,
-        ending,
+        running_polls: count(running)?,
+        exit,
     })
 }
 
@@ -92,24 +92,24 @@ pub fn parse_call_range(text: &str) -> Result<(u32, u32)> {
 
 /// Adds the file, the script of a child, the path or the calls that `line` describes to `scene`.
 /// Other lines are ignored.
-fn take(scene: &mut Scene, line: &ExampleLine<'_>) -> Result<()> {
+fn parse_line(scene: &mut Scene, line: &ExampleLine<'_>) -> Result<()> {
     let text = line.text;
     let (path, rest) = text.split_once(' ').unwrap_or((text, ""));
     match line.word {
-        "life" => push_or_fail(&mut scene.lives, child_script(text)),
+        "life" => push_or_fail(&mut scene.child_scripts, parse_child_script(text)),
         "holds" | "config" => add_file(scene, path, "", rest),
         "lists" => add_file(scene, path, HEADER, rest),
         "Kyuafile" => add_file(scene, "Kyuafile", "", text),
         "file" => add_file(scene, text, "", ""),
         "|" => add_line(scene, text),
         "program" | "locked" | "dear" | "found-file" | "found-program" => add_path(scene, line),
-        word => add_clock_or_faults(scene, word, text),
+        word => set_clock_or_faults(scene, word, text),
     }
 }
 
 /// Adds the timestamps or the failing calls in a line of the keyword `word` and the text `text` to
 /// `scene`. Other lines are ignored.
-fn add_clock_or_faults(scene: &mut Scene, word: &str, text: &str) -> Result<()> {
+fn set_clock_or_faults(scene: &mut Scene, word: &str, text: &str) -> Result<()> {
     let alloc = scene.alloc;
     match word {
         "clock" | "moments" => {
@@ -117,13 +117,13 @@ fn add_clock_or_faults(scene: &mut Scene, word: &str, text: &str) -> Result<()> 
             scene.step = u64::from(word == "clock");
         }
         "now" => scene.clock = parse_numbers(alloc, text)?,
-        "fails" => scene.failing = parse_call_range(text)?,
+        "fails" => scene.failing_calls = parse_call_range(text)?,
         "refuses" => {
-            scene.failing = parse_call_range(text)?;
-            scene.shortage = fail_allocation(alloc).err();
+            scene.failing_calls = parse_call_range(text)?;
+            scene.no_memory = fail_allocation(alloc).err();
         }
         "odd" if text == "empty part" => scene.part_fault = PartFault::EmptyPart,
-        "odd" if text == "gone" => scene.part_fault = PartFault::Gone,
+        "odd" if text == "gone" => scene.part_fault = PartFault::MissingFile,
         "odd" => return Err(ExampleFault::InvalidExample("there is no such fault of a read")),
         _ => {}
     }
@@ -140,9 +140,9 @@ fn add_clock_or_faults(scene: &mut Scene, word: &str, text: &str) -> Result<()> 
 /// - `NoMemory`: an allocation failed.
 pub fn parse_scene(alloc: Global, row: &Example<'_>) -> Result<Scene> {
     let mut scene = Scene::new(alloc);
-    scene.others = row.bytes(alloc, "others")?;
+    scene.default_bytes = row.bytes(alloc, "others")?;
     for line in row.entries.as_slice() {
-        take(&mut scene, line)?;
+        parse_line(&mut scene, line)?;
     }
     Ok(scene)
 }

@@ -1,9 +1,9 @@
 ghost use Rattle.std.specs.Prelude.{◌≡◌, ℕ, None, false};
 ghost use Rattle.kt_base.specs.declared.child.Role.{Role};
 ghost use Rattle.kt_sched.specs.Children.{IsEvidence, IsIdle};
-ghost use Rattle.kt_doubles.specs.Children.{shown, is_cleanup_pending};
+ghost use Rattle.kt_doubles.specs.Children.{running_child_at, is_cleanup_pending};
 
-use crate::children::{ChildSlot, ChildSlots, MAX_POSITIONS, free_slots, running_child, write};
+use crate::children::{ChildSlot, ChildSlots, MAX_POSITIONS, free_slots, running_child, set_slot};
 use crate::plans::is_start_refused;
 use kt_base::{Bytes, Interface, LATEST_MOMENT_MILLIS, Outcome, Output, Refused, Role};
 use kt_claim::{Claim, Evidence, Tap};
@@ -70,14 +70,14 @@ fn next_end(ends: &mut &[u64]) -> u32 {
     }
 }
 
-/// Appends a line for a call to `log`: `word`, and the role `role` and the position `position` of
+/// Appends a line for a call to `log`: `name`, and the role `role` and the position `position` of
 /// the child.
-fn log_call(log: &mut ExampleOutput, word: &str, position: u32, role: Role) {
+fn log_call(log: &mut ExampleOutput, name: &str, position: u32, role: Role) {
     let role = match role {
         Role::Body => "",
         Role::Cleanup => "cleanup ",
     };
-    write!(log, "{word} {role}{position}\n");
+    write!(log, "{name} {role}{position}\n");
 }
 
 impl<'a> ScriptedLauncher<'a> {
@@ -90,7 +90,7 @@ impl<'a> ScriptedLauncher<'a> {
         ends: &'a [u64],
         moments: &'a [u64],
     ) -> ScriptedLauncher<'a>
-        ensures { IsIdle (shown result.places) (is_cleanup_pending result.places) }
+        ensures { IsIdle (running_child_at result.places) (is_cleanup_pending result.places) }
     {
         ScriptedLauncher {
             letters,
@@ -103,7 +103,7 @@ impl<'a> ScriptedLauncher<'a> {
 }
 
 impl Launcher for ScriptedLauncher<'_> {
-    ghost running = { λ s. shown s.places };
+    ghost running = { λ s. running_child_at s.places };
 
     ghost pending = { λ s. is_cleanup_pending s.places };
 
@@ -118,14 +118,14 @@ impl Launcher for ScriptedLauncher<'_> {
             return StartAnswer::Refused(Refused::Spawn);
         }
         if is_start_refused(self.letters, job.position, role) {
-            write(&mut self.places, job.position, ChildSlot::Free);
+            set_slot(&mut self.places, job.position, ChildSlot::Free);
             return StartAnswer::Refused(Refused::Output);
         }
         let place = match role {
             Role::Body => ChildSlot::Running(job.interface, job.cleanup),
             Role::Cleanup => ChildSlot::Cleaning(job.interface, job.cleanup),
         };
-        write(&mut self.places, job.position, place);
+        set_slot(&mut self.places, job.position, place);
         StartAnswer::Started(moment.min(LATEST_MOMENT_MILLIS))
     }
 
@@ -138,7 +138,7 @@ impl Launcher for ScriptedLauncher<'_> {
             Role::Body if cleanup => ChildSlot::CleanupPending,
             _ => ChildSlot::Free,
         };
-        write(&mut self.places, position, left);
+        set_slot(&mut self.places, position, left);
         Ended {
             position,
             role,

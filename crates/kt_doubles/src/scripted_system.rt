@@ -19,35 +19,42 @@ pub struct ScriptedSystem<'a> {
     /// running.
     children: Vec<(Child, u32)>,
     /// The count of timestamps of the scene that `now` has returned so far.
-    told: usize,
+    moment_count: usize,
     /// The last timestamp that was returned, in milliseconds since 1970 in UTC.
     moment: u64,
     /// The calls, one per line.
     pub log: ExampleOutput,
     /// A line for each started program: path, arguments, directory, variables, and removed
     /// variables.
-    pub spawned: ExampleOutput,
+    pub spawn_log: ExampleOutput,
 }
 
-/// Returns the script of the child with index `number` in the order of starts. `lives` are the
-/// scripts of the first children, and later children have the last script.
-fn child_script(lives: &[ChildScript], number: usize) -> ChildScript {
-    let ending = Polled::Exited(0);
-    let life = lives.get(number).or(lives.last());
-    life.copied().unwrap_or(ChildScript { running: 0, ending })
+/// Returns the script of the child with index `number` in the order of starts. `child_scripts` are
+/// the scripts of the first children, and later children have the last script.
+fn find_child_script(child_scripts: &[ChildScript], number: usize) -> ChildScript {
+    let exit = Polled::Exited(0);
+    let script = child_scripts.get(number).or(child_scripts.last());
+    script.copied().unwrap_or(ChildScript {
+        running_polls: 0,
+        exit,
+    })
 }
 
 /// Returns the result of a poll of `child`, and counts the poll in `children` if the child is
-/// running. `lives` are the scripts of the children. A child that wasn't started has exited with
-/// 99.
-fn poll_child(lives: &[ChildScript], children: &mut [(Child, u32)], child: Child) -> Polled {
-    for (number, (known, told)) in children.iter_mut().enumerate() {
+/// running. `child_scripts` are the scripts of the children. A child that wasn't started has exited
+/// with 99.
+fn poll_child(
+    child_scripts: &[ChildScript],
+    children: &mut [(Child, u32)],
+    child: Child,
+) -> Polled {
+    for (number, (known, polls)) in children.iter_mut().enumerate() {
         if *known == child {
-            let life = child_script(lives, number);
-            if *told >= life.running {
-                return life.ending;
+            let script = find_child_script(child_scripts, number);
+            if *polls >= script.running_polls {
+                return script.exit;
             }
-            *told = told.saturating_add(1);
+            *polls = polls.saturating_add(1);
             return Polled::Running;
         }
     }
@@ -56,7 +63,7 @@ fn poll_child(lives: &[ChildScript], children: &mut [(Child, u32)], child: Child
 
 /// Returns at most `limit` bytes of the file at `path` in `scene`, from the byte at index `from`
 /// on. A read with `from` above 0 has the scene's fault of partial reads.
-fn read(scene: &Scene, path: &Text, from: u64, limit: u64) -> Result<FileRead, OsFault>
+fn read_scene_file(scene: &Scene, path: &Text, from: u64, limit: u64) -> Result<FileRead, OsFault>
     ensures { IsReadWithin limit result }
 {
     match scene.part_fault {
@@ -64,10 +71,10 @@ fn read(scene: &Scene, path: &Text, from: u64, limit: u64) -> Result<FileRead, O
             Bytes::new(scene.alloc),
             true,
         )),
-        PartFault::Gone if from > 0 => return Ok(FileRead::Missing),
+        PartFault::MissingFile if from > 0 => return Ok(FileRead::Missing),
         _ => {}
     }
-    let Some(bytes) = scene.bytes_at(path.as_str()) else {
+    let Some(bytes) = scene.find_bytes(path.as_str()) else {
         return Ok(FileRead::Missing);
     };
     let rest = bytes.get(from as usize..).unwrap_or(&[]);
@@ -92,10 +99,10 @@ impl<'a> ScriptedSystem<'a> {
             scene,
             calls: 0,
             children: Vec::new(scene.alloc),
-            told: 0,
+            moment_count: 0,
             moment: 0,
             log: ExampleOutput::new(scene.alloc),
-            spawned: ExampleOutput::new(scene.alloc),
+            spawn_log: ExampleOutput::new(scene.alloc),
         }
     }
 
@@ -103,45 +110,45 @@ impl<'a> ScriptedSystem<'a> {
     fn log_call_end(&mut self) -> Result<(), OsFault> {
         let call = self.calls;
         self.calls = call.saturating_add(1);
-        let (first, below) = self.scene.failing;
+        let (first, below) = self.scene.failing_calls;
         if call < first || below <= call {
             self.log.push("\n");
             return Ok(());
         }
         self.log.push(" failed\n");
-        match self.scene.shortage {
+        match self.scene.no_memory {
             Some(refusal) => Err(OsFault::Memory(refusal)),
             None => Err(OsFault::Failed),
         }
     }
 
-    /// Logs the call `word` with its path `path`, and fails if the scene makes this call fail.
-    fn ask(&mut self, word: &str, path: &Text) -> Result<(), OsFault> {
-        write!(self.log, "{word} {}", path.as_str());
+    /// Logs the call `name` with its path `path`, and fails if the scene makes this call fail.
+    fn log_path_call(&mut self, name: &str, path: &Text) -> Result<(), OsFault> {
+        write!(self.log, "{name} {}", path.as_str());
         self.log_call_end()
     }
 
-    /// Appends `word` and the child `child` to the log: its attempt number, after `cleanup` for a
+    /// Appends `name` and the child `child` to the log: its attempt number, after `cleanup` for a
     /// cleanup.
-    fn push_child(&mut self, word: &str, child: Child) {
+    fn push_child(&mut self, name: &str, child: Child) {
         let role = match child.role {
             Role::Body => "",
             Role::Cleanup => "cleanup ",
         };
-        write!(self.log, "{word} {role}{}", child.attempt);
+        write!(self.log, "{name} {role}{}", child.attempt);
     }
 
-    /// Logs the call `word` with its child `child`, and fails if the scene makes this call fail.
-    fn log_child_call(&mut self, word: &str, child: Child) -> Result<(), OsFault> {
-        self.push_child(word, child);
+    /// Logs the call `name` with its child `child`, and fails if the scene makes this call fail.
+    fn log_child_call(&mut self, name: &str, child: Child) -> Result<(), OsFault> {
+        self.push_child(name, child);
         self.log_call_end()
     }
 
     /// Returns the scene's next timestamp, or the last one plus the scene's step if none remains.
     fn next_moment(&mut self) -> u64 {
-        match self.scene.moments.get(self.told) {
+        match self.scene.moments.get(self.moment_count) {
             Some(moment) => {
-                self.told = self.told.saturating_add(1);
+                self.moment_count = self.moment_count.saturating_add(1);
                 self.moment = *moment;
             }
             None => self.moment = self.moment.saturating_add(self.scene.step),
@@ -159,15 +166,15 @@ impl Os for ScriptedSystem<'_> {
     }
 
     fn make_dir(&mut self, path: &Text) -> Result<(), OsFault> {
-        self.ask("make", path)
+        self.log_path_call("make", path)
     }
 
     fn remove_tree(&mut self, path: &Text) -> Result<(), OsFault> {
-        self.ask("remove", path)
+        self.log_path_call("remove", path)
     }
 
     fn open_output(&mut self, _child: Child, path: &Text) -> Result<(), OsFault> {
-        self.ask("open", path)
+        self.log_path_call("open", path)
     }
 
     fn spawn(
@@ -178,8 +185,8 @@ impl Os for ScriptedSystem<'_> {
         env: &EnvPlan,
         dir: &Text,
     ) -> Result<(), OsFault> {
-        self.ask("spawn", program)?;
-        let line = &mut self.spawned;
+        self.log_path_call("spawn", program)?;
+        let line = &mut self.spawn_log;
         line.push(program.as_str());
         push_texts(line, words.as_slice());
         write!(line, ", in {}, with", dir.as_str());
@@ -196,7 +203,11 @@ impl Os for ScriptedSystem<'_> {
     }
 
     fn poll(&mut self, child: Child) -> Result<Polled, OsFault> {
-        let status = poll_child(self.scene.lives.as_slice(), &mut self.children, child);
+        let status = poll_child(
+            self.scene.child_scripts.as_slice(),
+            &mut self.children,
+            child,
+        );
         self.log_child_call("poll", child)?;
         Ok(status)
     }
@@ -211,13 +222,13 @@ impl Os for ScriptedSystem<'_> {
     }
 
     fn read_file(&mut self, path: &Text, limit: u64) -> Result<FileRead, OsFault> {
-        self.ask("read", path)?;
-        read(self.scene, path, 0, limit)
+        self.log_path_call("read", path)?;
+        read_scene_file(self.scene, path, 0, limit)
     }
 
     fn read_part(&mut self, path: &Text, from: u64, limit: u64) -> Result<FileRead, OsFault> {
-        self.ask("part", path)?;
-        read(self.scene, path, from, limit)
+        self.log_path_call("part", path)?;
+        read_scene_file(self.scene, path, from, limit)
     }
 
     fn now(&mut self) -> Result<u64, OsFault> {

@@ -20,7 +20,7 @@ fn push_done_or_error(out: &mut ExampleOutput, done: Result<(), StoreFault>) {
 ///
 /// `text` is `TOTAL MOMENT`: the number of cases and the start of each run, in milliseconds since
 /// 1970 in UTC. The default of MOMENT is 0.
-fn begin<R: ExampleStore>(
+fn execute_begin<R: ExampleStore>(
     out: &mut ExampleOutput,
     results: &mut R,
     text: &str,
@@ -47,7 +47,7 @@ fn begin<R: ExampleStore>(
 ///
 /// `text` is `RUN POSITION VERDICT`: the run, the position of the first entry and the verdict of
 /// each entry. The lines `content` describe the rest of the entries.
-fn put<R: ExampleStore>(
+fn execute_put<R: ExampleStore>(
     out: &mut ExampleOutput,
     results: &mut R,
     text: &str,
@@ -140,8 +140,8 @@ pub fn push_call<R: ExampleStore>(
 ) -> Result<()> {
     let times = number_in(content, "times", 1)?;
     match line.word {
-        "begin" => return begin(out, results, line.text, times),
-        "put" => return put(out, results, line.text, content, times),
+        "begin" => return execute_begin(out, results, line.text, times),
+        "put" => return execute_put(out, results, line.text, content, times),
         "finish" => {
             let run = number(line.text)?;
             push_done_or_error(out, retry_once!(StoreFault, results.finish(run)));

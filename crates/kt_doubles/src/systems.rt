@@ -3,7 +3,7 @@
 ghost use Rattle.kt_sched.specs.Plan.{IsPlan, IsWidth};
 
 use crate::endless_reader::EndlessReader;
-use crate::folds::push_folded;
+use crate::folds::push_folded_lines;
 use crate::memory_sink::MemorySink;
 use crate::plans::create_plan;
 use crate::scene_reading::{parse_call_range, parse_scene};
@@ -36,32 +36,32 @@ struct DriverRun<O: Drop> {
     fault: Option<&'static str>,
 }
 
-/// Returns the part of the log line `line` that `shown` selects, or `None`. `words` selects the
+/// Returns the part of the log line `line` that `form` selects, or `None`. `words` selects the
 /// first word, `watching` the line of a poll, a kill or a pause, and any other value the whole
 /// line.
-fn select_call<'a>(shown: &str, line: &'a str) -> Option<&'a str> {
+fn select_call<'a>(form: &str, line: &'a str) -> Option<&'a str> {
     let (word, _) = line.split_once(' ').unwrap_or((line, ""));
-    match shown {
+    match form {
         "words" => Some(word),
         "watching" if !matches!(word, "poll" | "kill" | "pause") => None,
         _ => Some(line),
     }
 }
 
-/// Appends the calls in `log`, with repeated lines folded, as `poll 0 x3`. `shown` is `calls` for
+/// Appends the calls in `log`, with repeated lines folded, as `poll 0 x3`. `form` is `calls` for
 /// whole lines, `words` for their first words, or `watching` for polls, kills and pauses.
 ///
 /// # Errors
 ///
 /// - `NoMemory`: an allocation failed.
-pub fn push_calls(out: &mut ExampleOutput, shown: &str, log: &str) -> Result<()> {
+pub fn push_calls(out: &mut ExampleOutput, form: &str, log: &str) -> Result<()> {
     let mut lines = Vec::new(out.alloc);
     for line in log.lines() {
-        if let Some(call) = select_call(shown, line) {
+        if let Some(call) = select_call(form, line) {
             lines.push(call)?;
         }
     }
-    push_folded(out, &lines);
+    push_folded_lines(out, &lines);
     Ok(())
 }
 
@@ -109,7 +109,7 @@ fn push_run_part(
     word: &str,
     run: &DriverRun<ScriptedSystem<'_>>,
 ) -> Result<()> {
-    let (log, spawned) = (run.os.log.text_so_far()?, run.os.spawned.text_so_far()?);
+    let (log, spawned) = (run.os.log.text_so_far()?, run.os.spawn_log.text_so_far()?);
     match word {
         "calls" | "words" | "watching" => return push_calls(out, word, log),
         "spawns" => out.push(spawned.trim()),
@@ -130,7 +130,7 @@ fn copy_texts(alloc: Global, first: &str, second: &str) -> Result<(Text, Text)> 
 /// Executes `plan` with the width `width` by a new driver over `os`, and puts the entries into
 /// `sink`. The driver creates its directories below `base`, and `source` is the directory of the
 /// root Kyuafile. Returns the system, the recorded entries, and the error that ended the run early.
-fn run_driver_over<O: Os + Drop>(
+fn execute_plan<O: Os + Drop>(
     alloc: Global,
     os: O,
     plan: Items<Job>,
@@ -179,7 +179,7 @@ fn run_plan<'a>(row: &Example<'_>, scene: &'a Scene) -> Result<DriverRun<Scripte
     let plan = create_plan(alloc, program, &letters, limit, &variables)?;
     let sink = MemorySink::new(alloc, failing);
     let os = ScriptedSystem::new(scene);
-    Ok(run_driver_over(alloc, os, plan, width, &base, source, sink))
+    Ok(execute_plan(alloc, os, plan, width, &base, source, sink))
 }
 
 /// Executes the plan of the example `row` once, over a system that follows `scene`. Appends the
@@ -198,13 +198,13 @@ fn push_run(out: &mut ExampleOutput, row: &Example<'_>, scene: &Scene) -> Result
 
 /// Executes the plan of the example `row` once for each line `fails CALLS`, or once without such a
 /// line, and appends each result. The systems follow `scene`.
-fn plan(out: &mut ExampleOutput, row: &Example<'_>, mut scene: Scene) -> Result<()> {
+fn push_plan_output(out: &mut ExampleOutput, row: &Example<'_>, mut scene: Scene) -> Result<()> {
     if row.text("fails").is_none() {
         return push_run(out, row, &scene);
     }
     for line in row.entries.as_slice() {
         if line.word == "fails" {
-            scene.failing = parse_call_range(line.text)?;
+            scene.failing_calls = parse_call_range(line.text)?;
             push_run(out, row, &scene)?;
         }
     }
@@ -214,7 +214,7 @@ fn plan(out: &mut ExampleOutput, row: &Example<'_>, mut scene: Scene) -> Result<
 /// Lists the cases of `program` with the variables `variables`, by a new driver over `os`. The
 /// driver creates its directories below `base`, and `source` is the directory of the root Kyuafile.
 /// Returns the system and the listing, or `None` if the driver can't be created.
-fn list_over_system<O: Os + Drop>(
+fn list_cases<O: Os + Drop>(
     alloc: Global,
     os: O,
     base: &Text,
@@ -267,17 +267,17 @@ fn list_program<'a>(
     let (program, variables) = zip_results(create_program(alloc), variables)?;
     let (base, source) = copy_texts(alloc, row.text("base").unwrap_or(""), "/t")?;
     let os = ScriptedSystem::new(scene);
-    Ok(list_over_system(alloc, os, &base, source, &program, &variables))
+    Ok(list_cases(alloc, os, &base, source, &program, &variables))
 }
 
 /// Lists the cases of a program over a system that follows `scene`, and appends the first words of
 /// the calls and the result. With `show spawns` in the example `row`, also appends the programs
 /// that were started.
-fn list(out: &mut ExampleOutput, row: &Example<'_>, scene: &Scene) -> Result<()> {
+fn push_list_output(out: &mut ExampleOutput, row: &Example<'_>, scene: &Scene) -> Result<()> {
     let (os, listing) = list_program(row, scene)?;
     push_calls(out, "words", os.log.text_so_far()?)?;
     if row.text("show") == Some("spawns") {
-        out.line(os.spawned.text_so_far()?.trim());
+        out.line(os.spawn_log.text_so_far()?.trim());
     }
     out.separate("\n");
     push_listing(out, &listing);
@@ -287,7 +287,11 @@ fn list(out: &mut ExampleOutput, row: &Example<'_>, scene: &Scene) -> Result<()>
 /// Reads the endless file `file`, and returns the number of bytes, and `true` if more bytes are
 /// known to follow. With `limit`, `read_and_peek` reads the file as an output. Without it,
 /// `read_up_to` reads the file as a Kyuafile. Returns `None` if the read fails.
-fn front(alloc: Global, file: &mut EndlessReader, limit: Option<u64>) -> Option<(usize, bool)> {
+fn read_front(
+    alloc: Global,
+    file: &mut EndlessReader,
+    limit: Option<u64>,
+) -> Option<(usize, bool)> {
     let Some(limit) = limit else {
         let bytes = read_up_to(alloc, file, SCRIPT_READ_BYTES).ok()?;
         return Some((bytes.len(), false));
@@ -300,17 +304,17 @@ fn front(alloc: Global, file: &mut EndlessReader, limit: Option<u64>) -> Option<
 
 /// Reads an endless file, as the example `row` describes, and appends the result. With the line
 /// `limit BYTES`, the file is read as an output, and otherwise as a Kyuafile.
-fn read(out: &mut ExampleOutput, row: &Example<'_>) -> Result<()> {
+fn push_read_output(out: &mut ExampleOutput, row: &Example<'_>) -> Result<()> {
     let mut file = EndlessReader {
-        piece: row.number("piece", 1)? as usize,
-        reads: row.number("reads", u64::MAX)?,
-        interrupted: row.text("interrupted").is_some(),
-        given: 0,
-        failed: 0,
+        max_read_bytes: row.number("piece", 1)? as usize,
+        remaining_reads: row.number("reads", u64::MAX)?,
+        is_interrupted: row.text("interrupted").is_some(),
+        returned_bytes: 0,
+        failed_reads: 0,
     };
     let limit = row.text("limit").map(number).transpose()?;
-    let read = front(out.alloc, &mut file, limit);
-    let (given, failed) = (file.given, file.failed);
+    let read = read_front(out.alloc, &mut file, limit);
+    let (given, failed) = (file.returned_bytes, file.failed_reads);
     match read {
         None => write!(out, "failed; {given} bytes given, {failed} reads failed"),
         Some((length, follows)) => {
@@ -331,9 +335,9 @@ fn read(out: &mut ExampleOutput, row: &Example<'_>) -> Result<()> {
 pub fn answer(out: &mut ExampleOutput, row: &Example<'_>) -> Result<()> {
     let scene = parse_scene(out.alloc, row)?;
     match row.first()?.word {
-        "plan" => plan(out, row, scene),
-        "list" => list(out, row, &scene),
-        "reader" => read(out, row),
+        "plan" => push_plan_output(out, row, scene),
+        "list" => push_list_output(out, row, &scene),
+        "reader" => push_read_output(out, row),
         _ => Err(ExampleFault::InvalidExample("nothing like that is asked of a system")),
     }
 }

@@ -8,8 +8,8 @@ use crate::scripted_results_host::ScriptedResultsHost;
 use kt_base::Text;
 use kt_cli::kyuafile_directory;
 use kt_doubles::{
-    Scene, SplitReadStore, parse_scene, provoke_store_error, push_call, push_calls, push_runs,
-    shortage,
+    Scene, SplitReadStore, parse_scene, provoke_no_memory, provoke_store_error, push_call,
+    push_calls, push_runs,
 };
 use kt_examples::{
     Example, ExampleFault, ExampleLine, ExampleOutput, Result, entry_lines_at, number,
@@ -25,7 +25,7 @@ const MAX_TRIALS: u64 = 10_000;
 /// Parses the error of a results store: `no-memory`, `failed` or `unknown-schema`.
 fn parse_store_fault(alloc: Global, fault: &str) -> Result<StoreFault> {
     match fault {
-        "no-memory" => Ok(StoreFault::from(shortage(alloc)?)),
+        "no-memory" => Ok(StoreFault::from(provoke_no_memory(alloc)?)),
         "failed" => Ok(StoreFault::Store(provoke_store_error(alloc)?)),
         "unknown-schema" => Ok(StoreFault::UnknownSchema),
         _ => Err(ExampleFault::InvalidExample("there is no such fault of a store")),
@@ -35,7 +35,7 @@ fn parse_store_fault(alloc: Global, fault: &str) -> Result<StoreFault> {
 /// Parses the error of reading the process environment: `no-memory` or `no-work-directory`.
 fn parse_env_fault(alloc: Global, fault: &str) -> Result<OsFault> {
     match fault {
-        "no-memory" => Ok(OsFault::Memory(shortage(alloc)?)),
+        "no-memory" => Ok(OsFault::Memory(provoke_no_memory(alloc)?)),
         "no-work-directory" => Ok(OsFault::Failed),
         _ => Err(ExampleFault::InvalidExample("there is no such fault of the environment")),
     }

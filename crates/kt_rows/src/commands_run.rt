@@ -7,7 +7,7 @@ use crate::scripted_results_host::ScriptedResultsHost;
 use crate::words::parse_command_line;
 use kt_args::{Command, CommandFault};
 use kt_cli::{HostHandles, LineOutput, run_command};
-use kt_doubles::{Scene, ScriptedSystem, shortage};
+use kt_doubles::{Scene, ScriptedSystem, provoke_no_memory};
 use kt_examples::{ExampleLine, ExampleOutput, Result, ScriptedWriter, due};
 use kt_store::ResultStore;
 use std::alloc::Global;
@@ -101,7 +101,7 @@ impl<R: ResultStore + Drop> CommandsRun<R> {
         for line in lines {
             let command = match line.word {
                 "do" | "line" => parse_command_line(alloc, line.text)?,
-                "words" => Err(CommandFault::from(shortage(alloc)?)),
+                "words" => Err(CommandFault::from(provoke_no_memory(alloc)?)),
                 _ => continue,
             };
             let (log, host) = (&mut self.log, &mut self.host);

@@ -25,7 +25,7 @@ impl FailingStore {
     pub fn new(alloc: Global, row: &Example<'_>) -> kt_examples::Result<FailingStore> {
         Ok(FailingStore {
             runs: MemRuns::new(alloc),
-            failing_calls: FailingCalls::of(alloc, row)?,
+            failing_calls: FailingCalls::parse(alloc, row)?,
         })
     }
 }
@@ -50,37 +50,37 @@ impl StoreSpec for FailingStore {
 
 impl ResultStore for FailingStore {
     fn begin(&mut self, total: u32, moment: u64) -> Result<u64, StoreFault> {
-        self.failing_calls.ask()?;
+        self.failing_calls.count_call()?;
         self.runs.begin(total, moment)
     }
 
     fn put(&mut self, run: u64, entry: &Entry) -> Result<(), StoreFault> {
-        self.failing_calls.ask()?;
+        self.failing_calls.count_call()?;
         self.runs.put(run, entry)
     }
 
     fn finish(&mut self, run: u64) -> Result<(), StoreFault> {
-        self.failing_calls.ask()?;
+        self.failing_calls.count_call()?;
         self.runs.finish(run)
     }
 
     fn head(&mut self, number: Option<u64>) -> Result<Option<RunHead>, StoreFault> {
-        self.failing_calls.ask()?;
+        self.failing_calls.count_call()?;
         self.runs.head(number)
     }
 
     fn outline(&mut self, run: u64) -> Result<Vec<Entry>, StoreFault> {
-        self.failing_calls.ask()?;
+        self.failing_calls.count_call()?;
         self.runs.outline(run)
     }
 
     fn pairs(&mut self, run: u64, position: u32) -> Result<Variables, StoreFault> {
-        self.failing_calls.ask()?;
+        self.failing_calls.count_call()?;
         self.runs.pairs(run, position)
     }
 
     fn outputs(&mut self, run: u64, position: u32) -> Result<CaseOutputs, StoreFault> {
-        self.failing_calls.ask()?;
+        self.failing_calls.count_call()?;
         self.runs.outputs(run, position)
     }
 }

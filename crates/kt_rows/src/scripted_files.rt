@@ -34,30 +34,30 @@ impl HostFiles for ScriptedFiles<'_> {
     ghost answers = { λ _ _ _. Unit {0} };
 
     fn front(&mut self, path: &str) -> Result<Bytes, FileFault> {
-        if self.scene.has("dear", path) {
+        if self.scene.has_path("dear", path) {
             if let Err(refusal) = fail_allocation(self.scene.alloc) {
                 return Err(FileFault::Memory(refusal));
             }
         }
-        if self.scene.has("locked", path) {
+        if self.scene.has_path("locked", path) {
             return Err(FileFault::Failed);
         }
-        match self.scene.bytes_at(path) {
+        match self.scene.find_bytes(path) {
             None => Err(FileFault::Missing),
             Some(bytes) => copy_front(self.scene.alloc, bytes),
         }
     }
 
     fn is_file(&mut self, path: &str) -> bool {
-        self.scene.has("program", path)
+        self.scene.has_path("program", path)
     }
 
     fn path_exists(&mut self, path: &str) -> bool {
-        self.scene.has("found-file", path)
+        self.scene.has_path("found-file", path)
     }
 
     fn is_program(&mut self, path: &str) -> bool {
-        self.scene.has("found-program", path)
+        self.scene.has_path("found-program", path)
     }
 
     fn moment(&mut self) -> u64 {
