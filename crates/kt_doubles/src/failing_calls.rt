@@ -1,6 +1,6 @@
 use crate::{provoke_no_memory, provoke_store_error};
 use kt_base::NoMemory;
-use kt_examples::{Example, Result, number};
+use kt_examples::{Example, Result, parse_number};
 use kt_store::{DatabaseFailure, StoreFault};
 use std::alloc::Global;
 
@@ -22,24 +22,24 @@ impl FailingCalls {
     ghost use Rattle.std.specs.Prelude.{IfErr};
     ghost use Rattle.kt_store.specs.Ask.{IsDatabaseFault};
 
-    /// Parses the line `refused CALLS` or `refused-memory CALLS` of the example `row`. CALLS is `N`
-    /// for one call or `N M` for the calls from `N` to `M`, counted from 1. Without such a line no
-    /// call fails.
+    /// Parses the line `refused CALLS` or `refused-memory CALLS` of `example`. CALLS is `N` for one
+    /// call or `N M` for the calls from `N` to `M`, counted from 1. Without such a line no call
+    /// fails.
     ///
     /// # Errors
     ///
     /// - `InvalidExample`: CALLS isn't one or two numbers, or the real error for the calls can't be
     ///   provoked.
     /// - `NoMemory`: an allocation failed.
-    pub fn parse(alloc: Global, row: &Example<'_>) -> Result<FailingCalls> {
-        let (calls, no_memory) = match row.text("refused-memory") {
+    pub fn parse(alloc: Global, example: &Example<'_>) -> Result<FailingCalls> {
+        let (calls, no_memory) = match example.text("refused-memory") {
             Some(calls) => (calls, Some(provoke_no_memory(alloc)?)),
-            None => (row.text("refused").unwrap_or("0"), None),
+            None => (example.text("refused").unwrap_or("0"), None),
         };
         let (first, last) = calls.split_once(' ').unwrap_or((calls, calls));
         Ok(FailingCalls {
             calls: 0,
-            failing_range: (number(first)?, number(last)?),
+            failing_range: (parse_number(first)?, parse_number(last)?),
             failure: provoke_store_error(alloc)?,
             no_memory,
         })

@@ -1,7 +1,7 @@
 use kt_base::Text;
 use kt_examples::{
-    Example, ExampleFault, ExampleLine, ExampleOutput, Result, due, expand_numbered, push_or_fail,
-    split_required, unescape_text, zip_results,
+    Example, ExampleFault, ExampleLine, ExampleOutput, Result, expand_copies, push_or_fail,
+    require_part, split_once_or_fail, unescape_text, zip_results,
 };
 use kt_suite::{Filter, FilterFault, Item, check_disjoint, select};
 use std::alloc::Global;
@@ -17,7 +17,7 @@ struct FilterState {
 
 /// Parses a case from `raw`, which is `PATH CASE`, split at the first space.
 fn parse_item(alloc: Global, raw: &str) -> Result<Item> {
-    let (path, case_name) = split_required(raw, " ", "a case stands after a path")?;
+    let (path, case_name) = split_once_or_fail(raw, " ", "a case stands after a path")?;
     let (path, case_name) = zip_results(
         unescape_text(alloc, path),
         unescape_text(alloc, case_name),
@@ -28,7 +28,7 @@ fn parse_item(alloc: Global, raw: &str) -> Result<Item> {
 /// Parses `raw` as a filter. Fails if `Filter::parse` rejects `raw`.
 fn parse_filter(alloc: Global, raw: &str) -> Result<Filter> {
     let filter = Filter::parse(alloc, &unescape_text(alloc, raw)?).ok();
-    due(filter, "a filter that is refused is asked for by `read`")
+    require_part(filter, "a filter that is refused is asked for by `read`")
 }
 
 /// Parses `raw` as a filter, and appends the parts of the filter, as `d/b, case main`, or the
@@ -69,9 +69,9 @@ fn push_disjoint(out: &mut ExampleOutput, filters: &[Filter]) {
 }
 
 impl FilterState {
-    /// Adds the filter or the case in `raw` to the example, as the keyword `word` selects.
-    fn add(&mut self, alloc: Global, word: &str, raw: &str) -> Result<()> {
-        match word {
+    /// Adds the filter or the case in `raw` to the example, as the keyword `keyword` selects.
+    fn add(&mut self, alloc: Global, keyword: &str, raw: &str) -> Result<()> {
+        match keyword {
             "filter" | "filters" => push_or_fail(&mut self.filters, parse_filter(alloc, raw)),
             _ => push_or_fail(&mut self.items, parse_item(alloc, raw)),
         }
@@ -80,11 +80,11 @@ impl FilterState {
     /// Executes `line`, which adds filters or cases or is a query, and appends the output of a
     /// query.
     fn execute_line(&mut self, out: &mut ExampleOutput, line: &ExampleLine<'_>) -> Result<()> {
-        match line.word {
-            "filter" | "item" => self.add(out.alloc, line.word, line.text),
+        match line.keyword {
+            "filter" | "item" => self.add(out.alloc, line.keyword, line.text),
             "filters" | "items" => {
-                for text in expand_numbered(out.alloc, line.text)?.as_slice() {
-                    self.add(out.alloc, line.word, text.as_str())?;
+                for text in expand_copies(out.alloc, line.text)?.as_slice() {
+                    self.add(out.alloc, line.keyword, text.as_str())?;
                 }
                 Ok(())
             }
@@ -124,8 +124,8 @@ impl FilterState {
 
     /// Executes the query in `line`, and appends its output as a new line.
     fn push_query_output(&self, out: &mut ExampleOutput, line: &ExampleLine<'_>) -> Result<()> {
-        out.separate("\n");
-        match line.word {
+        out.push_separator("\n");
+        match line.keyword {
             "read" => return push_parsed_filter(out, line.text),
             "matches" => {
                 let item = parse_item(out.alloc, line.text)?;
@@ -141,20 +141,19 @@ impl FilterState {
     }
 }
 
-/// Executes the lines of `row`, an example about filters, in order, and appends a line for each
-/// query.
+/// Executes the lines of an example about filters, in order, and appends a line for each query.
 ///
 /// # Errors
 ///
 /// - `InvalidExample`: a line is invalid.
 /// - `NoMemory`: an allocation failed.
-pub fn answer(out: &mut ExampleOutput, row: &Example<'_>) -> Result<()> {
-    let mut example = FilterState {
+pub fn push_output(out: &mut ExampleOutput, example: &Example<'_>) -> Result<()> {
+    let mut state = FilterState {
         items: Vec::new(out.alloc),
         filters: Vec::new(out.alloc),
     };
-    for line in row.entries.as_slice() {
-        example.execute_line(out, line)?;
+    for line in example.lines.as_slice() {
+        state.execute_line(out, line)?;
     }
     Ok(())
 }

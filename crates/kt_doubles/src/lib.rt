@@ -29,25 +29,25 @@ pub use scripted_system::ScriptedSystem;
 pub use store_calls::{push_call, push_runs, state_text};
 pub use systems::push_calls;
 
-/// Executes the example `row`, and appends its output to `out`.
+/// Executes `example`, and appends its output to `out`.
 ///
 /// `subject` is the name of the example's file without `.rows`, such as `filters`.
 ///
 /// # Errors
 ///
-/// - `InvalidExample`: neither this crate nor kt_examples has such a subject, or `row` doesn't have
-///   the format of its subject.
-/// - `NoMemory`: an allocation failed. A failed append to `out` is returned by `ExampleOutput::end`
-///   instead.
+/// - `InvalidExample`: neither this crate nor kt_examples has such a subject, or `example` doesn't
+///   have the format of its subject.
+/// - `NoMemory`: an allocation failed. A failed append to `out` is returned by
+///   `ExampleOutput::into_string` instead.
 pub fn push_example_output(
     out: &mut ExampleOutput,
     subject: &str,
-    row: &Example<'_>,
+    example: &Example<'_>,
 ) -> Result<()> {
     match subject {
-        "filters" => filters::answer(out, row),
-        "schedules" => schedules::answer(out, row),
-        "systems" => systems::answer(out, row),
-        _ => kt_examples::push_example_output(out, subject, row),
+        "filters" => filters::push_output(out, example),
+        "schedules" => schedules::push_output(out, example),
+        "systems" => systems::push_output(out, example),
+        _ => kt_examples::push_example_output(out, subject, example),
     }
 }

@@ -93,10 +93,11 @@ impl Scene {
         self.default_bytes.as_deref()
     }
 
-    /// Returns `true` if the scene has `path` with the keyword `word`.
-    pub fn has_path(&self, word: &str, path: &str) -> bool {
+    /// Returns `true` if the scene has `path` with the keyword `keyword`.
+    pub fn has_path(&self, keyword: &str, path: &str) -> bool {
         let mut paths = self.paths.as_slice().iter();
-        paths.any(|(known, pattern)| known.as_str() == word && matches_path(pattern.as_str(), path))
+        paths.any(|(known, pattern)| known.as_str() == keyword
+            && matches_path(pattern.as_str(), path))
     }
 }
 

@@ -5,8 +5,9 @@ use crate::{Scene, fail_allocation};
 use kt_base::{NoMemory, Outcome, Text};
 use kt_child::Polled;
 use kt_examples::{
-    Example, ExampleFault, ExampleLine, HEADER, Result, append, convert_error, count, due,
-    parse_numbers, parse_outcome, push_or_fail, split_required, unescape_text, zip_results,
+    CASE_LIST_HEADER, Example, ExampleFault, ExampleLine, Result, append_unescaped, convert_error,
+    parse_count, parse_numbers, parse_outcome, push_or_fail, require_part, split_once_or_fail,
+    unescape_text, zip_results,
 };
 use kt_store::{DatabaseFailure, Results, StoreFault};
 use sqlite::Connection;
@@ -18,7 +19,7 @@ use std::alloc::Global;
 ///
 /// - `InvalidExample`: the allocation didn't fail.
 pub fn provoke_no_memory(alloc: Global) -> Result<NoMemory> {
-    due(fail_allocation(alloc).err(), "this machine has all memory")
+    require_part(fail_allocation(alloc).err(), "this machine has all memory")
 }
 
 /// Provokes a failed statement in a database that lacks the results tables, and returns its error.
@@ -42,7 +43,7 @@ pub fn provoke_store_error(alloc: Global) -> Result<DatabaseFailure> {
 fn parse_child_script(text: &str) -> Result<ChildScript> {
     let (running, ending) = match text.strip_prefix("running x") {
         None => ("0", text),
-        Some(rest) => split_required(rest, ", ", "a life is `running xN, ` and an ending")?,
+        Some(rest) => split_once_or_fail(rest, ", ", "a life is `running xN, ` and an ending")?,
     };
     let exit = match parse_outcome(ending)? {
         Outcome::Exited(code) => Polled::Exited(code),
@@ -50,7 +51,7 @@ fn parse_child_script(text: &str) -> Result<ChildScript> {
         _ => return Err(ExampleFault::InvalidExample("a child exits or is ended by a signal")),
     };
     Ok(ChildScript {
-        running_polls: count(running)?,
+        running_polls: parse_count(running)?,
         exit,
     })
 }
@@ -60,23 +61,23 @@ fn parse_child_script(text: &str) -> Result<ChildScript> {
 fn add_file(scene: &mut Scene, path: &str, beginning: &str, raw: &str) -> Result<()> {
     let path = unescape_text(scene.alloc, path)?.into_string();
     let mut bytes = beginning.as_bytes().to_vec(scene.alloc)?;
-    append(scene.alloc, &mut bytes, raw)?;
+    append_unescaped(scene.alloc, &mut bytes, raw)?;
     convert_error(scene.files.push(SceneFile { path, bytes }))
 }
 
 /// Appends `raw` with its escapes decoded, and a newline, to the last file of `scene`.
 fn add_line(scene: &mut Scene, raw: &str) -> Result<()> {
     let alloc = scene.alloc;
-    let file = due(scene.files.last_mut(), "a line without a file")?;
-    append(alloc, &mut file.bytes, raw)?;
+    let file = require_part(scene.files.last_mut(), "a line without a file")?;
+    append_unescaped(alloc, &mut file.bytes, raw)?;
     convert_error(file.bytes.push(b'\n'))
 }
 
 /// Adds the keyword and the path in `line` to the paths of `scene`.
 fn add_path(scene: &mut Scene, line: &ExampleLine<'_>) -> Result<()> {
-    let word = convert_error(String::from_str(scene.alloc, line.word));
+    let keyword = convert_error(String::from_str(scene.alloc, line.keyword));
     let path = unescape_text(scene.alloc, line.text).map(Text::into_string);
-    push_or_fail(&mut scene.paths, zip_results(word, path))
+    push_or_fail(&mut scene.paths, zip_results(keyword, path))
 }
 
 /// Parses the range of the calls that fail, counted from 0: `N` for one call, or `N M` for the
@@ -87,7 +88,7 @@ fn add_path(scene: &mut Scene, line: &ExampleLine<'_>) -> Result<()> {
 /// - `InvalidExample`: `text` isn't one or two numbers from 0 to 2^32 - 1.
 pub fn parse_call_range(text: &str) -> Result<(u32, u32)> {
     let (first, last) = text.split_once(' ').unwrap_or((text, text));
-    Ok((count(first)?, count(last)?.saturating_add(1)))
+    Ok((parse_count(first)?, parse_count(last)?.saturating_add(1)))
 }
 
 /// Adds the file, the script of a child, the path or the calls that `line` describes to `scene`.
@@ -95,26 +96,26 @@ pub fn parse_call_range(text: &str) -> Result<(u32, u32)> {
 fn parse_line(scene: &mut Scene, line: &ExampleLine<'_>) -> Result<()> {
     let text = line.text;
     let (path, rest) = text.split_once(' ').unwrap_or((text, ""));
-    match line.word {
+    match line.keyword {
         "life" => push_or_fail(&mut scene.child_scripts, parse_child_script(text)),
         "holds" | "config" => add_file(scene, path, "", rest),
-        "lists" => add_file(scene, path, HEADER, rest),
+        "lists" => add_file(scene, path, CASE_LIST_HEADER, rest),
         "Kyuafile" => add_file(scene, "Kyuafile", "", text),
         "file" => add_file(scene, text, "", ""),
         "|" => add_line(scene, text),
         "program" | "locked" | "dear" | "found-file" | "found-program" => add_path(scene, line),
-        word => set_clock_or_faults(scene, word, text),
+        keyword => set_clock_or_faults(scene, keyword, text),
     }
 }
 
-/// Adds the timestamps or the failing calls in a line of the keyword `word` and the text `text` to
-/// `scene`. Other lines are ignored.
-fn set_clock_or_faults(scene: &mut Scene, word: &str, text: &str) -> Result<()> {
+/// Adds the timestamps or the failing calls in a line of the keyword `keyword` and the text `text`
+/// to `scene`. Other lines are ignored.
+fn set_clock_or_faults(scene: &mut Scene, keyword: &str, text: &str) -> Result<()> {
     let alloc = scene.alloc;
-    match word {
+    match keyword {
         "clock" | "moments" => {
             scene.moments = parse_numbers(alloc, text)?;
-            scene.step = u64::from(word == "clock");
+            scene.step = u64::from(keyword == "clock");
         }
         "now" => scene.clock = parse_numbers(alloc, text)?,
         "fails" => scene.failing_calls = parse_call_range(text)?,
@@ -130,18 +131,18 @@ fn set_clock_or_faults(scene: &mut Scene, word: &str, text: &str) -> Result<()> 
     Ok(())
 }
 
-/// Parses the lines of the example `row` into a scene, and ignores lines that don't describe a
-/// system or host files.
+/// Parses the lines of `example` into a scene, and ignores lines that don't describe a system or
+/// host files.
 ///
 /// # Errors
 ///
 /// - `InvalidExample`: the text after one of the keywords is invalid, or a line `|` precedes all
 ///   files.
 /// - `NoMemory`: an allocation failed.
-pub fn parse_scene(alloc: Global, row: &Example<'_>) -> Result<Scene> {
+pub fn parse_scene(alloc: Global, example: &Example<'_>) -> Result<Scene> {
     let mut scene = Scene::new(alloc);
-    scene.default_bytes = row.bytes(alloc, "others")?;
-    for line in row.entries.as_slice() {
+    scene.default_bytes = example.bytes(alloc, "others")?;
+    for line in example.lines.as_slice() {
         parse_line(&mut scene, line)?;
     }
     Ok(scene)

@@ -11,7 +11,7 @@ use kt_sched::{MAX_WIDTH, RunFault, Totals, run_cases};
 /// order of their puts.
 fn push_calls_and_puts(out: &mut ExampleOutput, log: &str, entries: &[Entry]) {
     for call in log.lines() {
-        out.separate(", ");
+        out.push_separator(", ");
         out.push(call);
     }
     out.push("\nput");
@@ -52,10 +52,10 @@ fn push_run_summary(out: &mut ExampleOutput, log: &str, entries: &[Entry]) {
 }
 
 /// Appends `end`, the result of a run, as `: 3 good, 1 bad of 4`, or its error. The line `moments`
-/// of the example `row` adds `entries` with their times.
+/// of `example` adds `entries` with their times.
 fn push_run_result(
     out: &mut ExampleOutput,
-    row: &Example<'_>,
+    example: &Example<'_>,
     end: Result<Totals, RunFault>,
     entries: &[Entry],
 ) {
@@ -63,37 +63,37 @@ fn push_run_result(
         Ok(Totals { good, bad, total }) => write!(out, ": {good} good, {bad} bad of {total}"),
         Err(fault) => write!(out, ": {fault}"),
     }
-    if row.text("moments").is_some() {
-        out.line("");
+    if example.text("moments").is_some() {
+        out.push_line("");
         push_entries(out, "cases", entries);
     }
 }
 
-/// Executes the plan of the example `row` over a scripted launcher and a sink in memory, and
-/// appends the calls and totals. The line `brief` replaces the calls and puts by a summary.
+/// Executes the plan of `example` over a scripted launcher and a sink in memory, and appends the
+/// calls and totals. The line `brief` replaces the calls and puts by a summary.
 ///
 /// # Errors
 ///
 /// - `InvalidExample`: a line is missing or invalid.
 /// - `NoMemory`: an allocation failed.
-pub fn answer(out: &mut ExampleOutput, row: &Example<'_>) -> Result<()> {
+pub fn push_output(out: &mut ExampleOutput, example: &Example<'_>) -> Result<()> {
     let alloc = out.alloc;
-    let width = parse_number_up_to(row.text("width"), MAX_WIDTH)?;
-    let failing = row.number("failing", 0)? as usize;
-    let letters = row.required_bytes(alloc, "plan", "no plan");
-    let ends = parse_numbers(alloc, row.text("ends").unwrap_or(""));
-    let moments = parse_numbers(alloc, row.text("moments").unwrap_or(""));
+    let width = parse_number_up_to(example.text("width"), MAX_WIDTH)?;
+    let failing = example.number("failing", 0)? as usize;
+    let letters = example.required_bytes(alloc, "plan", "no plan");
+    let ends = parse_numbers(alloc, example.text("ends").unwrap_or(""));
+    let moments = parse_numbers(alloc, example.text("moments").unwrap_or(""));
     let (letters, (ends, moments)) = zip_results(letters, zip_results(ends, moments))?;
     let plan = create_plan(alloc, "p", &letters, 300, &Variables::new(alloc))?;
     let mut launcher = ScriptedLauncher::new(alloc, &letters, &ends, &moments);
     let mut sink = MemorySink::new(alloc, failing);
     let end = run_cases(alloc, plan, width, &mut launcher, &mut sink);
-    let (log, entries) = (launcher.log.text_so_far()?, sink.entries.as_slice());
-    if row.text("brief").is_some() {
+    let (log, entries) = (launcher.log.as_str()?, sink.entries.as_slice());
+    if example.text("brief").is_some() {
         push_run_summary(out, log, entries);
     } else {
         push_calls_and_puts(out, log, entries);
     }
-    push_run_result(out, row, end, entries);
+    push_run_result(out, example, end, entries);
     Ok(())
 }

@@ -191,13 +191,13 @@ impl Os for ScriptedSystem<'_> {
         push_texts(line, words.as_slice());
         write!(line, ", in {}, with", dir.as_str());
         for variable in env.set.as_slice() {
-            line.pair(" ", variable, "=");
+            line.push_pair(" ", variable, "=");
         }
         line.push(", without");
         push_texts(line, env.removed.as_slice());
         line.push("\n");
         if let Err(refusal) = self.children.push((child, 0)) {
-            self.log.fail(NoMemory::from(refusal));
+            self.log.record_failure(NoMemory::from(refusal));
         }
         Ok(())
     }

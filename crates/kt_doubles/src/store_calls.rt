@@ -3,7 +3,7 @@
 use crate::ExampleStore;
 use kt_base::LATEST_MOMENT_MILLIS;
 use kt_examples::{
-    ExampleFault, ExampleLine, ExampleOutput, Result, count, number, number_in,
+    ExampleFault, ExampleLine, ExampleOutput, Result, find_number, parse_count, parse_number,
     parse_storable_entry, push_entries, retry_once,
 };
 use kt_store::{RunHead, StoreFault};
@@ -12,7 +12,7 @@ use kt_store::{RunHead, StoreFault};
 fn push_done_or_error(out: &mut ExampleOutput, done: Result<(), StoreFault>) {
     match done {
         Ok(()) => out.push("done"),
-        Err(fault) => out.name(&fault),
+        Err(fault) => out.push_name(&fault),
     }
 }
 
@@ -27,8 +27,8 @@ fn execute_begin<R: ExampleStore>(
     times: u64,
 ) -> Result<()> {
     let (total, moment) = text.split_once(' ').unwrap_or((text, "0"));
-    let total = count(total)?;
-    let moment = number(moment)?.min(LATEST_MOMENT_MILLIS);
+    let total = parse_count(total)?;
+    let moment = parse_number(moment)?.min(LATEST_MOMENT_MILLIS);
     let mut last = Ok(0);
     for _ in 0..times {
         if last.is_ok() {
@@ -37,7 +37,7 @@ fn execute_begin<R: ExampleStore>(
     }
     match last {
         Ok(number) => write!(out, "run {number}"),
-        Err(fault) => out.name(&fault),
+        Err(fault) => out.push_name(&fault),
     }
     Ok(())
 }
@@ -56,8 +56,8 @@ fn execute_put<R: ExampleStore>(
 ) -> Result<()> {
     let (run, rest) = text.split_once(' ').unwrap_or((text, ""));
     let (first, verdict) = rest.split_once(' ').unwrap_or((rest, "passed"));
-    let run = number(run)?;
-    let mut place = count(first)?;
+    let run = parse_number(run)?;
+    let mut place = parse_count(first)?;
     let mut done = Ok(());
     for _ in 0..times {
         if done.is_ok() {
@@ -88,7 +88,7 @@ fn push_run<R: ExampleStore>(out: &mut ExampleOutput, results: &mut R, head: &Ru
             write!(out, "run {} at {}: ", head.number, head.started);
             write!(out, "{count} of {}, {state}", head.total);
         }
-        Err(fault) => out.name(&fault),
+        Err(fault) => out.push_name(&fault),
     }
 }
 
@@ -96,7 +96,7 @@ fn push_run<R: ExampleStore>(out: &mut ExampleOutput, results: &mut R, head: &Ru
 pub fn push_runs<R: ExampleStore>(out: &mut ExampleOutput, results: &mut R, is_brief: bool) {
     let heads = match results.runs() {
         Ok(heads) => heads,
-        Err(fault) => return out.name(&fault),
+        Err(fault) => return out.push_name(&fault),
     };
     if is_brief {
         return write!(out, "{} runs", heads.len());
@@ -109,18 +109,18 @@ pub fn push_runs<R: ExampleStore>(out: &mut ExampleOutput, results: &mut R, is_b
     }
 }
 
-/// Appends the part of the entries of the run `run` that `word` selects, or their number if `word`
-/// is `count`. The entries are read from `results`.
+/// Appends the part of the entries of the run `run` that `keyword` selects, or their number if
+/// `keyword` is `count`. The entries are read from `results`.
 fn push_run_entries<R: ExampleStore>(
     out: &mut ExampleOutput,
     results: &mut R,
-    word: &str,
+    keyword: &str,
     run: u64,
 ) {
     match results.entries(run) {
-        Ok(found) if word == "count" => write!(out, "{} entries", found.len()),
-        Ok(found) => push_entries(out, word, found.as_slice()),
-        Err(fault) => out.name(&fault),
+        Ok(found) if keyword == "count" => write!(out, "{} entries", found.len()),
+        Ok(found) => push_entries(out, keyword, found.as_slice()),
+        Err(fault) => out.push_name(&fault),
     }
 }
 
@@ -138,18 +138,18 @@ pub fn push_call<R: ExampleStore>(
     line: &ExampleLine<'_>,
     content: &[ExampleLine<'_>],
 ) -> Result<()> {
-    let times = number_in(content, "times", 1)?;
-    match line.word {
+    let times = find_number(content, "times", 1)?;
+    match line.keyword {
         "begin" => return execute_begin(out, results, line.text, times),
         "put" => return execute_put(out, results, line.text, content, times),
         "finish" => {
-            let run = number(line.text)?;
+            let run = parse_number(line.text)?;
             push_done_or_error(out, retry_once!(StoreFault, results.finish(run)));
         }
         "runs" => push_runs(out, results, false),
         "count-runs" => push_runs(out, results, true),
         "cases" | "outputs" | "pairs" | "count" => {
-            push_run_entries(out, results, line.word, number(line.text)?);
+            push_run_entries(out, results, line.keyword, parse_number(line.text)?);
         }
         _ => return Err(ExampleFault::InvalidExample("there is no such call")),
     }

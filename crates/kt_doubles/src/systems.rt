@@ -12,7 +12,7 @@ use kt_atflist::{ListBytes, Listing};
 use kt_base::{Entry, Interface, Items, Kind, Text, Variables};
 use kt_child::{Driver, DriverFault, FileRead, Os, run_driver};
 use kt_examples::{
-    Example, ExampleFault, ExampleOutput, Result, number, parse_number_up_to, parse_pairs,
+    Example, ExampleFault, ExampleOutput, Result, parse_number, parse_number_up_to, parse_pairs,
     push_entries, push_verdict, unescape, zip_results,
 };
 use kt_metadata::Props;
@@ -40,10 +40,10 @@ struct DriverRun<O: Drop> {
 /// first word, `watching` the line of a poll, a kill or a pause, and any other value the whole
 /// line.
 fn select_call<'a>(form: &str, line: &'a str) -> Option<&'a str> {
-    let (word, _) = line.split_once(' ').unwrap_or((line, ""));
+    let (keyword, _) = line.split_once(' ').unwrap_or((line, ""));
     match form {
-        "words" => Some(word),
-        "watching" if !matches!(word, "poll" | "kill" | "pause") => None,
+        "words" => Some(keyword),
+        "watching" if !matches!(keyword, "poll" | "kill" | "pause") => None,
         _ => Some(line),
     }
 }
@@ -99,24 +99,24 @@ fn push_leftovers(out: &mut ExampleOutput, log: &str) {
     write!(out, "{killed} killed, {left} left");
 }
 
-/// Appends the part of `run` that the keyword `word` selects.
+/// Appends the part of `run` that the keyword `keyword` selects.
 ///
 /// `calls`, `words` and `watching` select calls, `spawns` the started programs, and `spawned` their
 /// number. `left` selects the numbers of kills and of remaining directories, and `totals` the
 /// number of passed cases. Any other keyword selects a part of the entries.
 fn push_run_part(
     out: &mut ExampleOutput,
-    word: &str,
+    keyword: &str,
     run: &DriverRun<ScriptedSystem<'_>>,
 ) -> Result<()> {
-    let (log, spawned) = (run.os.log.text_so_far()?, run.os.spawn_log.text_so_far()?);
-    match word {
-        "calls" | "words" | "watching" => return push_calls(out, word, log),
+    let (log, spawned) = (run.os.log.as_str()?, run.os.spawn_log.as_str()?);
+    match keyword {
+        "calls" | "words" | "watching" => return push_calls(out, keyword, log),
         "spawns" => out.push(spawned.trim()),
         "spawned" => write!(out, "{} spawned", spawned.lines().count()),
         "left" => push_leftovers(out, log),
         "totals" => push_totals(out, run.entries.as_slice()),
-        _ => push_entries(out, word, run.entries.as_slice()),
+        _ => push_entries(out, keyword, run.entries.as_slice()),
     }
     Ok(())
 }
@@ -163,49 +163,53 @@ fn execute_plan<O: Os + Drop>(
     }
 }
 
-/// Executes the plan of the example `row` over a scripted system that follows `scene`.
-fn run_plan<'a>(row: &Example<'_>, scene: &'a Scene) -> Result<DriverRun<ScriptedSystem<'a>>> {
+/// Executes the plan of `example` over a scripted system that follows `scene`.
+fn run_plan<'a>(example: &Example<'_>, scene: &'a Scene) -> Result<DriverRun<ScriptedSystem<'a>>> {
     let alloc = scene.alloc;
-    let width = parse_number_up_to(row.text("width"), MAX_WIDTH)?;
-    let limit = parse_number_up_to(row.text("limit"), MAX_TIMEOUT_SECONDS)?;
-    let failing = row.number("failing", 0)? as usize;
-    let variables = parse_pairs(alloc, row.entries.as_slice(), "variable");
-    let letters = unescape(alloc, row.text("plan").unwrap_or(""));
+    let width = parse_number_up_to(example.text("width"), MAX_WIDTH)?;
+    let limit = parse_number_up_to(example.text("limit"), MAX_TIMEOUT_SECONDS)?;
+    let failing = example.number("failing", 0)? as usize;
+    let variables = parse_pairs(alloc, example.lines.as_slice(), "variable");
+    let letters = unescape(alloc, example.text("plan").unwrap_or(""));
     let (letters, variables) = zip_results(letters, variables)?;
-    let base = row.text("base").unwrap_or("");
-    let source = row.text("source").unwrap_or("/t");
+    let base = example.text("base").unwrap_or("");
+    let source = example.text("source").unwrap_or("/t");
     let (base, source) = copy_texts(alloc, base, source)?;
-    let program = row.text("program").unwrap_or("d/p");
+    let program = example.text("program").unwrap_or("d/p");
     let plan = create_plan(alloc, program, &letters, limit, &variables)?;
     let sink = MemorySink::new(alloc, failing);
     let os = ScriptedSystem::new(scene);
     Ok(execute_plan(alloc, os, plan, width, &base, source, sink))
 }
 
-/// Executes the plan of the example `row` once, over a system that follows `scene`. Appends the
-/// parts that `show WORDS` selects, by default the entries, and the error that ended the run early.
-fn push_run(out: &mut ExampleOutput, row: &Example<'_>, scene: &Scene) -> Result<()> {
-    let run = run_plan(row, scene)?;
-    for word in row.text("show").unwrap_or("entries").split_whitespace() {
-        out.separate("\n");
-        push_run_part(out, word, &run)?;
+/// Executes the plan of `example` once, over a system that follows `scene`. Appends the parts that
+/// `show WORDS` selects, by default the entries, and the error that ended the run early.
+fn push_run(out: &mut ExampleOutput, example: &Example<'_>, scene: &Scene) -> Result<()> {
+    let run = run_plan(example, scene)?;
+    for keyword in example.text("show").unwrap_or("entries").split_whitespace() {
+        out.push_separator("\n");
+        push_run_part(out, keyword, &run)?;
     }
     if let Some(fault) = run.fault {
-        out.line(fault);
+        out.push_line(fault);
     }
     Ok(())
 }
 
-/// Executes the plan of the example `row` once for each line `fails CALLS`, or once without such a
-/// line, and appends each result. The systems follow `scene`.
-fn push_plan_output(out: &mut ExampleOutput, row: &Example<'_>, mut scene: Scene) -> Result<()> {
-    if row.text("fails").is_none() {
-        return push_run(out, row, &scene);
+/// Executes the plan of `example` once for each line `fails CALLS`, or once without such a line,
+/// and appends each result. The systems follow `scene`.
+fn push_plan_output(
+    out: &mut ExampleOutput,
+    example: &Example<'_>,
+    mut scene: Scene,
+) -> Result<()> {
+    if example.text("fails").is_none() {
+        return push_run(out, example, &scene);
     }
-    for line in row.entries.as_slice() {
-        if line.word == "fails" {
+    for line in example.lines.as_slice() {
+        if line.keyword == "fails" {
             scene.failing_calls = parse_call_range(line.text)?;
-            push_run(out, row, &scene)?;
+            push_run(out, example, &scene)?;
         }
     }
     Ok(())
@@ -255,31 +259,31 @@ fn create_program(alloc: Global) -> Result<Program> {
     })
 }
 
-/// Lists the cases of a program over a scripted system that follows `scene`. The example `row` has
-/// the directory below which the driver creates its directories (`base PATH`), and the suite's
+/// Lists the cases of a program over a scripted system that follows `scene`. `example` has the
+/// directory below which the driver creates its directories (`base PATH`), and the suite's
 /// variables (`variable NAME=VALUE`).
 fn list_program<'a>(
-    row: &Example<'_>,
+    example: &Example<'_>,
     scene: &'a Scene,
 ) -> Result<(ScriptedSystem<'a>, Option<Listing>)> {
     let alloc = scene.alloc;
-    let variables = parse_pairs(alloc, row.entries.as_slice(), "variable");
+    let variables = parse_pairs(alloc, example.lines.as_slice(), "variable");
     let (program, variables) = zip_results(create_program(alloc), variables)?;
-    let (base, source) = copy_texts(alloc, row.text("base").unwrap_or(""), "/t")?;
+    let (base, source) = copy_texts(alloc, example.text("base").unwrap_or(""), "/t")?;
     let os = ScriptedSystem::new(scene);
     Ok(list_cases(alloc, os, &base, source, &program, &variables))
 }
 
 /// Lists the cases of a program over a system that follows `scene`, and appends the first words of
-/// the calls and the result. With `show spawns` in the example `row`, also appends the programs
-/// that were started.
-fn push_list_output(out: &mut ExampleOutput, row: &Example<'_>, scene: &Scene) -> Result<()> {
-    let (os, listing) = list_program(row, scene)?;
-    push_calls(out, "words", os.log.text_so_far()?)?;
-    if row.text("show") == Some("spawns") {
-        out.line(os.spawn_log.text_so_far()?.trim());
+/// the calls and the result. With `show spawns` in `example`, also appends the programs that were
+/// started.
+fn push_list_output(out: &mut ExampleOutput, example: &Example<'_>, scene: &Scene) -> Result<()> {
+    let (os, listing) = list_program(example, scene)?;
+    push_calls(out, "words", os.log.as_str()?)?;
+    if example.text("show") == Some("spawns") {
+        out.push_line(os.spawn_log.as_str()?.trim());
     }
-    out.separate("\n");
+    out.push_separator("\n");
     push_listing(out, &listing);
     Ok(())
 }
@@ -302,17 +306,17 @@ fn read_front(
     }
 }
 
-/// Reads an endless file, as the example `row` describes, and appends the result. With the line
-/// `limit BYTES`, the file is read as an output, and otherwise as a Kyuafile.
-fn push_read_output(out: &mut ExampleOutput, row: &Example<'_>) -> Result<()> {
+/// Reads an endless file, as `example` describes, and appends the result. With the line `limit
+/// BYTES`, the file is read as an output, and otherwise as a Kyuafile.
+fn push_read_output(out: &mut ExampleOutput, example: &Example<'_>) -> Result<()> {
     let mut file = EndlessReader {
-        max_read_bytes: row.number("piece", 1)? as usize,
-        remaining_reads: row.number("reads", u64::MAX)?,
-        is_interrupted: row.text("interrupted").is_some(),
+        max_read_bytes: example.number("piece", 1)? as usize,
+        remaining_reads: example.number("reads", u64::MAX)?,
+        is_interrupted: example.text("interrupted").is_some(),
         returned_bytes: 0,
         failed_reads: 0,
     };
-    let limit = row.text("limit").map(number).transpose()?;
+    let limit = example.text("limit").map(parse_number).transpose()?;
     let read = read_front(out.alloc, &mut file, limit);
     let (given, failed) = (file.returned_bytes, file.failed_reads);
     match read {
@@ -325,19 +329,19 @@ fn push_read_output(out: &mut ExampleOutput, row: &Example<'_>) -> Result<()> {
     Ok(())
 }
 
-/// Executes `row`, an example of a scripted system. Its first line is `plan LETTERS`, `list` or
-/// `reader`.
+/// Executes an example of a scripted system, and appends its output. The first line is `plan
+/// LETTERS`, `list` or `reader`.
 ///
 /// # Errors
 ///
 /// - `InvalidExample`: a line is missing or invalid.
 /// - `NoMemory`: an allocation failed.
-pub fn answer(out: &mut ExampleOutput, row: &Example<'_>) -> Result<()> {
-    let scene = parse_scene(out.alloc, row)?;
-    match row.first()?.word {
-        "plan" => push_plan_output(out, row, scene),
-        "list" => push_list_output(out, row, &scene),
-        "reader" => push_read_output(out, row),
+pub fn push_output(out: &mut ExampleOutput, example: &Example<'_>) -> Result<()> {
+    let scene = parse_scene(out.alloc, example)?;
+    match example.first()?.keyword {
+        "plan" => push_plan_output(out, example, scene),
+        "list" => push_list_output(out, example, &scene),
+        "reader" => push_read_output(out, example),
         _ => Err(ExampleFault::InvalidExample("nothing like that is asked of a system")),
     }
 }

@@ -1,10 +1,12 @@
 //! Examples of lists of ATF test cases, and of a program's cases by the result of listing them.
 
-use crate::answer::ExampleOutput;
 use crate::escapes::unescape;
-use crate::example_fault::{ExampleFault, Result, convert_error, due, split_required, zip_results};
-use crate::properties::{push_props, set_valid_property};
-use crate::row::{Example, append, append_copies};
+use crate::example::{Example, append_copies, append_unescaped};
+use crate::example_fault::{
+    ExampleFault, Result, convert_error, require_part, split_once_or_fail, zip_results,
+};
+use crate::example_output::ExampleOutput;
+use crate::properties::{push_properties, set_valid_property};
 use crate::verdicts::{parse_outcome, parse_refusal, push_reason};
 use kt_atflist::{CaseDef, ListBytes, Listing, cases, parse_list};
 use kt_base::{Bytes, Interface, Items, Verdict};
@@ -12,19 +14,19 @@ use kt_metadata::Props;
 use std::alloc::Global;
 
 /// The header of a list of ATF test cases, followed by an empty line.
-pub const HEADER: &str = "Content-Type: application/X-atf-tp; version=\"1\"\n\n";
+pub const CASE_LIST_HEADER: &str = "Content-Type: application/X-atf-tp; version=\"1\"\n\n";
 
 /// Returns the bytes of a list of ATF test cases: the header, and then `blocks` with its escapes
 /// decoded.
 fn prepend_header(alloc: Global, blocks: &str) -> Result<Vec<u8>> {
-    let mut text = HEADER.as_bytes().to_vec(alloc)?;
-    append(alloc, &mut text, blocks)?;
+    let mut text = CASE_LIST_HEADER.as_bytes().to_vec(alloc)?;
+    append_unescaped(alloc, &mut text, blocks)?;
     Ok(text)
 }
 
 /// Creates the listing of a program that printed the list `text`. `ending` is the program's
 /// outcome, such as `exited 0`.
-fn make_listing(ending: &str, text: Result<Vec<u8>>) -> Result<Listing> {
+fn create_listing(ending: &str, text: Result<Vec<u8>>) -> Result<Listing> {
     let (text, ending) = zip_results(text, parse_outcome(ending))?;
     Ok(Listing::Ended(ending, ListBytes::Read(Bytes::from_vec(text))))
 }
@@ -44,18 +46,18 @@ fn parse_listing(alloc: Global, text: &str) -> Result<Listing> {
         return Ok(Listing::Ended(parse_outcome(ending)?, ListBytes::TooLong));
     }
     if let Some((ending, blocks)) = text.split_once(" blocks ") {
-        return make_listing(ending, prepend_header(alloc, blocks));
+        return create_listing(ending, prepend_header(alloc, blocks));
     }
-    let (ending, list) = split_required(text, " list ", "an ending stands before a list")?;
-    make_listing(ending, unescape(alloc, list))
+    let (ending, list) = split_once_or_fail(text, " list ", "an ending stands before a list")?;
+    create_listing(ending, unescape(alloc, list))
 }
 
 /// Appends a new line for `case`: its name, the properties that differ from the defaults, and the
 /// reason of its fault, if any.
 fn push_case(out: &mut ExampleOutput, case: CaseDef) -> Result<()> {
     let CaseDef { name, props, fault } = case;
-    out.line(name.as_str());
-    push_props(out, &props)?;
+    out.push_line(name.as_str());
+    push_properties(out, &props)?;
     if let Some(reason) = fault {
         out.push(": ");
         return push_reason(out, &Verdict::broken(reason));
@@ -65,8 +67,8 @@ fn push_case(out: &mut ExampleOutput, case: CaseDef) -> Result<()> {
 
 /// Appends a line for each case in `found`, or only their number if the example contains the line
 /// `count`.
-fn push_cases(out: &mut ExampleOutput, row: &Example<'_>, found: Items<CaseDef>) -> Result<()> {
-    if row.text("count").is_some() {
+fn push_cases(out: &mut ExampleOutput, example: &Example<'_>, found: Items<CaseDef>) -> Result<()> {
+    if example.text("count").is_some() {
         write!(out, "{} cases", found.len());
         return Ok(());
     }
@@ -76,21 +78,21 @@ fn push_cases(out: &mut ExampleOutput, row: &Example<'_>, found: Items<CaseDef>)
     Ok(())
 }
 
-/// Returns the bytes of the list of ATF test cases in the example `row`.
+/// Returns the bytes of the list of ATF test cases in `example`.
 ///
 /// The list is the text of the line `list TEXT`. Without this line, the list is the header, the
 /// text of the line `blocks TEXT`, and the copies of the lines `numbered COUNT TEXT`.
-fn decode_case_list(alloc: Global, row: &Example<'_>) -> Result<Vec<u8>> {
-    if let Some(text) = row.text("list") {
+fn decode_case_list(alloc: Global, example: &Example<'_>) -> Result<Vec<u8>> {
+    if let Some(text) = example.text("list") {
         return unescape(alloc, text);
     }
-    let blocks = due(row.text("blocks"), "no list")?;
-    append_copies(alloc, prepend_header(alloc, blocks), row)
+    let blocks = require_part(example.text("blocks"), "no list")?;
+    append_copies(alloc, prepend_header(alloc, blocks), example)
 }
 
-/// Parses `word` as the interface of a test program: `atf`, `tap` or `plain`.
-fn parse_interface(word: &str) -> Result<Interface> {
-    match word {
+/// Parses `keyword` as the interface of a test program: `atf`, `tap` or `plain`.
+fn parse_interface(keyword: &str) -> Result<Interface> {
+    match keyword {
         "atf" => Ok(Interface::Atf),
         "tap" => Ok(Interface::Tap),
         "plain" => Ok(Interface::Plain),
@@ -98,21 +100,25 @@ fn parse_interface(word: &str) -> Result<Interface> {
     }
 }
 
-/// Returns the cases of the program in an example, whose interface is `word`.
+/// Returns the cases of the program in an example, whose interface is `keyword`.
 ///
 /// The lines `set NAME=VALUE` of the example have the program's properties. The line `lists
 /// LISTING` has the result of listing the program's cases, by default an unreadable list.
-fn program_cases(alloc: Global, row: &Example<'_>, word: &str) -> Result<Items<CaseDef>> {
+fn list_program_cases(
+    alloc: Global,
+    example: &Example<'_>,
+    keyword: &str,
+) -> Result<Items<CaseDef>> {
     let mut props = Props::new(alloc);
     let mut lists = "exited 0 unreadable";
-    for line in row.entries.as_slice() {
-        match line.word {
+    for line in example.lines.as_slice() {
+        match line.keyword {
             "set" => set_valid_property(alloc, &mut props, line.text)?,
             "lists" => lists = line.text,
             _ => {}
         }
     }
-    let (listing, interface) = zip_results(parse_listing(alloc, lists), parse_interface(word))?;
+    let (listing, interface) = zip_results(parse_listing(alloc, lists), parse_interface(keyword))?;
     convert_error(cases(alloc, interface, &props, &Some(listing)))
 }
 
@@ -123,12 +129,16 @@ fn program_cases(alloc: Global, row: &Example<'_>, word: &str) -> Result<Items<C
 ///
 /// - `InvalidExample`: a line is missing or invalid.
 /// - `NoMemory`: an allocation failed.
-pub fn answer(out: &mut ExampleOutput, row: &Example<'_>) -> Result<()> {
-    if let Some(word) = row.text("program") {
-        return push_cases(out, row, program_cases(out.alloc, row, word)?);
+pub fn push_output(out: &mut ExampleOutput, example: &Example<'_>) -> Result<()> {
+    if let Some(keyword) = example.text("program") {
+        return push_cases(
+            out,
+            example,
+            list_program_cases(out.alloc, example, keyword)?,
+        );
     }
-    match parse_list(out.alloc, &decode_case_list(out.alloc, row)?) {
-        Ok(found) => return push_cases(out, row, found),
+    match parse_list(out.alloc, &decode_case_list(out.alloc, example)?) {
+        Ok(found) => return push_cases(out, example, found),
         Err(fault) => write!(out, "{fault}"),
     }
     Ok(())

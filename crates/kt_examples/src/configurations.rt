@@ -1,19 +1,19 @@
-use crate::answer::ExampleOutput;
 use crate::escapes::{unescape, unescape_text};
-use crate::example_fault::{ExampleFault, Result, split_required, zip_results};
+use crate::example::{Example, ExampleLine, append_copies, parse_pair};
+use crate::example_fault::{ExampleFault, Result, split_once_or_fail, zip_results};
+use crate::example_output::ExampleOutput;
 use crate::retry_once;
-use crate::row::{Example, ExampleLine, append_copies, parse_pair};
 use kt_base::Text;
 use kt_config::{Config, ConfigFault, SuiteVariables};
 
-/// Appends the variables of the suite `suite`, as `a=1 b=2`, or their number if `word` is `count`.
-/// Appends `none` if the suite has no variables.
-fn push_suite(out: &mut ExampleOutput, config: &Config, word: &str, suite: &str) -> Result<()> {
+/// Appends the variables of the suite `suite`, as `a=1 b=2`, or their number if `keyword` is
+/// `count`. Appends `none` if the suite has no variables.
+fn push_suite(out: &mut ExampleOutput, config: &Config, keyword: &str, suite: &str) -> Result<()> {
     let suite = config.suite_vars(&unescape_text(out.alloc, suite)?);
     match &suite.map(SuiteVariables::copy).transpose()? {
         None => out.push("none"),
-        Some(variables) if word == "count" => write!(out, "{}", variables.len()),
-        Some(variables) => out.pairs(variables, " ", "="),
+        Some(variables) if keyword == "count" => write!(out, "{}", variables.len()),
+        Some(variables) => out.push_pairs(variables, " ", "="),
     }
     Ok(())
 }
@@ -32,7 +32,7 @@ fn suite_value<'a>(config: &'a Config, suite: &Text, name: &Text) -> &'a str {
 
 /// Parses `text` as `SUITE NAME`, and appends the value of this suite's variable.
 fn push_value(out: &mut ExampleOutput, config: &Config, text: &str) -> Result<()> {
-    let (suite, name) = split_required(text, " ", "no suite and name")?;
+    let (suite, name) = split_once_or_fail(text, " ", "no suite and name")?;
     let (suite, name) = zip_results(
         unescape_text(out.alloc, suite),
         unescape_text(out.alloc, name),
@@ -43,7 +43,7 @@ fn push_value(out: &mut ExampleOutput, config: &Config, text: &str) -> Result<()
 
 /// Parses `text` as `NAME=VALUE` and sets this variable. Appends `set`, or the error's message if
 /// the variable is rejected.
-fn set(out: &mut ExampleOutput, config: &mut Config, text: &str) -> Result<()> {
+fn execute_set(out: &mut ExampleOutput, config: &mut Config, text: &str) -> Result<()> {
     let pair = parse_pair(out.alloc, text)?;
     match retry_once!(ConfigFault, config.set(&pair.name, &pair.value)) {
         Ok(()) => out.push("set"),
@@ -59,10 +59,10 @@ fn push_line_output(
     config: &mut Config,
     line: &ExampleLine<'_>,
 ) -> Result<()> {
-    out.separate("\n");
-    match line.word {
-        "set" => return set(out, config, line.text),
-        "suite" | "count" => return push_suite(out, config, line.word, line.text),
+    out.push_separator("\n");
+    match line.keyword {
+        "set" => return execute_set(out, config, line.text),
+        "suite" | "count" => return push_suite(out, config, line.keyword, line.text),
         "value" => return push_value(out, config, line.text),
         "parallelism" => write!(out, "{}", config.parallelism()),
         "architecture" => out.push(config.architecture()),
@@ -73,9 +73,13 @@ fn push_line_output(
 }
 
 /// Executes the lines of an example on the configuration `config`, and appends their outputs.
-fn push_line_outputs(out: &mut ExampleOutput, mut config: Config, row: &Example<'_>) -> Result<()> {
-    for line in row.entries.as_slice() {
-        if !matches!(line.word, "file" | "numbered") {
+fn push_line_outputs(
+    out: &mut ExampleOutput,
+    mut config: Config,
+    example: &Example<'_>,
+) -> Result<()> {
+    for line in example.lines.as_slice() {
+        if !matches!(line.keyword, "file" | "numbered") {
             push_line_output(out, &mut config, line)?;
         }
     }
@@ -92,13 +96,13 @@ fn push_line_outputs(out: &mut ExampleOutput, mut config: Config, row: &Example<
 ///
 /// - `InvalidExample`: a line is invalid.
 /// - `NoMemory`: an allocation failed.
-pub fn answer(out: &mut ExampleOutput, row: &Example<'_>) -> Result<()> {
-    let Some(file) = row.text("file") else {
-        return push_line_outputs(out, Config::new(out.alloc), row);
+pub fn push_output(out: &mut ExampleOutput, example: &Example<'_>) -> Result<()> {
+    let Some(file) = example.text("file") else {
+        return push_line_outputs(out, Config::new(out.alloc), example);
     };
-    let file = append_copies(out.alloc, unescape(out.alloc, file), row)?;
+    let file = append_copies(out.alloc, unescape(out.alloc, file), example)?;
     match Config::read(out.alloc, &file) {
-        Ok(config) => return push_line_outputs(out, config, row),
+        Ok(config) => return push_line_outputs(out, config, example),
         Err(fault) => write!(out, "{fault}"),
     }
     Ok(())

@@ -2,18 +2,18 @@
 
 ghost use Rattle.std.specs.Prelude.{◌≤◌, IfOk};
 
-use crate::answer::ExampleOutput;
 use crate::escapes::{unescape, unescape_lossy};
-use crate::example_fault::{ExampleFault, Result, due, push_or_fail, zip_results};
-use crate::row::{Example, ExampleLine, number_in, parse_pairs, text_in};
+use crate::example::{Example, ExampleLine, find_number, find_text, parse_pairs};
+use crate::example_fault::{ExampleFault, Result, push_or_fail, require_part, zip_results};
+use crate::example_output::ExampleOutput;
 use crate::verdicts::push_verdict;
 use kt_base::{Bytes, Entry, Items, Kind, LATEST_MOMENT_MILLIS, Output, Run, Verdict};
 use std::alloc::Global;
 
-/// Returns the text of the first of `lines` with the keyword `word`, with its escapes decoded to
+/// Returns the text of the first of `lines` with the keyword `keyword`, with its escapes decoded to
 /// bytes. Returns no bytes if there is no such line.
-fn decode_bytes(alloc: Global, lines: &[ExampleLine<'_>], word: &str) -> Result<Bytes> {
-    unescape(alloc, text_in(lines, word).unwrap_or("")).map(Bytes::from_vec)
+fn decode_bytes(alloc: Global, lines: &[ExampleLine<'_>], keyword: &str) -> Result<Bytes> {
+    unescape(alloc, find_text(lines, keyword).unwrap_or("")).map(Bytes::from_vec)
 }
 
 /// Parses the standard output and the standard error of a body or a cleanup. `out` and `err` are
@@ -26,14 +26,14 @@ fn parse_outputs(alloc: Global, lines: &[ExampleLine<'_>], out: &str, err: &str)
     Ok(Output { out, err })
 }
 
-/// Parses `word` as a verdict's kind: `passed`, `skipped`, `expected_failure`, `failed` or
+/// Parses `keyword` as a verdict's kind: `passed`, `skipped`, `expected_failure`, `failed` or
 /// `broken`. Allocates nothing.
 ///
 /// # Errors
 ///
-/// - `InvalidExample`: `word` isn't one of these kinds.
-pub fn parse_kind(word: &str) -> Result<Kind> {
-    match word {
+/// - `InvalidExample`: `keyword` isn't one of these kinds.
+pub fn parse_kind(keyword: &str) -> Result<Kind> {
+    match keyword {
         "passed" => Ok(Kind::Passed),
         "skipped" => Ok(Kind::Skipped),
         "expected_failure" => Ok(Kind::ExpectedFailure),
@@ -51,16 +51,16 @@ pub fn parse_kind(word: &str) -> Result<Kind> {
 /// - `NoMemory`: an allocation failed.
 pub fn parse_verdict_kinds(alloc: Global, words: &str) -> Result<Vec<Kind>> {
     let mut kinds = Vec::new(alloc);
-    for word in words.split_whitespace() {
-        push_or_fail(&mut kinds, parse_kind(word))?;
+    for keyword in words.split_whitespace() {
+        push_or_fail(&mut kinds, parse_kind(keyword))?;
     }
     Ok(kinds)
 }
 
 /// Parses `text` as a verdict in the form `KIND: REASON`. Without `: `, the reason is empty.
 fn parse_verdict(alloc: Global, text: &str) -> Result<Verdict> {
-    let (word, reason) = text.split_once(": ").unwrap_or((text, ""));
-    Ok(Verdict::of(parse_kind(word)?, unescape_lossy(alloc, reason)?))
+    let (keyword, reason) = text.split_once(": ").unwrap_or((text, ""));
+    Ok(Verdict::of(parse_kind(keyword)?, unescape_lossy(alloc, reason)?))
 }
 
 /// Creates an entry at the position `position` with the verdict `verdict`. `content` are the lines
@@ -69,16 +69,16 @@ fn parse_verdict(alloc: Global, text: &str) -> Result<Verdict> {
 /// These lines are `program TEXT`, `case TEXT`, `started MILLISECONDS`, `took MILLISECONDS`, `out
 /// TEXT`, `err TEXT`, `cleanup-out TEXT`, `cleanup-err TEXT`, and `meta NAME=VALUE` for each
 /// property.
-fn entry_of(
+fn create_entry(
     alloc: Global,
     content: &[ExampleLine<'_>],
     verdict: &str,
     position: u32,
 ) -> Result<Entry> {
-    let program = unescape_lossy(alloc, text_in(content, "program").unwrap_or("a"));
-    let case_name = unescape_lossy(alloc, text_in(content, "case").unwrap_or("main"));
-    let started = number_in(content, "started", 0);
-    let times = zip_results(started, number_in(content, "took", 0));
+    let program = unescape_lossy(alloc, find_text(content, "program").unwrap_or("a"));
+    let case_name = unescape_lossy(alloc, find_text(content, "case").unwrap_or("main"));
+    let started = find_number(content, "started", 0);
+    let times = zip_results(started, find_number(content, "took", 0));
     let body = parse_outputs(alloc, content, "out", "err");
     let cleanup = parse_outputs(alloc, content, "cleanup-out", "cleanup-err");
     let said = zip_results(
@@ -119,7 +119,7 @@ pub fn parse_storable_entry(
 ) -> Result<Entry>
     ensures { IfOk result (λ e. (e.started ≤ 253402300799999) × (e.millis ≤ 253402300799999)) }
 {
-    let mut entry = entry_of(alloc, lines, verdict, at)?;
+    let mut entry = create_entry(alloc, lines, verdict, at)?;
     entry.started = entry.started.min(LATEST_MOMENT_MILLIS);
     entry.millis = entry.millis.min(LATEST_MOMENT_MILLIS);
     Ok(entry)
@@ -128,7 +128,7 @@ pub fn parse_storable_entry(
 /// Returns `true` if `line` describes an entry of an example, by a keyword such as `program` or
 /// `out`.
 pub fn is_entry_line(line: &ExampleLine<'_>) -> bool {
-    match line.word {
+    match line.keyword {
         "program" | "case" | "started" | "took" | "meta" | "times" => true,
         "out" | "err" | "cleanup-out" | "cleanup-err" => true,
         _ => false,
@@ -136,7 +136,10 @@ pub fn is_entry_line(line: &ExampleLine<'_>) -> bool {
 }
 
 /// Returns the lines directly after index `place` of `lines` that describe the entry at this index.
-pub fn entry_lines_at<'a, 'b>(lines: &'b [ExampleLine<'a>], place: usize) -> &'b [ExampleLine<'a>] {
+pub fn find_entry_lines<'a, 'b>(
+    lines: &'b [ExampleLine<'a>],
+    place: usize,
+) -> &'b [ExampleLine<'a>] {
     let (_, rest) = lines.split_at(place.saturating_add(1).min(lines.len()));
     let length = rest.iter().take_while(|line| is_entry_line(*line)).count();
     rest.split_at(length.min(rest.len())).0
@@ -144,7 +147,7 @@ pub fn entry_lines_at<'a, 'b>(lines: &'b [ExampleLine<'a>], place: usize) -> &'b
 
 /// Returns the number of entries in `entries`. Fails if it is 2^32 or more.
 fn count_entries(entries: &Items<Entry>) -> Result<u32> {
-    due(u32::try_from(entries.len()).ok(), "too many entries")
+    require_part(u32::try_from(entries.len()).ok(), "too many entries")
 }
 
 /// Appends the entry that `lines` describe, with the verdict `verdict`. Appends it N times if the
@@ -155,9 +158,9 @@ fn push_entry_copies(
     lines: &[ExampleLine<'_>],
     verdict: &str,
 ) -> Result<()> {
-    for _ in 0..number_in(lines, "times", 1)? {
+    for _ in 0..find_number(lines, "times", 1)? {
         let position = count_entries(entries)?;
-        entries.push(entry_of(alloc, lines, verdict, position)?)?;
+        entries.push(create_entry(alloc, lines, verdict, position)?)?;
     }
     Ok(())
 }
@@ -167,8 +170,13 @@ fn push_entry_copies(
 fn parse_entries(alloc: Global, lines: &[ExampleLine<'_>]) -> Result<Items<Entry>> {
     let mut entries = Items::new(alloc);
     for (place, line) in lines.iter().enumerate() {
-        if line.word == "entry" {
-            push_entry_copies(alloc, &mut entries, entry_lines_at(lines, place), line.text)?;
+        if line.keyword == "entry" {
+            push_entry_copies(
+                alloc,
+                &mut entries,
+                find_entry_lines(lines, place),
+                line.text,
+            )?;
         }
     }
     Ok(entries)
@@ -183,14 +191,14 @@ fn parse_entries(alloc: Global, lines: &[ExampleLine<'_>]) -> Result<Items<Entry
 ///
 /// - `InvalidExample`: a line is invalid, or there are 2^32 entries or more.
 /// - `NoMemory`: an allocation failed.
-pub fn parse_run(alloc: Global, row: &Example<'_>) -> Result<Run> {
-    let (number, started) = zip_results(row.number("run", 1), row.number("at", 0))?;
-    let entries = parse_entries(alloc, row.entries.as_slice())?;
+pub fn parse_run(alloc: Global, example: &Example<'_>) -> Result<Run> {
+    let (number, started) = zip_results(example.number("run", 1), example.number("at", 0))?;
+    let entries = parse_entries(alloc, example.lines.as_slice())?;
     Ok(Run {
         number,
         started,
         total: count_entries(&entries)?,
-        finished: row.text("unfinished").is_none(),
+        finished: example.text("unfinished").is_none(),
         entries,
     })
 }
@@ -199,13 +207,13 @@ pub fn parse_run(alloc: Global, row: &Example<'_>) -> Result<Run> {
 /// cleanup.
 fn push_outputs(out: &mut ExampleOutput, entry: &Entry) {
     out.push("out=");
-    out.bytes(entry.body.out.as_slice());
+    out.push_bytes(entry.body.out.as_slice());
     out.push(", err=");
-    out.bytes(entry.body.err.as_slice());
+    out.push_bytes(entry.body.err.as_slice());
     out.push(", cleanup out=");
-    out.bytes(entry.cleanup.out.as_slice());
+    out.push_bytes(entry.cleanup.out.as_slice());
     out.push(", cleanup err=");
-    out.bytes(entry.cleanup.err.as_slice());
+    out.push_bytes(entry.cleanup.err.as_slice());
 }
 
 /// Appends a space and six characters: for the start time, the duration and the length of each of
@@ -228,19 +236,19 @@ fn push_marks(out: &mut ExampleOutput, entry: &Entry) {
     }
 }
 
-/// Appends `entry` in the form that `word` selects: `cases`, `outputs` or `marks`. For any other
-/// word, appends the position and the verdict.
-fn push_entry(out: &mut ExampleOutput, word: &str, entry: &Entry) {
-    if word == "outputs" {
+/// Appends `entry` in the form that `keyword` selects: `cases`, `outputs` or `marks`. For any other
+/// keyword, appends the position and the verdict.
+fn push_entry(out: &mut ExampleOutput, keyword: &str, entry: &Entry) {
+    if keyword == "outputs" {
         return push_outputs(out, entry);
     }
     write!(out, "{} ", entry.position);
     let (program, case_name) = (entry.program.as_str(), entry.case_name.as_str());
-    if word == "cases" {
+    if keyword == "cases" {
         write!(out, "{program}:{case_name} ");
     }
     push_verdict(out, &entry.verdict);
-    match word {
+    match keyword {
         "cases" => write!(out, ", started {}, took {}", entry.started, entry.millis),
         "marks" => push_marks(out, entry),
         _ => {}
@@ -249,28 +257,28 @@ fn push_entry(out: &mut ExampleOutput, word: &str, entry: &Entry) {
 
 /// Appends the properties of all entries, one per line. The position of its entry precedes each
 /// property.
-fn push_pairs(out: &mut ExampleOutput, entries: &[Entry]) {
+fn push_entry_properties(out: &mut ExampleOutput, entries: &[Entry]) {
     let mut separator = "";
     for entry in entries {
         for pair in entry.meta.as_slice() {
             write!(out, "{separator}{}", entry.position);
-            out.pair(" ", pair, "=");
+            out.push_pair(" ", pair, "=");
             separator = "\n";
         }
     }
 }
 
-/// Appends each entry in the form that `word` selects, one entry per line. The forms are `cases`,
-/// `outputs` and `marks`. `pairs` selects the properties of all entries. For any other word,
-/// appends the position and the verdict of each entry.
-pub fn push_entries(out: &mut ExampleOutput, word: &str, entries: &[Entry]) {
-    if word == "pairs" {
-        return push_pairs(out, entries);
+/// Appends each entry in the form that `keyword` selects, one entry per line. The forms are
+/// `cases`, `outputs` and `marks`. `pairs` selects the properties of all entries. For any other
+/// keyword, appends the position and the verdict of each entry.
+pub fn push_entries(out: &mut ExampleOutput, keyword: &str, entries: &[Entry]) {
+    if keyword == "pairs" {
+        return push_entry_properties(out, entries);
     }
     let mut separator = "";
     for entry in entries {
         out.push(separator);
-        push_entry(out, word, entry);
+        push_entry(out, keyword, entry);
         separator = "\n";
     }
 }

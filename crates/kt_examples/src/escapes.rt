@@ -1,4 +1,4 @@
-use crate::example_fault::{ExampleFault, Result, convert_error, due};
+use crate::example_fault::{ExampleFault, Result, convert_error, require_part};
 use kt_base::{Text, lossy};
 use std::alloc::Global;
 
@@ -13,13 +13,13 @@ struct Unescaper<'a> {
     text: Vec<u8>,
     /// The number of copies of the open repetition, and the index in `text` of its first byte, or
     /// `None` if no repetition is open.
-    open: Option<(usize, usize)>,
+    repetition: Option<(usize, usize)>,
 }
 
 /// Parses the byte `b` as a hexadecimal digit. Fails if `b` is `None` or another byte.
 fn parse_hex_digit(b: Option<u8>) -> Result<u32> {
     let digit = char::from(b.unwrap_or(b' ')).to_digit(16);
-    due(digit, "\\x without two hexadecimal digits")
+    require_part(digit, "\\x without two hexadecimal digits")
 }
 
 /// Appends `times` copies of `piece` to `text`. Fails if the copies have more than 32 MiB together.
@@ -52,7 +52,7 @@ impl Unescaper<'_> {
     }
 
     /// Decodes the two hexadecimal digits after `\x`, and appends their byte.
-    fn pair(&mut self) -> Result<()> {
+    fn decode_hex(&mut self) -> Result<()> {
         let high = parse_hex_digit(self.next())?;
         let low = parse_hex_digit(self.next())?;
         let b = u8::try_from(high.wrapping_mul(16).wrapping_add(low));
@@ -60,7 +60,7 @@ impl Unescaper<'_> {
     }
 
     /// Decodes the number and the open brace after `\*`, which begin a repetition.
-    fn times(&mut self) -> Result<()> {
+    fn open_repetition(&mut self) -> Result<()> {
         let mut count: usize = 0;
         for _ in 0..self.rest.len() {
             match self.next() {
@@ -68,7 +68,7 @@ impl Unescaper<'_> {
                     count = count.saturating_mul(10).saturating_add((b - b'0') as usize);
                 }
                 Some(b'{') => {
-                    self.open = Some((count, self.text.len()));
+                    self.repetition = Some((count, self.text.len()));
                     return Ok(());
                 }
                 _ => break,
@@ -78,10 +78,10 @@ impl Unescaper<'_> {
     }
 
     /// Decodes the rest of an escape, after its backslash.
-    fn escape(&mut self) -> Result<()> {
+    fn decode_escape(&mut self) -> Result<()> {
         let b = match self.next() {
-            Some(b'x') => return self.pair(),
-            Some(b'*') => return self.times(),
+            Some(b'x') => return self.decode_hex(),
+            Some(b'*') => return self.open_repetition(),
             Some(b'n') => b'\n',
             Some(b't') => b'\t',
             Some(b'r') => b'\r',
@@ -94,11 +94,11 @@ impl Unescaper<'_> {
 
     /// Decodes the byte `b`. If `b` is a backslash, decodes the rest of the escape. A closing brace
     /// ends the open repetition.
-    fn take(&mut self, b: u8) -> Result<()> {
-        match self.open {
-            _ if b == b'\\' => self.escape(),
+    fn decode_byte(&mut self, b: u8) -> Result<()> {
+        match self.repetition {
+            _ if b == b'\\' => self.decode_escape(),
             Some((times, from)) if b == b'}' => {
-                self.open = None;
+                self.repetition = None;
                 repeat(self.alloc, &mut self.text, from, times)
             }
             _ => convert_error(self.text.push(b)),
@@ -118,21 +118,21 @@ impl Unescaper<'_> {
 ///   32 MiB.
 /// - `NoMemory`: an allocation failed.
 pub fn unescape(alloc: Global, raw: &str) -> Result<Vec<u8>> {
-    let mut reader = Unescaper {
+    let mut unescaper = Unescaper {
         alloc,
         rest: raw.as_bytes(),
         text: Vec::new(alloc),
-        open: None,
+        repetition: None,
     };
     for _ in 0..raw.len() {
-        if let Some(b) = reader.next() {
-            reader.take(b)?;
+        if let Some(b) = unescaper.next() {
+            unescaper.decode_byte(b)?;
         }
     }
-    if reader.open.is_some() {
+    if unescaper.repetition.is_some() {
         return Err(ExampleFault::InvalidExample("braces that aren't closed"));
     }
-    Ok(reader.text)
+    Ok(unescaper.text)
 }
 
 /// Returns `raw` with its escapes decoded (as by `unescape`), as a text.

@@ -34,39 +34,39 @@ where
     }
 }
 
-/// Returns the value in `made`, or converts its error, a failed allocation, to an `ExampleFault`.
-/// Allocates nothing.
+/// Returns the value in `fallible`, or converts its error, a failed allocation, to an
+/// `ExampleFault`. Allocates nothing.
 ///
 /// # Errors
 ///
-/// - `NoMemory`: `made` is an error.
-pub fn convert_error<T: Drop, E: Drop>(made: Result<T, E>) -> Result<T>
+/// - `NoMemory`: `fallible` is an error.
+pub fn convert_error<T: Drop, E: Drop>(fallible: Result<T, E>) -> Result<T>
 where
     NoMemory: From<E>,
 {
-    Ok(made?)
+    Ok(fallible?)
 }
 
-/// Returns the value in `found`, which is a part that an example must have. Allocates nothing.
+/// Returns the value in `part`, which is a part that an example must have. Allocates nothing.
 ///
 /// # Errors
 ///
-/// - `InvalidExample`: `found` is `None`. The error's text is `fault`.
-pub fn due<T>(found: Option<T>, fault: &'static str) -> Result<T> {
-    found.ok_or(ExampleFault::InvalidExample(fault))
+/// - `InvalidExample`: `part` is `None`. The error's text is `fault`.
+pub fn require_part<T>(part: Option<T>, fault: &'static str) -> Result<T> {
+    part.ok_or(ExampleFault::InvalidExample(fault))
 }
 
-/// Returns the parts of `text` before and after its first `sign`. Allocates nothing.
+/// Returns the parts of `text` before and after its first `separator`. Allocates nothing.
 ///
 /// # Errors
 ///
-/// - `InvalidExample`: `text` doesn't contain `sign`. The error's text is `fault`.
-pub fn split_required<'a>(
+/// - `InvalidExample`: `text` doesn't contain `separator`. The error's text is `fault`.
+pub fn split_once_or_fail<'a>(
     text: &'a str,
-    sign: &str,
+    separator: &str,
     fault: &'static str,
 ) -> Result<(&'a str, &'a str)> {
-    text.split_once(sign)
+    text.split_once(separator)
         .ok_or(ExampleFault::InvalidExample(fault))
 }
 

@@ -1,7 +1,7 @@
 ghost use Rattle.std.specs.Prelude.{IfOk, ◌≤◌};
 
 use crate::example_fault::{
-    ExampleFault, Result, convert_error, due, push_or_fail, split_required,
+    ExampleFault, Result, convert_error, push_or_fail, require_part, split_once_or_fail,
 };
 use std::alloc::Global;
 
@@ -10,8 +10,8 @@ use std::alloc::Global;
 /// # Errors
 ///
 /// - `InvalidExample`: `text` isn't such a number.
-pub fn number(text: &str) -> Result<u64> {
-    due(text.parse::<u64>().ok(), "a number is due")
+pub fn parse_number(text: &str) -> Result<u64> {
+    require_part(text.parse::<u64>().ok(), "a number is due")
 }
 
 /// Parses `text` as a number from 0 to 2^32 - 1. Allocates nothing.
@@ -19,8 +19,8 @@ pub fn number(text: &str) -> Result<u64> {
 /// # Errors
 ///
 /// - `InvalidExample`: `text` isn't such a number.
-pub fn count(text: &str) -> Result<u32> {
-    due(text.parse::<u32>().ok(), "a number below 2^32 is due")
+pub fn parse_count(text: &str) -> Result<u32> {
+    require_part(text.parse::<u32>().ok(), "a number below 2^32 is due")
 }
 
 /// Parses `text` as a number from 0 to 2^64 - 1, and stores the number in `place`. Allocates
@@ -30,7 +30,7 @@ pub fn count(text: &str) -> Result<u32> {
 ///
 /// - `InvalidExample`: `text` isn't such a number.
 pub fn store_number(place: &mut Option<u64>, text: &str) -> Result<()> {
-    *place = Some(number(text)?);
+    *place = Some(parse_number(text)?);
     Ok(())
 }
 
@@ -43,7 +43,7 @@ pub fn store_number(place: &mut Option<u64>, text: &str) -> Result<()> {
 pub fn parse_numbers(alloc: Global, text: &str) -> Result<Vec<u64>> {
     let mut numbers = Vec::new(alloc);
     for word in text.split_whitespace() {
-        push_or_fail(&mut numbers, number(word))?;
+        push_or_fail(&mut numbers, parse_number(word))?;
     }
     Ok(numbers)
 }
@@ -61,10 +61,10 @@ fn insert_number(alloc: Global, text: &str, number: u32) -> Result<String> {
 ///
 /// - `InvalidExample`: `raw` has no space, or COUNT isn't a number from 0 to 2^32 - 1.
 /// - `NoMemory`: an allocation failed.
-pub fn expand_numbered(alloc: Global, raw: &str) -> Result<Vec<String>> {
-    let (times, text) = split_required(raw, " ", "a text stands after a number")?;
+pub fn expand_copies(alloc: Global, raw: &str) -> Result<Vec<String>> {
+    let (times, text) = split_once_or_fail(raw, " ", "a text stands after a number")?;
     let mut texts = Vec::new(alloc);
-    for number in 0..count(times)? {
+    for number in 0..parse_count(times)? {
         push_or_fail(&mut texts, insert_number(alloc, text, number))?;
     }
     Ok(texts)

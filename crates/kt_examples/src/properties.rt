@@ -1,9 +1,9 @@
-use crate::answer::ExampleOutput;
 use crate::escapes::unescape_text;
-use crate::example_fault::{ExampleFault, Result, convert_error, due, zip_results};
-use crate::numbers::{expand_numbered, store_number};
+use crate::example::{Example, ExampleLine, parse_pair};
+use crate::example_fault::{ExampleFault, Result, convert_error, require_part, zip_results};
+use crate::example_output::ExampleOutput;
+use crate::numbers::{expand_copies, store_number};
 use crate::retry_once;
-use crate::row::{Example, ExampleLine, parse_pair};
 use crate::verdicts::push_reason;
 use kt_base::{Text, Variables, Verdict};
 use kt_config::{Config, ConfigFault};
@@ -27,7 +27,7 @@ struct PropertyState {
 fn set_property(out: &mut ExampleOutput, props: &mut Props, raw: &str) -> Result<()> {
     let pair = parse_pair(out.alloc, raw)?;
     if let Err(fault) = retry_once!(PropFault, props.set(&pair.name, &pair.value)) {
-        out.separate("\n");
+        out.push_separator("\n");
         write!(out, "{fault}");
     }
     Ok(())
@@ -42,13 +42,13 @@ fn set_property(out: &mut ExampleOutput, props: &mut Props, raw: &str) -> Result
 pub fn set_valid_property(alloc: Global, props: &mut Props, raw: &str) -> Result<()> {
     let pair = parse_pair(alloc, raw)?;
     let set = retry_once!(PropFault, props.set(&pair.name, &pair.value)).ok();
-    due(set, "there is no such property or value")
+    require_part(set, "there is no such property or value")
 }
 
 /// Parses `raw` as `COUNT NAME=VALUE` and sets COUNT properties. Each `#` is replaced by the number
 /// of the property, counted from 0. Fails if a property is rejected.
-fn set_numbered_properties(alloc: Global, props: &mut Props, raw: &str) -> Result<()> {
-    for text in expand_numbered(alloc, raw)?.as_slice() {
+fn set_property_copies(alloc: Global, props: &mut Props, raw: &str) -> Result<()> {
+    for text in expand_copies(alloc, raw)?.as_slice() {
         set_valid_property(alloc, props, text.as_str())?;
     }
     Ok(())
@@ -66,11 +66,11 @@ fn find_value<'a>(pairs: &'a Variables, name: &str) -> Option<&'a str> {
 /// # Errors
 ///
 /// - `NoMemory`: an allocation failed.
-pub fn push_props(out: &mut ExampleOutput, props: &Props) -> Result<()> {
+pub fn push_properties(out: &mut ExampleOutput, props: &Props) -> Result<()> {
     let defaults = Props::new(out.alloc).listing()?;
     for pair in props.listing()?.as_slice() {
         if find_value(&defaults, pair.name.as_str()) != Some(pair.value.as_str()) {
-            out.pair(" ", pair, "=");
+            out.push_pair(" ", pair, "=");
         }
     }
     Ok(())
@@ -81,23 +81,23 @@ pub fn push_props(out: &mut ExampleOutput, props: &Props) -> Result<()> {
 fn set_variable(alloc: Global, config: &mut Config, raw: &str) -> Result<()> {
     let pair = parse_pair(alloc, raw)?;
     let set = retry_once!(ConfigFault, config.set(&pair.name, &pair.value)).ok();
-    due(set, "there is no such variable")
+    require_part(set, "there is no such variable")
 }
 
-/// Executes the query `word` on `pairs`, the properties of an example, and appends its output.
+/// Executes the query `keyword` on `pairs`, the properties of an example, and appends its output.
 ///
 /// `show` prints the value of the property `name`, `count` the number of properties, and `listing`
 /// all of them.
 fn execute_listing_query(
     out: &mut ExampleOutput,
-    word: &str,
+    keyword: &str,
     name: &str,
     pairs: &Variables,
 ) -> Result<()> {
-    match word {
+    match keyword {
         "show" => out.push(find_value(pairs, name).unwrap_or("-")),
         "count" => write!(out, "{}", pairs.len()),
-        "listing" => out.pairs(pairs, "\n", " = "),
+        "listing" => out.push_pairs(pairs, "\n", " = "),
         _ => return Err(ExampleFault::InvalidExample("there is no such word")),
     }
     Ok(())
@@ -123,12 +123,12 @@ impl PropertyState {
 
     /// Executes a line of an example, which changes the state or is a query, and appends its
     /// output.
-    fn take(&mut self, out: &mut ExampleOutput, line: &ExampleLine<'_>) -> Result<()> {
+    fn execute_line(&mut self, out: &mut ExampleOutput, line: &ExampleLine<'_>) -> Result<()> {
         let (alloc, text) = (out.alloc, line.text);
-        match line.word {
+        match line.keyword {
             "set" => return set_property(out, &mut self.program, text),
             "case" => return set_property(out, &mut self.case, text),
-            "numbered" => return set_numbered_properties(alloc, &mut self.program, text),
+            "numbered" => return set_property_copies(alloc, &mut self.program, text),
             "config" => return set_variable(alloc, &mut self.config, text),
             "file" => return self.record_found(alloc, Need::File, text),
             "program" => return self.record_found(alloc, Need::Program, text),
@@ -145,22 +145,22 @@ impl PropertyState {
     /// The query reads the properties of the case. A property that the case doesn't set has the
     /// value of the program.
     fn execute_case_query(&self, out: &mut ExampleOutput, line: &ExampleLine<'_>) -> Result<()> {
-        out.separate("\n");
+        out.push_separator("\n");
         let props = convert_error(Props::overlay(&self.program, &self.case));
         let (name, props) = zip_results(unescape_text(out.alloc, line.text), props)?;
-        self.push_line_output(out, line.word, &name, &props)
+        self.push_line_output(out, line.keyword, &name, &props)
     }
 
-    /// Executes the query `word` on the properties `props`, and appends its output. `name` is the
-    /// name or the key in the query, if the query has one.
+    /// Executes the query `keyword` on the properties `props`, and appends its output. `name` is
+    /// the name or the key in the query, if the query has one.
     fn push_line_output(
         &self,
         out: &mut ExampleOutput,
-        word: &str,
+        keyword: &str,
         name: &Text,
         props: &Props,
     ) -> Result<()> {
-        match word {
+        match keyword {
             "key" => {
                 let property = property_name_of_key(out.alloc, name)?;
                 out.push(property.as_ref().map_or("unknown", Text::as_str));
@@ -169,7 +169,7 @@ impl PropertyState {
             "kyuafile" => out.push("no"),
             "get" => out.push(props.get(name).map_or("-", Text::as_str)),
             "unmet" => return self.push_unmet_requirement(out, props),
-            _ => return execute_listing_query(out, word, name.as_str(), &props.listing()?),
+            _ => return execute_listing_query(out, keyword, name.as_str(), &props.listing()?),
         }
         Ok(())
     }
@@ -182,15 +182,15 @@ impl PropertyState {
 ///
 /// - `InvalidExample`: a line is invalid.
 /// - `NoMemory`: an allocation failed.
-pub fn answer(out: &mut ExampleOutput, row: &Example<'_>) -> Result<()> {
-    let mut example = PropertyState {
+pub fn push_output(out: &mut ExampleOutput, example: &Example<'_>) -> Result<()> {
+    let mut state = PropertyState {
         program: Props::new(out.alloc),
         case: Props::new(out.alloc),
         config: Config::new(out.alloc),
         host: Host::new(out.alloc, false, None, None),
     };
-    for line in row.entries.as_slice() {
-        example.take(out, line)?;
+    for line in example.lines.as_slice() {
+        state.execute_line(out, line)?;
     }
     Ok(())
 }

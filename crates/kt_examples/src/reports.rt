@@ -1,7 +1,7 @@
-use crate::answer::ExampleOutput;
 use crate::entries::{parse_run, parse_verdict_kinds};
+use crate::example::Example;
 use crate::example_fault::{ExampleFault, Result};
-use crate::row::Example;
+use crate::example_output::ExampleOutput;
 use crate::scripted_writer::ScriptedWriter;
 use kt_base::Run;
 use kt_report::ReportFault;
@@ -21,13 +21,13 @@ fn push_start_time(out: &mut ExampleOutput, report: &str) {
 /// `verbose` adds the properties that the cases declare.
 fn print_text(
     alloc: Global,
-    row: &Example<'_>,
+    example: &Example<'_>,
     run: &Run,
     page: &mut ScriptedWriter,
 ) -> Result<()> {
     let all = "failed broken expected_failure skipped passed";
-    let kinds = parse_verdict_kinds(alloc, row.text("kinds").unwrap_or(all))?;
-    let _ = kt_report::text(run, &kinds, row.text("verbose").is_some(), page);
+    let kinds = parse_verdict_kinds(alloc, example.text("kinds").unwrap_or(all))?;
+    let _ = kt_report::text(run, &kinds, example.text("verbose").is_some(), page);
     Ok(())
 }
 
@@ -35,29 +35,29 @@ fn print_text(
 fn print_junit(out: &mut ExampleOutput, run: &Run, page: &mut ScriptedWriter) {
     match kt_report::junit(out.alloc, run, page) {
         Ok(()) => {}
-        Err(ReportFault::NoMemory(refusal)) => out.fail(refusal),
+        Err(ReportFault::NoMemory(refusal)) => out.record_failure(refusal),
         Err(fault) => write!(out, "{fault}"),
     }
 }
 
 /// Prints a report of `run` to `page`. The line `report` of the example selects the report. If a
 /// JUnit report fails, appends the message of the error to `out`.
-fn print(
+fn print_report(
     out: &mut ExampleOutput,
-    row: &Example<'_>,
+    example: &Example<'_>,
     run: &Run,
     page: &mut ScriptedWriter,
 ) -> Result<()> {
-    match row.text("report") {
+    match example.text("report") {
         Some("line") => {
             for entry in run.entries.as_slice() {
                 let _ = kt_report::line(entry, page);
             }
         }
-        Some("text" | "moment") => return print_text(out.alloc, row, run, page),
+        Some("text" | "moment") => return print_text(out.alloc, example, run, page),
         Some("junit") => print_junit(out, run, page),
         Some("fault") => {
-            page.failing = 1;
+            page.failing_write = 1;
             print_junit(out, run, page);
         }
         _ => return Err(ExampleFault::InvalidExample("no such report")),
@@ -67,11 +67,11 @@ fn print(
 
 /// Appends the report of `run` that the line `report` of the example selects. For `report moment`,
 /// appends only the start time in the text report.
-fn push_report(out: &mut ExampleOutput, row: &Example<'_>, run: &Run) -> Result<()> {
+fn push_report(out: &mut ExampleOutput, example: &Example<'_>, run: &Run) -> Result<()> {
     let mut page = ScriptedWriter::new(out.alloc);
-    print(out, row, run, &mut page)?;
-    let text = page.text(out.alloc)?;
-    match row.text("report") {
+    print_report(out, example, run, &mut page)?;
+    let text = page.written_text(out.alloc)?;
+    match example.text("report") {
         Some("moment") => push_start_time(out, text.as_str()),
         _ => out.push(text.as_str()),
     }
@@ -87,6 +87,6 @@ fn push_report(out: &mut ExampleOutput, row: &Example<'_>, run: &Run) -> Result<
 ///
 /// - `InvalidExample`: a line is missing or invalid.
 /// - `NoMemory`: an allocation failed.
-pub fn answer(out: &mut ExampleOutput, row: &Example<'_>) -> Result<()> {
-    push_report(out, row, &parse_run(out.alloc, row)?)
+pub fn push_output(out: &mut ExampleOutput, example: &Example<'_>) -> Result<()> {
+    push_report(out, example, &parse_run(out.alloc, example)?)
 }

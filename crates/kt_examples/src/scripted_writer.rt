@@ -11,15 +11,15 @@ pub enum WriteFault {
     /// The write fails with `Interrupted`.
     Interrupted,
     /// The write returns 0.
-    Nothing,
+    ZeroBytes,
 }
 
 /// A `Write` that stores the bytes that are written to it. Each write accepts at most `at_most`
-/// bytes. If `failing` isn't 0, write number `failing` and all later writes fail.
+/// bytes. If `failing_write` isn't 0, write number `failing_write` and all later writes fail.
 #[derive(Drop)]
 pub struct ScriptedWriter {
     /// The bytes that were written.
-    kept: Vec<u8>,
+    written: Vec<u8>,
     /// The last allocation that failed in a write, if any.
     refusal: Option<NoMemory>,
     /// The maximum number of bytes that a write accepts.
@@ -27,7 +27,7 @@ pub struct ScriptedWriter {
     /// The number of writes so far, including the failed writes.
     pub writes: u64,
     /// The number of the first write that fails, counted from 1, or 0 for none.
-    pub failing: u64,
+    pub failing_write: u64,
     /// The way in which writes fail.
     pub fault: WriteFault,
     /// `true` if a flush fails.
@@ -38,11 +38,11 @@ impl ScriptedWriter {
     /// Creates a writer that accepts all bytes.
     pub fn new(alloc: Global) -> ScriptedWriter {
         ScriptedWriter {
-            kept: Vec::new(alloc),
+            written: Vec::new(alloc),
             refusal: None,
             at_most: usize::MAX,
             writes: 0,
-            failing: 0,
+            failing_write: 0,
             fault: WriteFault::Broken,
             flush_fails: false,
         }
@@ -53,9 +53,9 @@ impl ScriptedWriter {
     /// # Errors
     ///
     /// - `NoMemory`: an allocation in a write failed.
-    pub fn kept(&self) -> Result<&[u8], NoMemory> {
+    pub fn written_bytes(&self) -> Result<&[u8], NoMemory> {
         match self.refusal {
-            None => Ok(self.kept.as_slice()),
+            None => Ok(self.written.as_slice()),
             Some(refusal) => Err(refusal),
         }
     }
@@ -65,23 +65,23 @@ impl ScriptedWriter {
     /// # Errors
     ///
     /// - `NoMemory`: an allocation in a write or for the text failed.
-    pub fn text(&self, alloc: Global) -> Result<String, NoMemory> {
-        Ok(String::from_utf8_lossy(alloc, self.kept()?)?)
+    pub fn written_text(&self, alloc: Global) -> Result<String, NoMemory> {
+        Ok(String::from_utf8_lossy(alloc, self.written_bytes()?)?)
     }
 }
 
 impl Write for ScriptedWriter {
     fn write(&mut self, bytes: &[u8]) -> io::Result<usize> {
         self.writes = self.writes.saturating_add(1);
-        if self.failing > 0 && self.writes >= self.failing {
+        if self.failing_write > 0 && self.writes >= self.failing_write {
             return match self.fault {
                 WriteFault::Broken => Err(io::Error::from(ErrorKind::BrokenPipe)),
                 WriteFault::Interrupted => Err(io::Error::from(ErrorKind::Interrupted)),
-                WriteFault::Nothing => Ok(0),
+                WriteFault::ZeroBytes => Ok(0),
             };
         }
         let taken = bytes.len().min(self.at_most);
-        match self.kept.extend_from_slice(&bytes[..taken]) {
+        match self.written.extend_from_slice(&bytes[..taken]) {
             Ok(()) => Ok(taken),
             Err(refusal) => {
                 self.refusal = Some(NoMemory::from(refusal));

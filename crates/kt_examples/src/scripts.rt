@@ -1,6 +1,6 @@
-use crate::answer::ExampleOutput;
+use crate::example::Example;
 use crate::example_fault::Result;
-use crate::row::Example;
+use crate::example_output::ExampleOutput;
 use kt_script::{Action, Arg, Literal, Stmt, parse};
 
 /// Appends the literal `value` between the texts `before` and `after`, in quotes if it is a text.
@@ -10,7 +10,7 @@ fn push_literal(out: &mut ExampleOutput, before: &str, value: &Literal, after: &
         _ => "",
     };
     write!(out, "{before}{quote}");
-    out.text(value.text(out.alloc));
+    out.push_text(value.text(out.alloc));
     write!(out, "{quote}{after}");
 }
 
@@ -32,7 +32,7 @@ fn push_argument(out: &mut ExampleOutput, arg: &Arg) {
 /// Appends statements with the numbers of their lines, as `1:f('a') 3:g{a=1,} 4:a.b=true`.
 fn push_stmts(out: &mut ExampleOutput, stmts: &[Stmt]) {
     for stmt in stmts {
-        out.separate(" ");
+        out.push_separator(" ");
         write!(out, "{}:", stmt.line);
         match &stmt.action {
             Action::Call(name, arg) => {
@@ -58,10 +58,10 @@ fn push_stmts(out: &mut ExampleOutput, stmts: &[Stmt]) {
 ///
 /// - `InvalidExample`: the line is missing, or an escape is invalid.
 /// - `NoMemory`: an allocation failed.
-pub fn answer(out: &mut ExampleOutput, row: &Example<'_>) -> Result<()> {
+pub fn push_output(out: &mut ExampleOutput, example: &Example<'_>) -> Result<()> {
     match parse(
         out.alloc,
-        &row.required_bytes(out.alloc, "script", "no script")?,
+        &example.required_bytes(out.alloc, "script", "no script")?,
     ) {
         Ok(stmts) => push_stmts(out, stmts.as_slice()),
         Err(fault) => write!(out, "{fault:?}"),

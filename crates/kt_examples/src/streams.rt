@@ -1,10 +1,10 @@
 //! Examples of result files and TAP streams, which are read at once and in pieces with equal
 //! results.
 
-use crate::answer::ExampleOutput;
 use crate::escapes::unescape;
+use crate::example::Example;
 use crate::example_fault::{Result, convert_error};
-use crate::row::Example;
+use crate::example_output::ExampleOutput;
 use kt_base::NoMemory;
 use kt_claim::{Claim, ClaimReader, Tap, TapReader, read_claim, read_tap};
 use std::alloc::Global;
@@ -20,16 +20,16 @@ enum EvidenceReader {
 }
 
 impl EvidenceReader {
-    /// Creates a reader of a TAP stream if `word` is `tap`, and of a result file otherwise.
-    fn new(alloc: Global, word: &str) -> EvidenceReader {
-        match word {
+    /// Creates a reader of a TAP stream if `keyword` is `tap`, and of a result file otherwise.
+    fn new(alloc: Global, keyword: &str) -> EvidenceReader {
+        match keyword {
             "tap" => EvidenceReader::Tap(TapReader::new(alloc)),
             _ => EvidenceReader::Claim(ClaimReader::new(alloc)),
         }
     }
 
     /// Reads `piece`, the next piece of a result file or a TAP stream.
-    fn take(&mut self, piece: &[u8]) -> Result<(), NoMemory> {
+    fn feed(&mut self, piece: &[u8]) -> Result<(), NoMemory> {
         match self {
             EvidenceReader::Claim(reader) => reader.feed(piece),
             EvidenceReader::Tap(reader) => reader.feed(piece),
@@ -40,9 +40,9 @@ impl EvidenceReader {
     /// most `length` bytes, or 1 if `length` is 0.
     fn feed_pieces(&mut self, bytes: &[u8], first: usize, length: usize) -> Result<(), NoMemory> {
         let (front, back) = bytes.split_at(first.min(bytes.len()));
-        self.take(front)?;
+        self.feed(front)?;
         for piece in back.chunks(length.max(1)) {
-            self.take(piece)?;
+            self.feed(piece)?;
         }
         Ok(())
     }
@@ -60,13 +60,13 @@ impl EvidenceReader {
 fn push_claim(out: &mut ExampleOutput, claim: Result<Claim, NoMemory>) {
     match claim {
         Ok(claim) => push_claim_parts(out, &claim),
-        Err(refusal) => out.fail(refusal),
+        Err(refusal) => out.record_failure(refusal),
     }
 }
 
 /// Appends the name of a claim, and its number and its reason if it has them.
 fn push_claim_parts(out: &mut ExampleOutput, claim: &Claim) {
-    out.name(claim);
+    out.push_name(claim);
     match claim {
         Claim::Missing | Claim::Unreadable | Claim::Passed => {}
         Claim::Malformed(fault) => write!(out, ": {fault:?}"),
@@ -90,52 +90,52 @@ fn push_tap(out: &mut ExampleOutput, tap: Result<Tap, NoMemory>) {
         Ok(Tap::BailedOut) => out.push("bailed out"),
         Ok(Tap::SkipAll(reason)) => write!(out, "skipped: {}", reason.as_str()),
         Ok(Tap::Counted(bad, all)) => write!(out, "{bad} of {all} failed"),
-        Err(refusal) => out.fail(refusal),
+        Err(refusal) => out.record_failure(refusal),
     }
 }
 
 /// Reads `bytes` at once, and returns their claim or their TAP result as text.
 ///
-/// `word` is `tap` for a TAP stream. Otherwise, `bytes` are a result file.
-fn read_at_once(alloc: Global, word: &str, bytes: &[u8]) -> Result<String> {
+/// `keyword` is `tap` for a TAP stream. Otherwise, `bytes` are a result file.
+fn read_at_once(alloc: Global, keyword: &str, bytes: &[u8]) -> Result<String> {
     let mut out = ExampleOutput::new(alloc);
-    match word {
+    match keyword {
         "tap" => push_tap(&mut out, read_tap(alloc, bytes)),
         _ => push_claim(&mut out, read_claim(alloc, bytes)),
     }
-    convert_error(out.end())
+    convert_error(out.into_string())
 }
 
 /// Reads `bytes` in pieces, and returns their claim or their TAP result as text.
 ///
-/// The first piece has at most `first` bytes, and each other piece at most `rest`. `word` is `tap`
-/// for a TAP stream. Otherwise, `bytes` are a result file.
+/// The first piece has at most `first` bytes, and each other piece at most `rest`. `keyword` is
+/// `tap` for a TAP stream. Otherwise, `bytes` are a result file.
 fn read_in_pieces(
     alloc: Global,
-    word: &str,
+    keyword: &str,
     bytes: &[u8],
     first: usize,
     rest: usize,
 ) -> Result<String> {
-    let mut reader = EvidenceReader::new(alloc, word);
+    let mut reader = EvidenceReader::new(alloc, keyword);
     reader.feed_pieces(bytes, first, rest)?;
     let mut out = ExampleOutput::new(alloc);
     reader.push_parse_result(&mut out);
-    convert_error(out.end())
+    convert_error(out.into_string())
 }
 
 /// Returns `true` if reading `bytes` in two pieces, split at the index `cut`, gives the text
 /// `whole`. If the pieces give another text, appends that text.
 ///
-/// `word` is `tap` for a TAP stream.
+/// `keyword` is `tap` for a TAP stream.
 fn check_split(
     out: &mut ExampleOutput,
-    word: &str,
+    keyword: &str,
     bytes: &[u8],
     cut: usize,
     whole: &str,
 ) -> Result<bool> {
-    let other = read_in_pieces(out.alloc, word, bytes, cut, bytes.len())?;
+    let other = read_in_pieces(out.alloc, keyword, bytes, cut, bytes.len())?;
     let agrees = other.as_str() == whole;
     if !agrees {
         write!(out, "cut at {cut}: {other}");
@@ -147,19 +147,24 @@ fn check_split(
 /// `whole`, or else the first text that differs from it.
 ///
 /// Input of at most 1,000 bytes is split at each index, and longer input only before its first
-/// byte. `word` is `tap` for a TAP stream.
-fn push_checked_text(out: &mut ExampleOutput, word: &str, bytes: &[u8], whole: &str) -> Result<()> {
+/// byte. `keyword` is `tap` for a TAP stream.
+fn push_checked_text(
+    out: &mut ExampleOutput,
+    keyword: &str,
+    bytes: &[u8],
+    whole: &str,
+) -> Result<()> {
     let cuts = if bytes.len() > MAX_SPLIT_BYTES {
         1
     } else {
         bytes.len()
     };
     for cut in 0..cuts {
-        if !check_split(out, word, bytes, cut, whole)? {
+        if !check_split(out, keyword, bytes, cut, whole)? {
             return Ok(());
         }
     }
-    let other = read_in_pieces(out.alloc, word, bytes, 0, 1)?;
+    let other = read_in_pieces(out.alloc, keyword, bytes, 0, 1)?;
     if other.as_str() != whole {
         out.push("byte by byte: ");
     }
@@ -169,11 +174,11 @@ fn push_checked_text(out: &mut ExampleOutput, word: &str, bytes: &[u8], whole: &
 
 /// Reads the pieces in the lines `piece TEXT` of an example, and appends their claim or their TAP
 /// result.
-fn push_pieces(out: &mut ExampleOutput, row: &Example<'_>, word: &str) -> Result<()> {
-    let mut reader = EvidenceReader::new(out.alloc, word);
-    for line in row.entries.as_slice() {
-        if line.word == "piece" {
-            convert_error(reader.take(&unescape(out.alloc, line.text)?))?;
+fn push_pieces(out: &mut ExampleOutput, example: &Example<'_>, keyword: &str) -> Result<()> {
+    let mut reader = EvidenceReader::new(out.alloc, keyword);
+    for line in example.lines.as_slice() {
+        if line.keyword == "piece" {
+            convert_error(reader.feed(&unescape(out.alloc, line.text)?))?;
         }
     }
     reader.push_parse_result(out);
@@ -182,7 +187,7 @@ fn push_pieces(out: &mut ExampleOutput, row: &Example<'_>, word: &str) -> Result
 
 /// Appends the claim of a result file or the result of a TAP stream, which an example contains.
 ///
-/// `word` is the keyword of its line: `file` or `tap`. The input is also read in pieces, and the
+/// `keyword` is the keyword of its line: `file` or `tap`. The input is also read in pieces, and the
 /// first text that differs is appended instead. Without this line, the input is in the lines `piece
 /// TEXT`.
 ///
@@ -190,10 +195,10 @@ fn push_pieces(out: &mut ExampleOutput, row: &Example<'_>, word: &str) -> Result
 ///
 /// - `InvalidExample`: an escape is invalid.
 /// - `NoMemory`: an allocation failed.
-pub fn answer(out: &mut ExampleOutput, row: &Example<'_>, word: &str) -> Result<()> {
-    let Some(bytes) = row.bytes(out.alloc, word)? else {
-        return push_pieces(out, row, word);
+pub fn push_output(out: &mut ExampleOutput, example: &Example<'_>, keyword: &str) -> Result<()> {
+    let Some(bytes) = example.bytes(out.alloc, keyword)? else {
+        return push_pieces(out, example, keyword);
     };
-    let whole = read_at_once(out.alloc, word, &bytes)?;
-    push_checked_text(out, word, &bytes, whole.as_str())
+    let whole = read_at_once(out.alloc, keyword, &bytes)?;
+    push_checked_text(out, keyword, &bytes, whole.as_str())
 }

@@ -1,7 +1,7 @@
-use crate::answer::ExampleOutput;
 use crate::escapes::unescape;
-use crate::example_fault::{ExampleFault, Result, convert_error, due, zip_results};
-use crate::row::Example;
+use crate::example::Example;
+use crate::example_fault::{ExampleFault, Result, convert_error, require_part, zip_results};
+use crate::example_output::ExampleOutput;
 use crate::scripted_writer::ScriptedWriter;
 use kt_base::{Kind, Outcome, Refused, Text, Verdict};
 use kt_claim::{Claim, Evidence, Tap, TapFault, read_claim, read_tap};
@@ -22,14 +22,14 @@ pub fn push_verdict(out: &mut ExampleOutput, verdict: &Verdict) {
     push_kind(out, verdict);
     let mut reason = Text::new(out.alloc);
     let written = verdict.write_reason(&mut reason);
-    out.text(written.map(|()| reason));
+    out.push_text(written.map(|()| reason));
 }
 
 /// Returns the reason of `verdict` as `print_reason` prints it to a writer.
 fn capture_printed_reason(alloc: Global, verdict: &Verdict) -> Result<String> {
     let mut page = ScriptedWriter::new(alloc);
     let _ = verdict.print_reason(&mut page);
-    convert_error(page.text(alloc))
+    convert_error(page.written_text(alloc))
 }
 
 /// Returns the text `so: `, to which `write_reason` has appended the reason of `verdict`.
@@ -72,8 +72,8 @@ pub fn parse_refusal(text: &str) -> Result<Refused> {
 }
 
 /// Parses `text` as an exit status or the number of a signal, from 0 to 255.
-fn number(text: &str) -> Result<u8> {
-    due(text.parse::<u8>().ok(), "no number from 0 to 255")
+fn parse_u8(text: &str) -> Result<u8> {
+    require_part(text.parse::<u8>().ok(), "no number from 0 to 255")
 }
 
 /// Parses `text` as the outcome of a child: `exited 3`, `signaled 9`, `signaled 6 core`, `timed
@@ -83,11 +83,11 @@ fn number(text: &str) -> Result<u8> {
 ///
 /// - `InvalidExample`: `text` isn't an outcome, or its number isn't from 0 to 255.
 pub fn parse_outcome(text: &str) -> Result<Outcome> {
-    let (word, rest) = text.split_once(' ').unwrap_or((text, ""));
+    let (keyword, rest) = text.split_once(' ').unwrap_or((text, ""));
     let front = rest.strip_suffix(" core");
-    match word {
-        "exited" => number(rest).map(Outcome::Exited),
-        "signaled" => Ok(Outcome::Signaled(number(front.unwrap_or(rest))?, front.is_some())),
+    match keyword {
+        "exited" => parse_u8(rest).map(Outcome::Exited),
+        "signaled" => Ok(Outcome::Signaled(parse_u8(front.unwrap_or(rest))?, front.is_some())),
         _ if text == "timed out" => Ok(Outcome::TimedOut),
         _ if text == "not waited for" => Ok(Outcome::WaitFailed),
         _ => Err(ExampleFault::InvalidExample("no such ending")),
@@ -97,9 +97,9 @@ pub fn parse_outcome(text: &str) -> Result<Outcome> {
 /// Parses the first line of an example as the evidence of a case.
 ///
 /// The line is `file TEXT`, `tap TEXT`, `plain`, `no-file`, `file-unread` or `tap-unread`.
-fn parse_evidence(alloc: Global, row: &Example<'_>) -> Result<Evidence> {
-    let line = row.first()?;
-    match line.word {
+fn parse_evidence(alloc: Global, example: &Example<'_>) -> Result<Evidence> {
+    let line = example.first()?;
+    match line.keyword {
         "file" => convert_error(read_claim(alloc, &unescape(alloc, line.text)?)).map(Evidence::Atf),
         "tap" => convert_error(read_tap(alloc, &unescape(alloc, line.text)?)).map(Evidence::Tap),
         "plain" => Ok(Evidence::Plain),
@@ -112,10 +112,10 @@ fn parse_evidence(alloc: Global, row: &Example<'_>) -> Result<Evidence> {
 
 /// Returns the verdict of the case in an example, by its evidence and its body's outcome, and by
 /// its cleanup if the case has one.
-fn judge_body(alloc: Global, row: &Example<'_>) -> Result<Verdict> {
-    let body = parse_outcome(due(row.text("body"), "no body")?)?;
-    let verdict = body_verdict(parse_evidence(alloc, row)?, body);
-    match row.text("cleanup") {
+fn judge_body(alloc: Global, example: &Example<'_>) -> Result<Verdict> {
+    let body = parse_outcome(require_part(example.text("body"), "no body")?)?;
+    let verdict = body_verdict(parse_evidence(alloc, example)?, body);
+    match example.text("cleanup") {
         None => Ok(verdict),
         Some("refused") => Ok(with_cleanup(verdict, CleanupEnd::Refused)),
         Some(ending) => Ok(with_cleanup(verdict, CleanupEnd::Ended(parse_outcome(ending)?))),
@@ -131,10 +131,10 @@ fn judge_body(alloc: Global, row: &Example<'_>) -> Result<Verdict> {
 ///
 /// - `InvalidExample`: a line is missing or invalid.
 /// - `NoMemory`: an allocation failed.
-pub fn answer(out: &mut ExampleOutput, row: &Example<'_>) -> Result<()> {
-    let verdict = match row.text("refused") {
+pub fn push_output(out: &mut ExampleOutput, example: &Example<'_>) -> Result<()> {
+    let verdict = match example.text("refused") {
         Some(refused) => refused_verdict(parse_refusal(refused)?),
-        None => judge_body(out.alloc, row)?,
+        None => judge_body(out.alloc, example)?,
     };
     push_kind(out, &verdict);
     push_reason(out, &verdict)

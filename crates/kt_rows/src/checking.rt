@@ -1,5 +1,5 @@
 use crate::execute_example;
-use kt_examples::{Example, ExampleFault, Result, convert_error, parse_rows, zip_results};
+use kt_examples::{Example, ExampleFault, Result, convert_error, parse_examples, zip_results};
 use std::alloc::Global;
 use std::fs::File;
 use std::io::Eprint;
@@ -9,11 +9,11 @@ use std::{env, fs, io};
 /// The maximum number of bytes that are printed of an output, unless `--whole` precedes the file.
 const SHOWN_BYTES: usize = 1_000;
 
-/// Returns the index of the first byte of the first line in which the outputs `wanted` and `found`
-/// differ.
-fn find_difference(wanted: &[u8], found: &[u8]) -> usize {
+/// Returns the index of the first byte of the first line in which the outputs `expected` and
+/// `found` differ.
+fn find_difference(expected: &[u8], found: &[u8]) -> usize {
     let mut line = 0usize;
-    for (place, (expected_byte, found_byte)) in wanted.iter().zip(found).enumerate() {
+    for (place, (expected_byte, found_byte)) in expected.iter().zip(found).enumerate() {
         if *expected_byte != *found_byte {
             break;
         }
@@ -38,23 +38,26 @@ fn cut_text(alloc: Global, output: &[u8], from: usize, max_bytes: usize) -> Resu
 fn check_example(
     alloc: Global,
     file: &str,
-    row: &Example<'_>,
+    example: &Example<'_>,
     max_bytes: usize,
 ) -> Result<Option<String>> {
     let subject = file.strip_suffix(".rows").unwrap_or(file);
-    let (wanted, found) = zip_results(row.wanted(alloc), execute_example(alloc, subject, row))?;
-    let (wanted, found) = (wanted.as_slice(), found.as_bytes());
-    if found == wanted {
+    let (expected, found) = zip_results(
+        example.expected_bytes(alloc),
+        execute_example(alloc, subject, example),
+    )?;
+    let (expected, found) = (expected.as_slice(), found.as_bytes());
+    if found == expected {
         return Ok(None);
     }
-    let from = find_difference(wanted, found);
-    let line = row.line;
-    let (wanted, found) = zip_results(
-        cut_text(alloc, wanted, from, max_bytes),
+    let from = find_difference(expected, found);
+    let line = example.line_number;
+    let (expected, found) = zip_results(
+        cut_text(alloc, expected, from, max_bytes),
         cut_text(alloc, found, from, max_bytes),
     )?;
     let text = format!(in alloc;
-        "{file}:{line}: another answer\n  wanted: {wanted:?}\n  got:    {found:?}"
+        "{file}:{line}: another answer\n  wanted: {expected:?}\n  got:    {found:?}"
     );
     convert_error(text).map(Some)
 }
@@ -69,22 +72,22 @@ fn print_fault<R: Eprint>(rt: &R, file: &str, line: u64, fault: ExampleFault) ->
 /// Checks the examples of the file `file`, prints a message for each one that fails, and then
 /// prints the number of examples. Returns `true` if each output is as expected. `max_bytes` is the
 /// maximum number of bytes of an output in a message.
-fn check_rows<R: Runtime + AllocGlobal>(
+fn check_examples<R: Runtime + AllocGlobal>(
     rt: &R,
     file: &str,
-    rows: &[Example<'_>],
+    examples: &[Example<'_>],
     max_bytes: usize,
 ) -> io::Result<bool> {
     let mut is_good = true;
-    for row in rows {
-        match check_example(rt.alloc(), file, row, max_bytes) {
+    for example in examples {
+        match check_example(rt.alloc(), file, example, max_bytes) {
             Ok(None) => continue,
             Ok(Some(lines)) => rt.eprintln(lines)?,
-            Err(fault) => print_fault(rt, file, row.line, fault)?,
+            Err(fault) => print_fault(rt, file, example.line_number, fault)?,
         }
         is_good = false;
     }
-    let count = rows.len();
+    let count = examples.len();
     println!(rt; "{file}: {count} rows")?;
     Ok(is_good)
 }
@@ -97,8 +100,8 @@ fn check_file<R: Runtime + Files<File = File> + AllocGlobal>(
     max_bytes: usize,
 ) -> io::Result<bool> {
     let text = fs::read_to_string(rt, file)?;
-    match parse_rows(rt.alloc(), text.as_str()) {
-        Ok(rows) => check_rows(rt, file, rows.as_slice(), max_bytes),
+    match parse_examples(rt.alloc(), text.as_str()) {
+        Ok(examples) => check_examples(rt, file, examples.as_slice(), max_bytes),
         Err((line, fault)) => {
             print_fault(rt, file, line, fault)?;
             Ok(false)

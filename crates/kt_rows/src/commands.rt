@@ -12,8 +12,8 @@ use kt_doubles::{
     push_calls, push_runs,
 };
 use kt_examples::{
-    Example, ExampleFault, ExampleLine, ExampleOutput, Result, entry_lines_at, number,
-    split_required, unescape_lossy,
+    Example, ExampleFault, ExampleLine, ExampleOutput, Result, find_entry_lines, parse_number,
+    split_once_or_fail, unescape_lossy,
 };
 use kt_os::OsFault;
 use kt_store::StoreFault;
@@ -43,20 +43,25 @@ fn parse_env_fault(alloc: Global, fault: &str) -> Result<OsFault> {
 
 /// Creates the results store of an example, in memory, and executes the lines `begin`, `put` and
 /// `finish`.
-fn create_results(alloc: Global, row: &Example<'_>) -> Result<FailingStore> {
-    let mut results = FailingStore::new(alloc, row)?;
+fn create_results(alloc: Global, example: &Example<'_>) -> Result<FailingStore> {
+    let mut results = FailingStore::new(alloc, example)?;
     let mut unread = ExampleOutput::new(alloc);
-    let lines = row.entries.as_slice();
+    let lines = example.lines.as_slice();
     for (place, line) in lines.iter().enumerate() {
-        if matches!(line.word, "begin" | "put" | "finish") {
+        if matches!(line.keyword, "begin" | "put" | "finish") {
             let mut calls = SplitReadStore {
                 store: &mut results,
                 alloc,
             };
-            push_call(&mut unread, &mut calls, line, entry_lines_at(lines, place))?;
+            push_call(
+                &mut unread,
+                &mut calls,
+                line,
+                find_entry_lines(lines, place),
+            )?;
         }
     }
-    unread.text_so_far()?;
+    unread.as_str()?;
     Ok(results)
 }
 
@@ -67,7 +72,7 @@ fn set_host_option(
     line: &ExampleLine<'_>,
 ) -> Result<()> {
     let alloc = host.calls.alloc;
-    match line.word {
+    match line.keyword {
         "open" => host.open_error = Some(parse_store_fault(alloc, line.text)?),
         "close" => host.close_error = Some(parse_store_fault(alloc, line.text)?),
         "surroundings" => host.env_error = Some(parse_env_fault(alloc, line.text)?),
@@ -79,30 +84,30 @@ fn set_host_option(
 }
 
 /// Creates the results host of an example.
-fn create_host(alloc: Global, row: &Example<'_>) -> Result<ScriptedResultsHost<FailingStore>> {
-    let mut host = ScriptedResultsHost::new(alloc, create_results(alloc, row)?);
-    for line in row.entries.as_slice() {
+fn create_host(alloc: Global, example: &Example<'_>) -> Result<ScriptedResultsHost<FailingStore>> {
+    let mut host = ScriptedResultsHost::new(alloc, create_results(alloc, example)?);
+    for line in example.lines.as_slice() {
         set_host_option(&mut host, line)?;
     }
     Ok(host)
 }
 
 /// Executes the command lines of an example, and returns the state after them. Writes to standard
-/// output fail from number `failing` on, and its flushes fail for the line `flush fails`. Writes to
-/// standard error fail from number N on for the line `error N`. The line `takes BYTES` limits the
-/// bytes of a write to standard output.
+/// output fail from number `failing_write` on, and its flushes fail for the line `flush fails`.
+/// Writes to standard error fail from number N on for the line `error N`. The line `takes BYTES`
+/// limits the bytes of a write to standard output.
 fn run_example(
-    row: &Example<'_>,
+    example: &Example<'_>,
     scene: &Scene,
-    failing: u64,
+    failing_write: u64,
 ) -> Result<CommandsRun<FailingStore>> {
     let alloc = scene.alloc;
-    let mut commands_run = CommandsRun::new(alloc, create_host(alloc, row)?);
-    commands_run.stdout.at_most = row.number("takes", 4096)? as usize;
-    commands_run.stdout.failing = failing;
-    commands_run.stdout.flush_fails = row.text("flush").is_some();
-    commands_run.stderr.failing = row.number("error", 0)?;
-    commands_run.execute_lines(row.entries.as_slice(), scene)?;
+    let mut commands_run = CommandsRun::new(alloc, create_host(alloc, example)?);
+    commands_run.stdout.at_most = example.number("takes", 4096)? as usize;
+    commands_run.stdout.failing_write = failing_write;
+    commands_run.stdout.flush_fails = example.text("flush").is_some();
+    commands_run.stderr.failing_write = example.number("error", 0)?;
+    commands_run.execute_lines(example.lines.as_slice(), scene)?;
     Ok(commands_run)
 }
 
@@ -121,14 +126,14 @@ fn push_store_state(out: &mut ExampleOutput, commands_run: &mut CommandsRun<Fail
 /// the runs of the store, and `system` are the calls on the system.
 fn push_result_and_state(
     out: &mut ExampleOutput,
-    row: &Example<'_>,
+    example: &Example<'_>,
     commands_run: &mut CommandsRun<FailingStore>,
 ) -> Result<()> {
     commands_run.push_result(out)?;
-    for word in row.text("show").unwrap_or("").split_whitespace() {
-        out.separate("\n");
+    for word in example.text("show").unwrap_or("").split_whitespace() {
+        out.push_separator("\n");
         match word {
-            "system" => push_calls(out, "calls", commands_run.log.text_so_far()?)?,
+            "system" => push_calls(out, "calls", commands_run.log.as_str()?)?,
             _ => push_store_state(out, commands_run),
         }
     }
@@ -145,7 +150,7 @@ fn find_violation(
     whole: &mut CommandsRun<FailingStore>,
     cut: &mut CommandsRun<FailingStore>,
 ) -> Result<Option<&'static str>> {
-    let (whole_page, cut_page) = (whole.stdout.kept()?, cut.stdout.kept()?);
+    let (whole_page, cut_page) = (whole.stdout.written_bytes()?, cut.stdout.written_bytes()?);
     if cut_page.len() >= whole_page.len() || !whole_page.starts_with(cut_page) {
         return Ok(Some("the page is no beginning"));
     }
@@ -155,27 +160,27 @@ fn find_violation(
     let (mut expected, mut found) = (ExampleOutput::new(alloc), ExampleOutput::new(alloc));
     push_store_state(&mut expected, whole);
     push_store_state(&mut found, cut);
-    if expected.text_so_far()? != found.text_so_far()? {
+    if expected.as_str()? != found.as_str()? {
         return Ok(Some("the runs are others"));
     }
     Ok(None)
 }
 
-/// Executes the command lines of `row` once without a failed write, and then with each write
+/// Executes the command lines of `example` once without a failed write, and then with each write
 /// failing in turn. Appends the first output, and that of the first execution in which
 /// `find_violation` finds a violation.
-fn push_each_failing(out: &mut ExampleOutput, row: &Example<'_>, scene: &Scene) -> Result<()> {
-    let mut whole = run_example(row, scene, 0)?;
-    push_result_and_state(out, row, &mut whole)?;
-    for failing in 1..MAX_TRIALS {
-        let mut cut = run_example(row, scene, failing)?;
-        if cut.stdout.writes < failing {
+fn push_each_failing(out: &mut ExampleOutput, example: &Example<'_>, scene: &Scene) -> Result<()> {
+    let mut whole = run_example(example, scene, 0)?;
+    push_result_and_state(out, example, &mut whole)?;
+    for failing_write in 1..MAX_TRIALS {
+        let mut cut = run_example(example, scene, failing_write)?;
+        if cut.stdout.writes < failing_write {
             break;
         }
         if let Some(what) = find_violation(out.alloc, &mut whole, &mut cut)? {
-            out.separate("\n");
-            write!(out, "at write {failing}: {what}\n");
-            return push_result_and_state(out, row, &mut cut);
+            out.push_separator("\n");
+            write!(out, "at write {failing_write}: {what}\n");
+            return push_result_and_state(out, example, &mut cut);
         }
     }
     Ok(())
@@ -184,27 +189,31 @@ fn push_each_failing(out: &mut ExampleOutput, row: &Example<'_>, scene: &Scene) 
 /// Executes the command lines of an example, and appends the outputs and exit statuses. If
 /// `shows_calls` is set, first appends the calls on the results host. With `writes each`, each
 /// write fails in turn, and the calls aren't appended.
-fn execute_commands(out: &mut ExampleOutput, row: &Example<'_>, shows_calls: bool) -> Result<()> {
-    let scene = parse_scene(out.alloc, row)?;
-    let writes = row.text("writes").unwrap_or("0");
+fn execute_commands(
+    out: &mut ExampleOutput,
+    example: &Example<'_>,
+    shows_calls: bool,
+) -> Result<()> {
+    let scene = parse_scene(out.alloc, example)?;
+    let writes = example.text("writes").unwrap_or("0");
     if writes == "each" {
-        return push_each_failing(out, row, &scene);
+        return push_each_failing(out, example, &scene);
     }
-    let mut commands_run = run_example(row, &scene, number(writes)?)?;
-    match commands_run.host.calls.text_so_far()? {
+    let mut commands_run = run_example(example, &scene, parse_number(writes)?)?;
+    match commands_run.host.calls.as_str()? {
         _ if !shows_calls => {}
         "" => out.push("nothing\n"),
         calls => write!(out, "{calls}\n"),
     }
-    push_result_and_state(out, row, &mut commands_run)
+    push_result_and_state(out, example, &mut commands_run)
 }
 
 /// Parses `HERE KYUAFILE`, and appends the Kyuafile's absolute directory for the working directory
 /// HERE.
 fn push_source(out: &mut ExampleOutput, text: &str) -> Result<()> {
-    let (here, kyuafile) = split_required(text, " ", "a directory and a Kyuafile are due")?;
+    let (here, kyuafile) = split_once_or_fail(text, " ", "a directory and a Kyuafile are due")?;
     let kyuafile = Text::from_str(out.alloc, kyuafile)?;
-    out.text(kyuafile_directory(out.alloc, here, &kyuafile));
+    out.push_text(kyuafile_directory(out.alloc, here, &kyuafile));
     Ok(())
 }
 
@@ -216,15 +225,15 @@ fn push_source(out: &mut ExampleOutput, text: &str) -> Result<()> {
 ///
 /// - `InvalidExample`: a line is missing or invalid.
 /// - `NoMemory`: an allocation outside the command failed.
-pub fn answer(out: &mut ExampleOutput, row: &Example<'_>) -> Result<()> {
-    if let Some(disk) = row.text("disk") {
-        return disk_tests::answer(out, row, disk);
+pub fn push_output(out: &mut ExampleOutput, example: &Example<'_>) -> Result<()> {
+    if let Some(disk) = example.text("disk") {
+        return disk_tests::push_output(out, example, disk);
     }
-    let first = row.first()?;
-    match first.word {
-        "piece" => push_pieces(out, row),
+    let first = example.first()?;
+    match first.keyword {
+        "piece" => push_pieces(out, example),
         "source" => push_source(out, first.text),
-        _ => execute_commands(out, row, false),
+        _ => execute_commands(out, example, false),
     }
 }
 
@@ -235,6 +244,6 @@ pub fn answer(out: &mut ExampleOutput, row: &Example<'_>) -> Result<()> {
 ///
 /// - `InvalidExample`: a line is missing or invalid.
 /// - `NoMemory`: an allocation outside the command failed.
-pub fn push_output_with_calls(out: &mut ExampleOutput, row: &Example<'_>) -> Result<()> {
-    execute_commands(out, row, true)
+pub fn push_output_with_calls(out: &mut ExampleOutput, example: &Example<'_>) -> Result<()> {
+    execute_commands(out, example, true)
 }

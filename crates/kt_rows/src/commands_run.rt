@@ -8,7 +8,7 @@ use crate::words::parse_command_line;
 use kt_args::{Command, CommandFault};
 use kt_cli::{HostHandles, LineOutput, run_command};
 use kt_doubles::{Scene, ScriptedSystem, provoke_no_memory};
-use kt_examples::{ExampleLine, ExampleOutput, Result, ScriptedWriter, due};
+use kt_examples::{ExampleLine, ExampleOutput, Result, ScriptedWriter, require_part};
 use kt_store::ResultStore;
 use std::alloc::Global;
 use std::io::Write;
@@ -56,7 +56,7 @@ fn execute_command<'a, R: ResultStore + Drop, W: Write, E: Write>(
     let outside = HostHandles { alloc, machine, os };
     let mut lines = LineOutput::new(out, true);
     let (exit, outside) = run_command(outside, host, command, &mut lines, errors);
-    log.push(outside.os.log.text_so_far()?);
+    log.push(outside.os.log.as_str()?);
     Ok((exit.status, outside.machine))
 }
 
@@ -64,7 +64,7 @@ fn execute_command<'a, R: ResultStore + Drop, W: Write, E: Write>(
 fn push_errors(out: &mut ExampleOutput, errors: &ScriptedWriter) -> Result<()> {
     let mut page = ExampleOutput::new(out.alloc);
     push_written_text(&mut page, errors)?;
-    let text = page.text_so_far()?;
+    let text = page.as_str()?;
     if text.contains("Usage:") {
         out.push("error: usage\n");
     } else if !text.is_empty() {
@@ -99,7 +99,7 @@ impl<R: ResultStore + Drop> CommandsRun<R> {
             moment_count: 0,
         };
         for line in lines {
-            let command = match line.word {
+            let command = match line.keyword {
                 "do" | "line" => parse_command_line(alloc, line.text)?,
                 "words" => Err(CommandFault::from(provoke_no_memory(alloc)?)),
                 _ => continue,
@@ -135,6 +135,6 @@ impl<R: ResultStore + Drop> CommandsRun<R> {
     ///
     /// - `InvalidExample`: the store isn't closed.
     pub fn into_results(mut self) -> Result<R> {
-        due(self.host.results.take(), "there is no store")
+        require_part(self.host.results.take(), "there is no store")
     }
 }

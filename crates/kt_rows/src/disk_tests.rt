@@ -8,7 +8,7 @@ use crate::disks::{
 use crate::scripted_results_host::ScriptedResultsHost;
 use kt_dbfile::RunsFile;
 use kt_doubles::{Scene, parse_scene};
-use kt_examples::{Example, ExampleFault, ExampleOutput, Result, due};
+use kt_examples::{Example, ExampleFault, ExampleOutput, Result, require_part};
 use kt_store::{ResultStore, Results, StoreFault};
 use sqlite::{Alter, Connection};
 use sqlite_disk::{Files, Fuse, Memory};
@@ -150,12 +150,12 @@ fn push_test_result(
     test_result: Option<&TestResult>,
     remaining_runs: &[String],
 ) {
-    out.line(title);
+    out.push_line(title);
     if let Some(test_result) = test_result {
-        out.line(test_result.stdout.as_str());
+        out.push_line(test_result.stdout.as_str());
     }
     for line in remaining_runs {
-        out.line(line.as_str());
+        out.push_line(line.as_str());
     }
 }
 
@@ -163,7 +163,7 @@ fn push_test_result(
 #[derive(Clone, Copy)]
 struct DiskTrial<'a> {
     /// The example whose command lines are executed.
-    row: &'a Example<'a>,
+    example: &'a Example<'a>,
     /// The script of the host files and the systems.
     scene: &'a Scene,
     /// `true` if the log fails, `false` if the database file fails.
@@ -182,12 +182,12 @@ impl DiskTrial<'_> {
             self.scene.alloc,
             ScriptedResultsHost::new(self.scene.alloc, results),
         );
-        commands_run.execute_lines(self.row.entries.as_slice(), self.scene)?;
-        let status = *due(commands_run.exit_statuses.last(), "there is no command")?;
+        commands_run.execute_lines(self.example.lines.as_slice(), self.scene)?;
+        let status = *require_part(commands_run.exit_statuses.last(), "there is no command")?;
         let test_result = TestResult {
-            stdout: commands_run.stdout.text(self.scene.alloc)?,
+            stdout: commands_run.stdout.written_text(self.scene.alloc)?,
             status,
-            has_spawned: commands_run.log.text_so_far()?.contains("spawn "),
+            has_spawned: commands_run.log.as_str()?.contains("spawn "),
         };
         Ok((test_result, commands_run.into_results()?))
     }
@@ -224,12 +224,12 @@ impl DiskTrial<'_> {
             self.create_files(u64::MAX)?,
             self.frames,
         )?;
-        let whole = due(
+        let whole = require_part(
             self.execute_and_crash(self.create_files(u64::MAX)?)?,
             "there is no store",
         )?;
         Ok(BaselineRun {
-            test_result: due(whole.test_result, "its tables are not taken")?,
+            test_result: require_part(whole.test_result, "its tables are not taken")?,
             initial_runs,
             remaining_runs: whole.remaining_runs,
         })
@@ -248,7 +248,7 @@ impl DiskTrial<'_> {
             };
             let mut stop = ExampleOutput::new(self.scene.alloc);
             whole.push_stop(&mut stop, &cut);
-            let stop = stop.end()?;
+            let stop = stop.into_string()?;
             if stop.as_str() != last.as_str() {
                 out.push(stop.as_str());
             }
@@ -284,7 +284,7 @@ impl DiskTrial<'_> {
         let (page, status) = (whole.test_result.stdout.as_str(), whole.test_result.status);
         write!(out, "{page}exit {status}");
         for line in whole.remaining_runs.as_slice() {
-            out.line(line.as_str());
+            out.push_line(line.as_str());
         }
         Ok(())
     }
@@ -328,14 +328,14 @@ impl DatabaseOperation for DiskTrial<'_> {
 ///
 /// - `InvalidExample`: a line is missing or invalid, or the store can't be created or read.
 /// - `NoMemory`: an allocation outside the command failed.
-pub fn answer(out: &mut ExampleOutput, row: &Example<'_>, disk: &str) -> Result<()> {
-    let scene = parse_scene(out.alloc, row)?;
+pub fn push_output(out: &mut ExampleOutput, example: &Example<'_>, disk: &str) -> Result<()> {
+    let scene = parse_scene(out.alloc, example)?;
     let trial = DiskTrial {
-        row,
+        example,
         scene: &scene,
         log_fails: disk == "log",
-        is_schema_1: row.text("old").is_some(),
-        frames: row.number("frames", 1000)? as usize,
+        is_schema_1: example.text("old").is_some(),
+        frames: example.number("frames", 1000)? as usize,
     };
     trial.push_outcome(out, disk == "sound")
 }

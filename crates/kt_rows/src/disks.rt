@@ -3,7 +3,7 @@
 use kt_base::Entry;
 use kt_doubles::state_text;
 use kt_examples::{
-    ExampleFault, ExampleOutput, Result, convert_error, due, push_entries, push_or_fail,
+    ExampleFault, ExampleOutput, Result, convert_error, push_entries, push_or_fail, require_part,
     zip_results,
 };
 use kt_store::{Results, RunHead};
@@ -103,7 +103,7 @@ pub fn create_empty_files(alloc: Global) -> Files<Memory> {
 pub fn create_schema_1_files(alloc: Global, frames: usize) -> Result<Files<Memory>> {
     let empty = add_fuse(create_empty_files(alloc), true, u64::MAX);
     let made = run_on_files(alloc, empty, frames, Schema1StoreCreator)?;
-    let ((), files) = due(made, "the old store is not made")?;
+    let ((), files) = require_part(made, "the old store is not made")?;
     let (log, db) = (files.log.inner().bytes(), files.db.inner().bytes());
     let (log, db) = zip_results(
         create_memory_file(alloc, log),
@@ -125,11 +125,11 @@ pub fn add_fuse(files: Files<Memory>, log_fails: bool, calls: u64) -> Files<Fuse
 /// `entry`.
 fn full_entry_text(alloc: Global, entry: &[Entry]) -> Result<String> {
     let mut out = ExampleOutput::new(alloc);
-    for word in ["cases", "outputs", "pairs"] {
-        out.line("");
-        push_entries(&mut out, word, entry);
+    for keyword in ["cases", "outputs", "pairs"] {
+        out.push_line("");
+        push_entries(&mut out, keyword, entry);
     }
-    convert_error(out.end())
+    convert_error(out.into_string())
 }
 
 /// Appends texts with the head, the entries and the state of a run to `texts`.
@@ -220,7 +220,7 @@ pub fn crash_and_read<D: Crash + Drop>(
     files.log.crash();
     files.db.crash();
     let left = run_on_files(alloc, files, frames, ContentReader { alloc })?;
-    let (left, _) = due(left, "it does not open again")?;
+    let (left, _) = require_part(left, "it does not open again")?;
     Ok(left)
 }
 

@@ -22,10 +22,10 @@ impl FailingStore {
     /// - `InvalidExample`: CALLS isn't one or two numbers, or the real error for the calls can't be
     ///   provoked.
     /// - `NoMemory`: an allocation failed.
-    pub fn new(alloc: Global, row: &Example<'_>) -> kt_examples::Result<FailingStore> {
+    pub fn new(alloc: Global, example: &Example<'_>) -> kt_examples::Result<FailingStore> {
         Ok(FailingStore {
             runs: MemRuns::new(alloc),
-            failing_calls: FailingCalls::parse(alloc, row)?,
+            failing_calls: FailingCalls::parse(alloc, example)?,
         })
     }
 }

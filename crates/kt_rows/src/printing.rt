@@ -8,17 +8,17 @@ use std::alloc::Global;
 use std::io::Write;
 
 /// Creates a writer that accepts at most `at_most` bytes per write and fails from write number
-/// `failing` on. Writes are counted from 1, and no write fails if `failing` is 0. `fault` is the
-/// way in which writes fail.
+/// `failing_write` on. Writes are counted from 1, and no write fails if `failing_write` is 0.
+/// `fault` is the way in which writes fail.
 pub fn create_writer(
     alloc: Global,
     at_most: usize,
-    failing: u64,
+    failing_write: u64,
     fault: WriteFault,
 ) -> ScriptedWriter {
     let mut writer = ScriptedWriter::new(alloc);
     writer.at_most = at_most;
-    writer.failing = failing;
+    writer.failing_write = failing_write;
     writer.fault = fault;
     writer
 }
@@ -53,11 +53,11 @@ fn find_violation(
     cut: &ScriptedWriter,
     is_success: bool,
 ) -> Result<Option<&'static str>, NoMemory> {
-    let written = cut.kept()?;
+    let written = cut.written_bytes()?;
     if is_success {
         return Ok(Some("all went well"));
     }
-    if cut.writes != cut.failing {
+    if cut.writes != cut.failing_write {
         return Ok(Some("something was written after it"));
     }
     if written.len() >= whole.len() || !whole.starts_with(written) {
@@ -79,19 +79,19 @@ fn push_violations(
 ) -> Result<()> {
     let mut slow = create_writer(out.alloc, at_most, 0, WriteFault::Broken);
     let is_success = print_and_flush(pieces, to_lines, &mut slow);
-    if slow.kept()? != whole || !is_success {
-        out.line("another text into a slow writer");
+    if slow.written_bytes()? != whole || !is_success {
+        out.push_line("another text into a slow writer");
     }
     for failing in 1..=slow.writes.min(100) {
         for fault in [
             WriteFault::Broken,
             WriteFault::Interrupted,
-            WriteFault::Nothing,
+            WriteFault::ZeroBytes,
         ] {
             let mut cut = create_writer(out.alloc, at_most, failing, fault);
             let is_success = print_and_flush(pieces, to_lines, &mut cut);
             if let Some(what) = find_violation(whole, &cut, is_success)? {
-                out.line(what);
+                out.push_line(what);
             }
         }
     }
@@ -112,11 +112,11 @@ pub fn push_printed_text(
 ) -> Result<()> {
     let mut page = ScriptedWriter::new(out.alloc);
     print_and_flush(pieces, to_lines, &mut page);
-    let whole = page.kept()?;
+    let whole = page.written_bytes()?;
     for at_most in [usize::MAX, 7, 1] {
         push_violations(out, pieces, to_lines, whole, at_most)?;
     }
-    out.bytes(whole);
+    out.push_bytes(whole);
     Ok(())
 }
 
@@ -128,20 +128,20 @@ pub fn push_printed_text(
 ///
 /// - `InvalidExample`: an escape is invalid.
 /// - `NoMemory`: an allocation failed.
-pub fn push_pieces(out: &mut ExampleOutput, row: &Example<'_>) -> Result<()> {
+pub fn push_pieces(out: &mut ExampleOutput, example: &Example<'_>) -> Result<()> {
     let mut pieces = Vec::new(out.alloc);
-    for line in row.entries.as_slice() {
-        if line.word == "piece" {
+    for line in example.lines.as_slice() {
+        if line.keyword == "piece" {
             push_or_fail(&mut pieces, unescape(out.alloc, line.text))?;
         }
     }
-    if row.text("unflushed").is_none() {
+    if example.text("unflushed").is_none() {
         return push_printed_text(out, &pieces, true);
     }
     let mut page = ScriptedWriter::new(out.alloc);
-    let mut lines = LineOutput::new(&mut page, row.text("held").is_none());
+    let mut lines = LineOutput::new(&mut page, example.text("held").is_none());
     print_pieces(&pieces, &mut lines, false);
-    out.bytes(page.kept()?);
+    out.push_bytes(page.written_bytes()?);
     Ok(())
 }
 
@@ -151,8 +151,8 @@ pub fn push_pieces(out: &mut ExampleOutput, row: &Example<'_>) -> Result<()> {
 ///
 /// - `NoMemory`: an allocation failed.
 pub fn push_written_text(out: &mut ExampleOutput, page: &ScriptedWriter) -> Result<()> {
-    let bytes = page.kept()?;
-    out.bytes(bytes);
+    let bytes = page.written_bytes()?;
+    out.push_bytes(bytes);
     if !bytes.is_empty() && !bytes.ends_with(b"\n") {
         out.push("(cut)\n");
     }

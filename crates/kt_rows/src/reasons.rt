@@ -6,10 +6,10 @@ use kt_examples::{
 };
 use std::alloc::Global;
 
-/// Appends the verdict kind with the keyword `word`, and `good` if it counts as a success or else
-/// `bad`.
-fn push_kind(out: &mut ExampleOutput, word: &str) -> Result<()> {
-    let kind = parse_kind(word)?;
+/// Appends the verdict kind with the keyword `keyword`, and `good` if it counts as a success or
+/// else `bad`.
+fn push_kind(out: &mut ExampleOutput, keyword: &str) -> Result<()> {
+    let kind = parse_kind(keyword)?;
     let quality = if kind.good() { "good" } else { "bad" };
     write!(out, "{}, {quality}", kind.word());
     Ok(())
@@ -34,41 +34,41 @@ fn push_number(out: &mut ExampleOutput, text: &str) -> Result<()> {
     } else {
         return Err(ExampleFault::InvalidExample("no number"));
     }
-    out.bytes(page.kept()?);
+    out.push_bytes(page.written_bytes()?);
     Ok(())
 }
 
 /// Sends bytes to a writer, and appends the numbers of sent bytes and of writes. The writer accepts
 /// `taking N` bytes per write, and fails from write number `failing WRITE` on.
-fn push_send_output(out: &mut ExampleOutput, row: &Example<'_>, bytes: &[u8]) -> Result<()> {
-    let at_most = row.number("taking", 1)? as usize;
-    let failing = row.number("failing", 0)?;
+fn push_send_output(out: &mut ExampleOutput, example: &Example<'_>, bytes: &[u8]) -> Result<()> {
+    let at_most = example.number("taking", 1)? as usize;
+    let failing = example.number("failing", 0)?;
     let mut page = create_writer(out.alloc, at_most, failing, WriteFault::Broken);
     let (count, failed) = send(bytes, &mut page);
-    page.kept()?;
+    page.written_bytes()?;
     let end = if failed { "failed" } else { "done" };
     write!(out, "{count} in {} writes, {end}", page.writes);
     Ok(())
 }
 
-/// Executes an example with the keyword `word` and the decoded bytes `bytes`, and appends its
+/// Executes an example with the keyword `keyword` and the decoded bytes `bytes`, and appends its
 /// output.
 fn push_bytes_output(
     out: &mut ExampleOutput,
-    row: &Example<'_>,
-    word: &str,
+    example: &Example<'_>,
+    keyword: &str,
     bytes: Vec<u8>,
 ) -> Result<()> {
-    match word {
+    match keyword {
         "words" => {
             let reason = Reason::Owned(lossy(out.alloc, &bytes)?);
             push_reason(out, &Verdict::broken(reason))
         }
         "bytes" => {
-            out.text(decode_text(out.alloc, &bytes));
+            out.push_text(decode_text(out.alloc, &bytes));
             Ok(())
         }
-        "send" => push_send_output(out, row, &bytes),
+        "send" => push_send_output(out, example, &bytes),
         "emit" => push_printed_text(out, &[bytes], false),
         _ => Err(ExampleFault::InvalidExample("nothing like that is asked of a reason")),
     }
@@ -82,12 +82,12 @@ fn push_bytes_output(
 ///
 /// - `InvalidExample`: a line is missing or invalid.
 /// - `NoMemory`: an allocation failed.
-pub fn answer(out: &mut ExampleOutput, row: &Example<'_>) -> Result<()> {
-    let ExampleLine { word, text } = row.first()?;
-    match word {
+pub fn push_output(out: &mut ExampleOutput, example: &Example<'_>) -> Result<()> {
+    let ExampleLine { keyword, text } = example.first()?;
+    match keyword {
         "kind" => push_kind(out, text),
         "number" => push_number(out, text),
         "nothing" => push_reason(out, &Verdict::broken(Reason::Nothing)),
-        _ => push_bytes_output(out, row, word, unescape(out.alloc, text)?),
+        _ => push_bytes_output(out, example, keyword, unescape(out.alloc, text)?),
     }
 }

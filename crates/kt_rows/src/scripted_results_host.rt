@@ -41,11 +41,11 @@ impl<R: ResultStore + Drop> ScriptedResultsHost<R> {
     /// Logs the call `name` with the file name `file`, and fails if the log's allocation fails for
     /// the first time.
     fn log_host_call(&mut self, name: &str, file: &str) -> Result<(), NoMemory> {
-        let was_refused = self.calls.text_so_far().is_err();
-        self.calls.separate(", ");
+        let was_refused = self.calls.as_str().is_err();
+        self.calls.push_separator(", ");
         write!(self.calls, "{name}{file}");
         if !was_refused {
-            self.calls.text_so_far()?;
+            self.calls.as_str()?;
         }
         Ok(())
     }

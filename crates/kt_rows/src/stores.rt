@@ -4,7 +4,7 @@ use crate::scripted_results_host::ScriptedResultsHost;
 use kt_dbfile::RunsFile;
 use kt_doubles::{Scene, SplitReadStore, push_call};
 use kt_examples::{
-    Example, ExampleFault, ExampleLine, ExampleOutput, Result, convert_error, entry_lines_at,
+    Example, ExampleFault, ExampleLine, ExampleOutput, Result, convert_error, find_entry_lines,
     is_entry_line,
 };
 use kt_store::{ResultStore, Results};
@@ -59,7 +59,7 @@ fn attach<S: Alter + Drop>(
             Ok(Store::Attached(results))
         }
         Err((fault, connection)) => {
-            out.name(&fault);
+            out.push_name(&fault);
             Ok(Store::Detached(connection))
         }
     }
@@ -73,7 +73,7 @@ fn execute_call<R: ResultStore + Drop>(
     line: &ExampleLine<'_>,
     content: &[ExampleLine<'_>],
 ) -> Result<R> {
-    if line.word != "do" {
+    if line.keyword != "do" {
         let (store, alloc) = (&mut results, out.alloc);
         push_call(out, &mut SplitReadStore { store, alloc }, line, content)?;
         return Ok(results);
@@ -96,7 +96,7 @@ fn execute_by_sql<S: Alter + Drop>(
     line: &ExampleLine<'_>,
     content: &[ExampleLine<'_>],
 ) -> Result<Store<S>> {
-    if line.word == "do" {
+    if line.keyword == "do" {
         let file = into_runs_file(results)?;
         return Ok(Store::Trees(execute_call(out, file, line, content)?));
     }
@@ -114,8 +114,8 @@ fn execute_store_line<S: Alter + Drop>(
     line: &ExampleLine<'_>,
     content: &[ExampleLine<'_>],
 ) -> Result<Store<S>> {
-    out.separate("\n");
-    match line.word {
+    out.push_separator("\n");
+    match line.keyword {
         "attach" => attach(out, detach_store(store)?, uses_trees),
         "sql" => {
             let mut connection = detach_store(store)?;
@@ -149,19 +149,19 @@ fn execute_on_database(
                 store,
                 uses_trees,
                 line,
-                entry_lines_at(lines, place),
+                find_entry_lines(lines, place),
             )?;
         }
     }
-    convert_error(out.end())
+    convert_error(out.into_string())
 }
 
 /// Returns `true` if one of `lines` after the first `attach` uses the connection. A store that is
 /// used through its trees can't return the connection.
 fn uses_connection_again(lines: &[ExampleLine<'_>]) -> bool {
-    let mut later = lines.iter().skip_while(|line| line.word != "attach");
+    let mut later = lines.iter().skip_while(|line| line.keyword != "attach");
     later.next();
-    later.any(|line| line.word == "attach" || line.word == "sql")
+    later.any(|line| line.keyword == "attach" || line.keyword == "sql")
 }
 
 /// Returns `true` if an output contains the error of a failed allocation.
@@ -179,8 +179,8 @@ fn push_common_output(out: &mut ExampleOutput, by_sql: &str, by_trees: &str) {
         out.push(by_trees);
     } else {
         out.push(by_sql);
-        out.line("by its trees:");
-        out.line(by_trees);
+        out.push_line("by its trees:");
+        out.push_line(by_trees);
     }
 }
 
@@ -192,8 +192,8 @@ fn execute_in_memory(
 ) -> Result<()> {
     for (place, line) in lines.iter().enumerate() {
         if !is_entry_line(line) {
-            out.separate("\n");
-            runs = execute_call(out, runs, line, entry_lines_at(lines, place))?;
+            out.push_separator("\n");
+            runs = execute_call(out, runs, line, find_entry_lines(lines, place))?;
         }
     }
     Ok(())
@@ -206,11 +206,11 @@ fn execute_in_memory(
 ///
 /// - `InvalidExample`: a line is invalid, or an SQL statement fails.
 /// - `NoMemory`: an allocation outside the store failed.
-pub fn answer(out: &mut ExampleOutput, row: &Example<'_>) -> Result<()> {
-    let lines = row.entries.as_slice();
+pub fn push_output(out: &mut ExampleOutput, example: &Example<'_>) -> Result<()> {
+    let lines = example.lines.as_slice();
     if let Some((first, calls)) = lines.split_first() {
-        if first.word == "memory" {
-            return execute_in_memory(out, calls, FailingStore::new(out.alloc, row)?);
+        if first.keyword == "memory" {
+            return execute_in_memory(out, calls, FailingStore::new(out.alloc, example)?);
         }
     }
     let by_sql = execute_on_database(out.alloc, lines, false)?;

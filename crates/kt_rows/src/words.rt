@@ -1,8 +1,8 @@
 use kt_args::{CaseOptions, Command, CommandFault, ReportOptions, read_command};
 use kt_base::Text;
 use kt_examples::{
-    Example, ExampleOutput, Result, convert_error, due, number, push_or_fail, split_required,
-    unescape_text,
+    Example, ExampleOutput, Result, convert_error, parse_number, push_or_fail, require_part,
+    split_once_or_fail, unescape_text,
 };
 use std::alloc::Global;
 use std::slice;
@@ -99,12 +99,12 @@ fn push_fault(out: &mut ExampleOutput, fault: &CommandFault) {
 }
 
 /// Returns the arguments of the line `line WORDS`, and then N times the argument of `times N WORD`.
-fn parse_arguments(alloc: Global, row: &Example<'_>) -> Result<Vec<String>> {
-    let line = due(row.text("line"), "the row has no command line")?;
+fn parse_arguments(alloc: Global, example: &Example<'_>) -> Result<Vec<String>> {
+    let line = require_part(example.text("line"), "the row has no command line")?;
     let mut arguments = split_command_line(alloc, line)?;
-    let times = row.text("times").unwrap_or("0 ");
-    let (count, argument) = split_required(times, " ", "a number and a word are due")?;
-    for _ in 0..number(count)? {
+    let times = example.text("times").unwrap_or("0 ");
+    let (count, argument) = split_once_or_fail(times, " ", "a number and a word are due")?;
+    for _ in 0..parse_number(count)? {
         push_or_fail(
             &mut arguments,
             convert_error(String::from_str(alloc, argument)),
@@ -120,8 +120,8 @@ fn parse_arguments(alloc: Global, row: &Example<'_>) -> Result<Vec<String>> {
 ///
 /// - `InvalidExample`: a line is missing or invalid.
 /// - `NoMemory`: an allocation outside `read_command` failed.
-pub fn answer(out: &mut ExampleOutput, row: &Example<'_>) -> Result<()> {
-    match read_command(out.alloc, parse_arguments(out.alloc, row)?.as_slice()) {
+pub fn push_output(out: &mut ExampleOutput, example: &Example<'_>) -> Result<()> {
+    match read_command(out.alloc, parse_arguments(out.alloc, example)?.as_slice()) {
         Ok(command) => push_command(out, &command),
         Err(fault) => push_fault(out, &fault),
     }

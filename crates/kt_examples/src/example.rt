@@ -1,6 +1,6 @@
 use crate::escapes::{unescape, unescape_lossy};
-use crate::example_fault::{Result, convert_error, due, zip_results};
-use crate::numbers::{expand_numbered, number};
+use crate::example_fault::{Result, convert_error, require_part, zip_results};
+use crate::numbers::{expand_copies, parse_number};
 use kt_base::{Variable, Variables};
 use std::alloc::Global;
 
@@ -8,7 +8,7 @@ use std::alloc::Global;
 #[derive(Clone, Copy)]
 pub struct ExampleLine<'a> {
     /// The keyword, which is the first word of the line.
-    pub word: &'a str,
+    pub keyword: &'a str,
     /// The text after the keyword. Its escapes are not decoded.
     pub text: &'a str,
 }
@@ -17,28 +17,28 @@ pub struct ExampleLine<'a> {
 #[derive(Drop)]
 pub struct Example<'a> {
     /// The number of the example's first line in its `.rows` file, counted from 1.
-    pub line: u64,
+    pub line_number: u64,
     /// The lines of the input, in order.
-    pub entries: Vec<ExampleLine<'a>>,
+    pub lines: Vec<ExampleLine<'a>>,
     /// The lines of the expected output. Their escapes are not decoded.
-    pub wanted: Vec<&'a str>,
+    pub expected: Vec<&'a str>,
 }
 
-/// Returns the text of the first of `lines` with the keyword `word`, or `None` if there is no such
-/// line. The escapes of the text are not decoded.
-pub fn text_in<'a>(lines: &[ExampleLine<'a>], word: &str) -> Option<&'a str> {
-    let line = lines.iter().find(|line| line.word == word)?;
+/// Returns the text of the first of `lines` with the keyword `keyword`, or `None` if there is no
+/// such line. The escapes of the text are not decoded.
+pub fn find_text<'a>(lines: &[ExampleLine<'a>], keyword: &str) -> Option<&'a str> {
+    let line = lines.iter().find(|line| line.keyword == keyword)?;
     Some(line.text)
 }
 
-/// Returns the number in the first of `lines` with the keyword `word`, or `other` if there is no
+/// Returns the number in the first of `lines` with the keyword `keyword`, or `other` if there is no
 /// such line. Allocates nothing.
 ///
 /// # Errors
 ///
 /// - `InvalidExample`: the text after the keyword isn't a number from 0 to 2^64 - 1.
-pub fn number_in(lines: &[ExampleLine<'_>], word: &str, other: u64) -> Result<u64> {
-    text_in(lines, word).map_or(Ok(other), number)
+pub fn find_number(lines: &[ExampleLine<'_>], keyword: &str, other: u64) -> Result<u64> {
+    find_text(lines, keyword).map_or(Ok(other), parse_number)
 }
 
 /// Decodes the escapes of `raw`, and appends the decoded bytes to `bytes`.
@@ -47,7 +47,7 @@ pub fn number_in(lines: &[ExampleLine<'_>], word: &str, other: u64) -> Result<u6
 ///
 /// - `InvalidExample`: an escape or a repetition is invalid.
 /// - `NoMemory`: an allocation failed.
-pub fn append(alloc: Global, bytes: &mut Vec<u8>, raw: &str) -> Result<()> {
+pub fn append_unescaped(alloc: Global, bytes: &mut Vec<u8>, raw: &str) -> Result<()> {
     convert_error(bytes.extend_from_slice(&unescape(alloc, raw)?))
 }
 
@@ -64,17 +64,17 @@ pub fn parse_pair(alloc: Global, raw: &str) -> Result<Variable> {
     Ok(Variable { name, value })
 }
 
-/// Parses the text of each of `lines` with the keyword `word` as `NAME=VALUE`, and returns these
+/// Parses the text of each of `lines` with the keyword `keyword` as `NAME=VALUE`, and returns these
 /// pairs in order.
 ///
 /// # Errors
 ///
 /// - `InvalidExample`: an escape or a repetition is invalid.
 /// - `NoMemory`: an allocation failed.
-pub fn parse_pairs(alloc: Global, lines: &[ExampleLine<'_>], word: &str) -> Result<Variables> {
+pub fn parse_pairs(alloc: Global, lines: &[ExampleLine<'_>], keyword: &str) -> Result<Variables> {
     let mut pairs = Variables::new(alloc);
     for line in lines {
-        if line.word == word {
+        if line.keyword == keyword {
             pairs.push(parse_pair(alloc, line.text)?)?;
         }
     }
@@ -88,37 +88,39 @@ impl<'a> Example<'a> {
     ///
     /// - `InvalidExample`: the example has no input.
     pub fn first(&self) -> Result<ExampleLine<'a>> {
-        due(self.entries.first().copied(), "the row is empty")
+        require_part(self.lines.first().copied(), "the row is empty")
     }
 
-    /// Returns the text of the first line with the keyword `word`, or `None` if there is no such
+    /// Returns the text of the first line with the keyword `keyword`, or `None` if there is no such
     /// line. The escapes of the text are not decoded.
-    pub fn text(&self, word: &str) -> Option<&'a str> {
-        text_in(self.entries.as_slice(), word)
+    pub fn text(&self, keyword: &str) -> Option<&'a str> {
+        find_text(self.lines.as_slice(), keyword)
     }
 
-    /// Returns the number in the first line with the keyword `word`, or `other` if there is no such
-    /// line. Allocates nothing.
+    /// Returns the number in the first line with the keyword `keyword`, or `other` if there is no
+    /// such line. Allocates nothing.
     ///
     /// # Errors
     ///
     /// - `InvalidExample`: the text after the keyword isn't a number from 0 to 2^64 - 1.
-    pub fn number(&self, word: &str, other: u64) -> Result<u64> {
-        number_in(self.entries.as_slice(), word, other)
+    pub fn number(&self, keyword: &str, other: u64) -> Result<u64> {
+        find_number(self.lines.as_slice(), keyword, other)
     }
 
-    /// Returns the text of the first line with the keyword `word`, with its escapes decoded to
+    /// Returns the text of the first line with the keyword `keyword`, with its escapes decoded to
     /// bytes. Returns `None` if there is no such line.
     ///
     /// # Errors
     ///
     /// - `InvalidExample`: an escape or a repetition is invalid.
     /// - `NoMemory`: an allocation failed.
-    pub fn bytes(&self, alloc: Global, word: &str) -> Result<Option<Vec<u8>>> {
-        self.text(word).map(|raw| unescape(alloc, raw)).transpose()
+    pub fn bytes(&self, alloc: Global, keyword: &str) -> Result<Option<Vec<u8>>> {
+        self.text(keyword)
+            .map(|raw| unescape(alloc, raw))
+            .transpose()
     }
 
-    /// Returns the text of the first line with the keyword `word`, with its escapes decoded to
+    /// Returns the text of the first line with the keyword `keyword`, with its escapes decoded to
     /// bytes. An example must have such a line.
     ///
     /// # Errors
@@ -129,10 +131,10 @@ impl<'a> Example<'a> {
     pub fn required_bytes(
         &self,
         alloc: Global,
-        word: &str,
+        keyword: &str,
         fault: &'static str,
     ) -> Result<Vec<u8>> {
-        unescape(alloc, due(self.text(word), fault)?)
+        unescape(alloc, require_part(self.text(keyword), fault)?)
     }
 
     /// Returns the expected output with its escapes decoded to bytes, and with a newline between
@@ -142,16 +144,16 @@ impl<'a> Example<'a> {
     ///
     /// - `InvalidExample`: an escape or a repetition is invalid.
     /// - `NoMemory`: an allocation failed.
-    pub fn wanted(&self, alloc: Global) -> Result<Vec<u8>> {
-        unescape(alloc, self.wanted.as_slice().join(alloc, "\n")?.as_str())
+    pub fn expected_bytes(&self, alloc: Global) -> Result<Vec<u8>> {
+        unescape(alloc, self.expected.as_slice().join(alloc, "\n")?.as_str())
     }
 }
 
 /// Parses `raw` as `COUNT TEXT`, and appends COUNT copies of the text to `bytes`, with their
 /// escapes decoded. Each `#` in a copy is replaced by the copy's number, counted from 0.
 fn append_numbered_copies(alloc: Global, bytes: &mut Vec<u8>, raw: &str) -> Result<()> {
-    for text in expand_numbered(alloc, raw)?.as_slice() {
-        append(alloc, bytes, text.as_str())?;
+    for text in expand_copies(alloc, raw)?.as_slice() {
+        append_unescaped(alloc, bytes, text.as_str())?;
     }
     Ok(())
 }
@@ -166,10 +168,14 @@ fn append_numbered_copies(alloc: Global, bytes: &mut Vec<u8>, raw: &str) -> Resu
 ///
 /// - `InvalidExample`: a line or an escape is invalid, or `bytes` is this error.
 /// - `NoMemory`: an allocation failed, or `bytes` is this error.
-pub fn append_copies(alloc: Global, bytes: Result<Vec<u8>>, row: &Example<'_>) -> Result<Vec<u8>> {
+pub fn append_copies(
+    alloc: Global,
+    bytes: Result<Vec<u8>>,
+    example: &Example<'_>,
+) -> Result<Vec<u8>> {
     let mut bytes = bytes?;
-    for line in row.entries.as_slice() {
-        if line.word == "numbered" {
+    for line in example.lines.as_slice() {
+        if line.keyword == "numbered" {
             append_numbered_copies(alloc, &mut bytes, line.text)?;
         }
     }
