@@ -46,8 +46,8 @@ fn push_parsed_filter(out: &mut ExampleOutput, raw: &str) -> Result<()> {
     Ok(())
 }
 
-/// Appends `label`, followed by each of the positions `positions` after a space, or by ` none`
-/// without positions.
+/// Appends `label`, and then a space and a number for each of `positions`. Without positions,
+/// appends ` none` after the label.
 fn push_position_list(out: &mut ExampleOutput, label: &str, positions: &[usize]) {
     out.push(label);
     for position in positions {

@@ -91,8 +91,8 @@ pub fn parse_call_range(text: &str) -> Result<(u32, u32)> {
     Ok((parse_count(first)?, parse_count(last)?.saturating_add(1)))
 }
 
-/// Adds the file, the script of a child, the path or the calls that `line` describes to `scene`.
-/// Other lines are ignored.
+/// Adds the file, the script of a child or the path in `line` to `scene`. Timestamps and faults in
+/// `line` replace those of `scene`. Other lines are ignored.
 fn parse_line(scene: &mut Scene, line: &ExampleLine<'_>) -> Result<()> {
     let text = line.text;
     let (path, rest) = text.split_once(' ').unwrap_or((text, ""));
@@ -108,8 +108,9 @@ fn parse_line(scene: &mut Scene, line: &ExampleLine<'_>) -> Result<()> {
     }
 }
 
-/// Adds the timestamps or the failing calls in a line of the keyword `keyword` and the text `text`
-/// to `scene`. Other lines are ignored.
+/// Sets the timestamps, the failing calls or the fault of partial reads of `scene` to those in the
+/// line with the keyword `keyword` and the text `text`. Fails if the line `odd` has another fault.
+/// Other lines are ignored.
 fn set_clock_or_faults(scene: &mut Scene, keyword: &str, text: &str) -> Result<()> {
     let alloc = scene.alloc;
     match keyword {

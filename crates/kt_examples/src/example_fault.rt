@@ -51,16 +51,17 @@ where
 ///
 /// # Errors
 ///
-/// - `InvalidExample`: `part` is `None`. The error's text is `fault`.
+/// - `InvalidExample`: `part` is `None`. The error's message is `fault`.
 pub fn require_part<T>(part: Option<T>, fault: &'static str) -> Result<T> {
     part.ok_or(ExampleFault::InvalidExample(fault))
 }
 
-/// Returns the parts of `text` before and after its first `separator`. Allocates nothing.
+/// Splits `text` at its first `separator`, and returns the parts before and after it. Allocates
+/// nothing.
 ///
 /// # Errors
 ///
-/// - `InvalidExample`: `text` doesn't contain `separator`. The error's text is `fault`.
+/// - `InvalidExample`: `text` doesn't contain `separator`. The error's message is `fault`.
 pub fn split_once_or_fail<'a>(
     text: &'a str,
     separator: &str,

@@ -208,8 +208,8 @@ fn execute_commands(
     push_result_and_state(out, example, &mut commands_run)
 }
 
-/// Parses `HERE KYUAFILE`, and appends the Kyuafile's absolute directory for the working directory
-/// HERE.
+/// Parses `HERE KYUAFILE`, and appends the absolute path of the Kyuafile's directory. HERE is the
+/// working directory.
 fn push_source(out: &mut ExampleOutput, text: &str) -> Result<()> {
     let (here, kyuafile) = split_once_or_fail(text, " ", "a directory and a Kyuafile are due")?;
     let kyuafile = Text::from_str(out.alloc, kyuafile)?;
