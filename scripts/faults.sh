@@ -273,7 +273,7 @@ kt_dbfile/src/opening.rt: let log = present(files.log.len().ok())?;
 # The schema of a file: its number, its list of objects, its tables.
 kt_dbfile/src/opening.rt: present(number_in(settings.as_slice()))
 kt_dbfile/src/runs_file.rt: ensure_sound(!store.is_broken())?;
-kt_dbfile/src/runs_file.rt: let schema = present(listed(store, alloc)?)?;
+kt_dbfile/src/runs_file.rt: let schema = present(load_schema(store, alloc)?)?;
 kt_dbfile/src/runs_file.rt: ensure_sound(has_tables(&schema))?;
 kt_dbfile/src/tables.rt: ensure_sound(store.shape(tree) == Shape::Table)?;
 kt_dbfile/src/seeks.rt: ensure_sound(store.shape(RUNS_TREE) == Shape::Table)?;

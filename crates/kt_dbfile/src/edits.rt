@@ -205,7 +205,7 @@ fn check_can_put<S: Alter>(
     ensures small { OnOk result (run ≤ greatest_run_number) }
     ensures refused { HoldsForTrees S.Store store.old store.new (λ runs.
         IfErr result (λ e. IsDatabaseFault e ⊎ (put_refusal runs run entry.now ≡ Some e))) }
-    ensures taken { HoldsForTrees S.Store store.old store.new (λ runs.
+    ensures accepted { HoldsForTrees S.Store store.old store.new (λ runs.
         OnOk result (HasNoReasonIfPassed entry.now → (put_refusal runs run entry.now ≡ None)
         × CanAdd run entry.now runs)) }
     ensures through { MovesCursorsIfOk S.Store store.old store.new result }
@@ -299,7 +299,7 @@ fn check_can_finish<S: Alter>(store: &mut S, alloc: Global, run: u64) -> Result<
     ensures small { OnOk result (run ≤ greatest_run_number) }
     ensures refused { HoldsForTrees S.Store store.old store.new (λ runs.
         IfErr result (λ e. IsDatabaseFault e ⊎ (finish_refusal runs run ≡ Some e))) }
-    ensures taken { HoldsForTrees S.Store store.old store.new (λ runs.
+    ensures accepted { HoldsForTrees S.Store store.old store.new (λ runs.
         IfOk result (λ row. (r : Run) × (run_at runs run ≡ Some r) × (row ≡ run_row r)
         × (finish_refusal runs run ≡ None) × IsComplete run runs)) }
     ensures through { MovesCursorsIfOk S.Store store.old store.new result }

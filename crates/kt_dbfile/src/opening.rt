@@ -102,7 +102,7 @@ fn is_full_check<D: Disk>(files: &mut Files<D>) -> Result<bool, DatabaseError>
 
 /// Creates an unopened store over `files`, with the page size `size` and without checksums. Returns
 /// the files if an allocation fails.
-fn unopened<D: Disk + Drop>(
+fn create_unopened<D: Disk + Drop>(
     alloc: Global,
     files: Files<D>,
     size: PageSize,
@@ -213,7 +213,7 @@ fn number_in(settings: &[Row]) -> Option<i64>
 }
 
 /// Converts the error of `returned`, the result of an open, to a `DatabaseError`.
-fn opened<T, L>(returned: Result<T, (OpenError, L)>) -> Result<T, (DatabaseError, L)>
+fn with_database_error<T, L>(returned: Result<T, (OpenError, L)>) -> Result<T, (DatabaseError, L)>
     ensures ok { IfOk result (λ it. returned ≡ Ok it) }
     ensures err { IfErr result (λ e. (cause : _) × (returned ≡ Err (cause, e.1))) }
 {
@@ -247,9 +247,9 @@ fn open_sound_files<D: Disk + Drop>(
         → Opens files (state_of e.1)) }
 {
     if is_full_check {
-        opened(files.open_numbered())
+        with_database_error(files.open_numbered())
     } else {
-        opened(files.open_trusted())
+        with_database_error(files.open_trusted())
     }
 }
 
@@ -285,7 +285,7 @@ pub(crate) fn open_known_files<D: Disk + Drop>(
         Ok(is_full_check) => is_full_check,
         Err(failure) => return Err((failure, Leftover::Files(files))),
     };
-    let mut fresh = match unopened(alloc, files, size, options) {
+    let mut fresh = match create_unopened(alloc, files, size, options) {
         Ok(fresh) => fresh,
         Err(left) => return Ok(Err(left)),
     };

@@ -58,7 +58,7 @@ impl<S: Alter> Model for RunsFile<S> {
 
 /// Returns the schema in the schema list of `store`, or `None` if the list doesn't describe a
 /// schema.
-fn listed<S: Alter>(store: &S, alloc: Global) -> Result<Option<Schema>, NoMemory>
+fn load_schema<S: Alter>(store: &S, alloc: Global) -> Result<Option<Schema>, NoMemory>
     requires { IsClean (S.Store.view store.now) → (S.Store.view store.now).is_broken ≡ false }
     ensures { IsClean (S.Store.view store.now) → IfOk result (λ found. IfSome found
         (Lists ((S.Store.view store.now).trees catalog_tree))) }
@@ -75,7 +75,7 @@ fn schema_of_results<S: Alter>(store: &S, alloc: Global) -> Result<Schema, Datab
         × Lists ((S.Store.view store.now).trees catalog_tree) schema) }
 {
     ensure_sound(!store.is_broken())?;
-    let schema = present(listed(store, alloc)?)?;
+    let schema = present(load_schema(store, alloc)?)?;
     ensure_sound(has_tables(&schema))?;
     Ok(schema)
 }
@@ -83,7 +83,7 @@ fn schema_of_results<S: Alter>(store: &S, alloc: Global) -> Result<Schema, Datab
 /// Creates a `RunsFile` over `store`, which shows its last commit. Fails if the store is broken or
 /// lacks the tables of a results file, and returns the store with the error. The caller guarantees
 /// that the store obeys its schema.
-pub(crate) fn over<S: Alter>(alloc: Global, store: S) -> Result<RunsFile<S>, (DatabaseError, S)>
+fn wrap_store<S: Alter>(alloc: Global, store: S) -> Result<RunsFile<S>, (DatabaseError, S)>
     requires settled { IsClean (S.Store.view store) → (S.Store.view store).is_broken ≡ false
         → (S.Store.view store).trees ≡ (S.Store.view store).committed }
     requires sound { IsTrue (S.Store.view store).is_open
@@ -111,7 +111,7 @@ fn detach_store<S: Alter + Drop>(connection: Connection<S>) -> S
 
 /// Converts `connection`, with attached results, to a `RunsFile`. Uncommitted changes are lost. On
 /// failure, returns the error with the store of the connection.
-fn converted<S: Alter + Drop>(
+fn convert_connection<S: Alter + Drop>(
     alloc: Global,
     connection: Connection<S>,
 ) -> Result<RunsFile<S>, (StoreFault, S)>
@@ -122,7 +122,7 @@ fn converted<S: Alter + Drop>(
     ensures failed { IfErr result (λ e. IsDatabaseFault e.0) }
 {
     lives(&connection);
-    match over(alloc, detach_store(connection)) {
+    match wrap_store(alloc, detach_store(connection)) {
         Ok(it) => Ok(it),
         Err((failure, store)) => Err((StoreFault::from(failure), store)),
     }
@@ -153,7 +153,7 @@ impl<S: Alter + Drop> RunsFile<S> {
         ensures failed { IfErr result IsDatabaseFault }
     {
         let (alloc, connection) = results.into_parts();
-        match converted(alloc, connection) {
+        match convert_connection(alloc, connection) {
             Ok(it) => Ok(it),
             Err((fault, _store)) => Err(fault),
         }
@@ -209,18 +209,18 @@ impl<D: Disk + Drop> RunsFile<FileStore<D>> {
 /// Attaches the tables of the database that `connection` opened, and converts the results to a
 /// `RunsFile`. Fails with `UnknownSchema` if the schema number is missing or neither 1 nor 2. On
 /// failure, returns the error with the store of the connection.
-fn taken<S: Alter + Drop>(
+fn attach_and_convert<S: Alter + Drop>(
     alloc: Global,
     connection: Connection<S>,
 ) -> Result<RunsFile<S>, (StoreFault, S)>
-    ensures taken { IfOk result (IsAttached S.Store connection) }
+    ensures attached { IfOk result (IsAttached S.Store connection) }
     ensures due { IfErr result (λ e. IsDatabaseFault e.0 ⊎ (e.0 ≡ StoreFault.UnknownSchema)) }
     ensures left { IfErr result (λ e. FailsToAttach S.Store connection e.0 e.1) }
 {
     match Results::attach(alloc, connection) {
         Ok(results) => {
             let (alloc, attached) = results.into_parts();
-            converted(alloc, attached)
+            convert_connection(alloc, attached)
         }
         Err((fault, connection)) => Err((fault, detach_store(connection))),
     }
@@ -236,11 +236,11 @@ fn attach_files_and_convert<D: Disk + Drop>(
     alloc: Global,
     connection: Connection<FileStore<D>>,
 ) -> Result<RunsFile<FileStore<D>>, (StoreFault, FileStore<D>)>
-    ensures taken { IfOk result (IsAttachedFiles connection) }
+    ensures attached { IfOk result (IsAttachedFiles connection) }
     ensures due { IfErr result (λ e. IsDatabaseFault e.0 ⊎ (e.0 ≡ StoreFault.UnknownSchema)) }
     ensures left { IfErr result (λ e. FailsToAttachFiles connection e.0 e.1) }
 {
-    taken(alloc, connection)
+    attach_and_convert(alloc, connection)
 }
 
 /// Creates a `RunsFile` over `store`, which lists the tables of schema 2. Fails with
@@ -249,7 +249,7 @@ fn attach_files_and_convert<D: Disk + Drop>(
 ///
 /// Separate for the prover: functions that depend on how a store over files is read are slow to
 /// prove.
-fn ours<S: Alter + Drop>(alloc: Global, mut store: S) -> Result<RunsFile<S>, (StoreFault, S)>
+fn wrap_schema_2<S: Alter>(alloc: Global, mut store: S) -> Result<RunsFile<S>, (StoreFault, S)>
     requires settled { (S.Store.view store).trees ≡ (S.Store.view store).committed }
     requires sound { IsTrue (S.Store.view store).is_open
         → IsSound schema_2 (S.Store.view store).committed }
@@ -264,7 +264,7 @@ fn ours<S: Alter + Drop>(alloc: Global, mut store: S) -> Result<RunsFile<S>, (St
     if let Err(fault) = checked {
         return Err((fault, store));
     }
-    match over(alloc, store) {
+    match wrap_store(alloc, store) {
         Ok(it) => Ok(it),
         Err((failure, store)) => Err((StoreFault::from(failure), store)),
     }
@@ -274,7 +274,7 @@ fn ours<S: Alter + Drop>(alloc: Global, mut store: S) -> Result<RunsFile<S>, (St
 /// files, which were only read, if they aren't recognized as such. Fails with `UnknownSchema` if
 /// the table `meta` has another schema number. On failure, returns the error with what is left of
 /// the files.
-pub(crate) fn known<D: Disk + Drop>(
+fn open_known_results<D: Disk + Drop>(
     alloc: Global,
     files: Files<D>,
     options: Options,
@@ -293,7 +293,7 @@ pub(crate) fn known<D: Disk + Drop>(
         Ok(Err(left)) => return Ok(Err(left)),
         Err((failure, left)) => return Err((StoreFault::from(failure), left)),
     };
-    match ours(alloc, store) {
+    match wrap_schema_2(alloc, store) {
         Ok(it) => Ok(Ok(it)),
         Err((fault, read)) => Err((fault, Leftover::Store(read))),
     }
@@ -315,7 +315,7 @@ fn open_results<D: Disk + Drop>(
     ensures left { IfErr result (λ e.
         FailsToOpen (outcomes D.Disk files.log files.db) (image_of D.Disk files) e.1 e.0) }
 {
-    let left = match known(alloc, files, options) {
+    let left = match open_known_results(alloc, files, options) {
         Ok(Ok(known)) => return Ok(known),
         Ok(Err(left)) => left,
         Err((fault, left)) => return Err((fault, left)),
@@ -494,7 +494,7 @@ impl<S: Alter> StoreSpec for RunsFile<S> {
 
 /// Commits the written rows, and returns the value of `written`. If `written` is an error, rolls the
 /// transaction back. A commit that fails rolls it back itself.
-fn committed<S: Alter, T: Drop>(
+fn end_transaction<S: Alter, T: Drop>(
     store: &mut S,
     written: Result<T, StoreFault>,
 ) -> Result<T, StoreFault>
@@ -514,17 +514,17 @@ fn committed<S: Alter, T: Drop>(
 impl<S: Alter> ResultStore for RunsFile<S> {
     fn begin(&mut self, total: u32, moment: u64) -> Result<u64, StoreFault> {
         let written = write_run(&mut self.store, self.alloc, &self.schema, total, moment);
-        committed(&mut self.store, written)
+        end_transaction(&mut self.store, written)
     }
 
     fn put(&mut self, run: u64, entry: &Entry) -> Result<(), StoreFault> {
         let written = write_entry(&mut self.store, self.alloc, &self.schema, run, entry);
-        committed(&mut self.store, written)
+        end_transaction(&mut self.store, written)
     }
 
     fn finish(&mut self, run: u64) -> Result<(), StoreFault> {
         let written = mark_run_finished(&mut self.store, self.alloc, &self.schema, run);
-        committed(&mut self.store, written)
+        end_transaction(&mut self.store, written)
     }
 
     fn head(&mut self, number: Option<u64>) -> Result<Option<RunHead>, StoreFault> {

@@ -83,7 +83,7 @@ pub(crate) fn copy_columns(
 }
 
 /// Copies the values in `columns` of a stored row into a row of a query result.
-pub(crate) fn shown(alloc: Global, row: &row::Row, columns: &[usize]) -> Result<Row, NoMemory>
+pub(crate) fn query_row(alloc: Global, row: &row::Row, columns: &[usize]) -> Result<Row, NoMemory>
     ensures { IfOk result (λ it. it ≡ selected_columns columns.now row.now) }
 {
     let values = copy_columns(alloc, row, columns)?;

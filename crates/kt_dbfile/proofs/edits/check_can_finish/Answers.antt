@@ -25,8 +25,8 @@ returns-then-branch-from-clause-refused g c runs has clean =
     let it = counted g (goal.at.returns-then-branch-from-clause-refused g c).In_ok-count_run_entries runs has clean in
     inr (lacks_some runs c.args.run it.0 it.1 (sym (ap (λ (h : RunHead). h.finished) it.3) ∙ c.if-head.false) it.4 _ it.5 (omega (arith, c.if-branch-from.true, c.from.ensures, ap (λ (h : RunHead). h.total) it.3)))
 
-pub returns-clause-taken : goal.returns-clause-taken
-returns-clause-taken g c runs has clean =
-    let it = counted g (goal.at.returns-clause-taken g c).In_ok-count_run_entries runs has clean in
+pub returns-clause-accepted : goal.returns-clause-accepted
+returns-clause-accepted g c runs has clean =
+    let it = counted g (goal.at.returns-clause-accepted g c).In_ok-count_run_entries runs has clean in
     let both = lacks_none runs c.args.run it.0 it.1 (sym (ap (λ (h : RunHead). h.finished) it.3) ∙ c.if-head.false) it.4 _ it.5 (omega (arith, c.if-branch-from.false, c.from.ensures, ap (λ (h : RunHead). h.total) it.3)) in
     (it.0, it.1, it.2, both.0, both.1)

@@ -29,7 +29,7 @@ returns-then-branch-clause-refused g c runs has clean =
     let it = looked g (goal.at.returns-then-branch-clause-refused g c).In_ok-has_entry_at runs has clean in
     inr (refused_repeated runs c.args.run c.args.entry.now it.0 it.1 (sym (ap (λ (h : RunHead). h.finished) it.2) ∙ c.if-head.false) (omega (arith, c.if-entry-head.false, ap (λ (h : RunHead). h.total) it.2)) (sym it.4 ∙ c.if-branch.true))
 
-pub returns-clause-taken : goal.returns-clause-taken
-returns-clause-taken g c runs has clean passed =
-    let it = looked g (goal.at.returns-clause-taken g c).In_ok-has_entry_at runs has clean in
+pub returns-clause-accepted : goal.returns-clause-accepted
+returns-clause-accepted g c runs has clean passed =
+    let it = looked g (goal.at.returns-clause-accepted g c).In_ok-has_entry_at runs has clean in
     taken runs c.args.run c.args.entry.now it.0 it.1 (sym (ap (λ (h : RunHead). h.finished) it.2) ∙ c.if-head.false) (omega (arith, c.if-entry-head.false, ap (λ (h : RunHead). h.total) it.2)) passed it.3 (sym it.4 ∙ c.if-branch.false)

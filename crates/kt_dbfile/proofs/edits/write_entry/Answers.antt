@@ -16,7 +16,7 @@ returns g c = record {
   obeys = c.in_ok-put_rows-2.ensures.obeys;
   agrees = λ runs has clean.
       let early : IsClean (g.S.Store.view c.check_can_put.new.store) = omega (arith, clean, c.put_rows.ensures.quiet.clean, c.put_rows-2.ensures.quiet.clean) in
-      (c.in_ok-check_can_put.ensures.taken runs has early c.in_ok-reason.ensures.passed).0;
+      (c.in_ok-check_can_put.ensures.accepted runs has early c.in_ok-reason.ensures.passed).0;
   rows = λ runs has clean.
       let mid : IsClean (g.S.Store.view c.put_rows.new.store) = omega (arith, clean, c.put_rows-2.ensures.quiet.clean) in
       let early : IsClean (g.S.Store.view c.check_can_put.new.store) = omega (arith, mid, c.put_rows.ensures.quiet.clean) in
@@ -35,5 +35,5 @@ returns g c = record {
         ),
       ) in
       entry_filled c.args.schema.now runs (g.S.Store.view c.args.store.now).trees _ (c.requires.sound was through.0) (c.in_ok-put_rows-2.ensures.obeys clean).sound (has was through.0) c.args.run c.args.entry.now
-      (c.in_ok-check_can_put.ensures.taken runs has early c.in_ok-reason.ensures.passed).1 fills;
+      (c.in_ok-check_can_put.ensures.accepted runs has early c.in_ok-reason.ensures.passed).1 fills;
 }

@@ -7,7 +7,7 @@ pub returns-in-Ok-attach_files_and_convert-clause-opened : goal.returns-in-Ok-at
 returns-in-Ok-attach_files_and_convert-clause-opened g c =
     let conn = c.in-Ok.connection in
     rw c.in-Ok-attach_files_and_convert.is at (found_of (image_of g.D.Disk c.args.files) conn c.attach_files_and_convert.result
-    (of_file c.args.files c.in-Ok-Err.left conn (rw c.in-Ok-Err.field-0-is at c.in-Ok-Err.ensures.back) c.in-Ok.ensures.opened) c.attach_files_and_convert.ensures.taken)
+    (of_file c.args.files c.in-Ok-Err.left conn (rw c.in-Ok-Err.field-0-is at c.in-Ok-Err.ensures.back) c.in-Ok.ensures.opened) c.attach_files_and_convert.ensures.attached)
 
 pub returns-in-Err-connect-clause-left : goal.returns-in-Err-connect-clause-left
 returns-in-Err-connect-clause-left g c =

@@ -1,7 +1,7 @@
 use Rattle.kt_dbfile.proofs.Common.{IsTrue, HasSchemaNumber, clean_if_open, image_of, inl, inr, pos, rules, shut_if_dirty_at, subst, sym, view, ◌∙◌}
 use Rattle.kt_dbfile.proofs.FailLemmas.{keeps_still, kept_by_reads, known_by_reads}
 use Rattle.kt_dbfile.proofs.OpeningLemmas.{opens_runs}
-use Rattle.kt_dbfile.proofs.runs_file.known.Goals as goal
+use Rattle.kt_dbfile.proofs.runs_file.open_known_results.Goals as goal
 
 pub returns-in-Ok-clause-found : goal.returns-in-Ok-clause-found
 returns-in-Ok-clause-found g c =
@@ -28,16 +28,16 @@ returns-in-Err-clause-left g c = record {
 }
 
 -- so does a store of schema 2
-pub returns-in-Err-ours-clause-left : goal.returns-in-Err-ours-clause-left
-returns-in-Err-ours-clause-left g c =
+pub returns-in-Err-wrap_schema_2-clause-left : goal.returns-in-Err-wrap_schema_2-clause-left
+returns-in-Err-wrap_schema_2-clause-left g c =
     let before = image_of g.D.Disk c.args.files in
     let over = c.in-Ok-Ok.ensures in
     let store = c.in-Ok-Ok.store in
-    let left = c.in-Err-ours.read in
-    let looks = c.in-Err-ours.ensures.left in
+    let left = c.in-Err-wrap_schema_2.read in
+    let looks = c.in-Err-wrap_schema_2.ensures.left in
     let opens = rw c.in-Ok-Ok.field-0-is at over.opens in
     let lists = rw c.in-Ok-Ok.field-0-is at over.lists in
     record {
       kept = λ honest after may. inr (kept_by_reads before store left looks opens lists (rw c.in-Ok-Ok.field-0-is at over.tested) honest after may);
-      known = λ honest. known_by_reads before store left looks opens lists c.in-Err-ours.fault (rw c.in-Ok-Ok.field-0-is at over.unbroken) c.in-Err-ours.ensures.unknown honest;
+      known = λ honest. known_by_reads before store left looks opens lists c.in-Err-wrap_schema_2.fault (rw c.in-Ok-Ok.field-0-is at over.unbroken) c.in-Err-wrap_schema_2.ensures.unknown honest;
     }

@@ -1,10 +1,10 @@
 use Rattle.kt_dbfile.proofs.Common.{HasCommitted, subst, sym}
 use Rattle.kt_dbfile.proofs.EndLemmas.{still_sound, still_stands}
 use Rattle.kt_dbfile.specs.Inner.Opening.{IsConvertedFrom}
-use Rattle.kt_dbfile.proofs.runs_file.converted.Goals as goal
+use Rattle.kt_dbfile.proofs.runs_file.convert_connection.Goals as goal
 
-pub over-requires-clause-sound : goal.over-requires-clause-sound
-over-requires-clause-sound g c opened = still_sound g.S.Store c.args.connection c.detach_store.result (g.met.S.Store.shut_if_dirty c.detach_store.result) c.lives.ensures c.detach_store.ensures.undone opened
+pub wrap_store-requires-clause-sound : goal.wrap_store-requires-clause-sound
+wrap_store-requires-clause-sound g c opened = still_sound g.S.Store c.args.connection c.detach_store.result (g.met.S.Store.shut_if_dirty c.detach_store.result) c.lives.ensures c.detach_store.ensures.undone opened
 
 pub returns-in-Ok-clause-stands : goal.returns-in-Ok-clause-stands
 returns-in-Ok-clause-stands g c runs has =

@@ -1,6 +1,6 @@
 use Rattle.kt_dbfile.proofs.Common.{clean_if_open}
 use Rattle.kt_dbfile.proofs.EndLemmas.{settled_by}
-use Rattle.kt_dbfile.proofs.runs_file.over.Goals as goal
+use Rattle.kt_dbfile.proofs.runs_file.wrap_store.Goals as goal
 
 pub invariant_of-result : goal.invariant_of-result
 invariant_of-result g c = record {
