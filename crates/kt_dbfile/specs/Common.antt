@@ -16,7 +16,7 @@ pub use Rattle.kt_store.specs.StoreCalls.{Began, Finished, Head, Outline, Output
 pub use Rattle.kt_store.specs.Tables.{schema_2}
 pub use Rattle.kt_store.specs.Types.{AllByRecursion, Blob, Entry, HasCleanDisk, Int, IsAscending, Run, column, greatest_run_number, state}
 pub use Rattle.kt_dbfile.specs.FailedOpen.{Contains, FailsToOpen, HoldsAsBefore, HoldsInSchema1, KeepsRuns, LeavesRuns, LeavesUnconnected}
-pub use Rattle.kt_dbfile.specs.Inner.Cursors.{CountsUnderKey, FindsFirstUnderKey, ends_with, key_before, is_blob, CursorReturns, KeepsLastCommit, IsLast, OnlyReadsStore, SelectsUnderKey, MovesCursorsIfOk, selected_columns}
+pub use Rattle.kt_dbfile.specs.Inner.Cursors.{CountsUnderKey, FindsFirstUnderKey, ends_with, key_before, is_blob, CursorReturns, KeepsLastCommit, IsLast, OnlyReadsStore, SelectsUnderKey, ReadsUnbrokenStore, selected_columns}
 pub use Rattle.kt_dbfile.specs.Inner.Edits.{EndsTransaction, ObeysSchema, PutsRows, WritesRows, row_without_rowid}
 pub use Rattle.kt_dbfile.specs.Inner.NewFiles.{IsUri}
 pub use Rattle.kt_dbfile.specs.Inner.Opening.{IsOnlyRead, CachesPages, IsAttached, IsAttachedFiles, IsConvertedFrom, FailsToAttach, FailsToAttachFiles, LeavesAsBefore, ListsRuns, RecoversAsBefore, HasOtherSchema}

@@ -1,7 +1,7 @@
 //! Writes runs and entries into the trees of a store, without a commit.
 
 ghost use Rattle.std.specs.Prelude.{◌≡◌, ◌⊎◌, ◌<◌, ◌≤◌, ◌^◌, map, suc, length, Some, None, false, IfOk, IfErr, OnOk};
-ghost use Rattle.kt_dbfile.specs.Common.{AllByRecursion, Began, CanAdd, Finished, HasNoReasonIfPassed, IsComplete, IsMoment, IsEncodableProperty, IsStorable, IsDatabaseFault, IsEncodable, OnlyReadsStore, MovesCursorsIfOk, HoldsForTrees, Put, Run, WritesRows, finished_run_row, entries_of, entry_row, finish_refusal, has_position, greatest_run_number, owned, pair_row, pair_rows_from, put_refusal, run_at, run_row, row_without_rowid};
+ghost use Rattle.kt_dbfile.specs.Common.{AllByRecursion, Began, CanAdd, Finished, HasNoReasonIfPassed, IsComplete, IsMoment, IsEncodableProperty, IsStorable, IsDatabaseFault, IsEncodable, ReadsUnbrokenStore, HoldsForTrees, Put, Run, WritesRows, finished_run_row, entries_of, entry_row, finish_refusal, has_position, greatest_run_number, owned, pair_row, pair_rows_from, put_refusal, run_at, run_row, row_without_rowid};
 ghost use Rattle.sqlite_trees.specs.View.{IsClean};
 ghost use Rattle.sqlite_catalog.specs.Listing.{IsSound};
 
@@ -129,8 +129,7 @@ fn find_next_number<S: Alter>(store: &mut S, alloc: Global) -> Result<u64, Store
     ensures refused { HoldsForTrees S.Store store.old store.new (λ runs.
         IfErr result (λ e. IsDatabaseFault e ⊎ ((e ≡ StoreFault.StoreFull)
         × (greatest_run_number ≤ length runs)))) }
-    ensures through { MovesCursorsIfOk S.Store store.old store.new result }
-    ensures looks { OnlyReadsStore S.Store store.old store.new }
+    ensures looks { ReadsUnbrokenStore S.Store store.old store.new result }
 {
     let last = read_last_number(store, alloc)?;
     check_last_run(store, alloc, last)?;
@@ -186,8 +185,7 @@ fn has_entry_at<S: Store>(
 ) -> Result<bool, DatabaseError>
     ensures found { HoldsForTrees S.Store store.old store.new (λ runs.
         IfOk result (λ b. b ≡ has_position position (entries_of (run_at runs run)))) }
-    ensures through { MovesCursorsIfOk S.Store store.old store.new result }
-    ensures looks { OnlyReadsStore S.Store store.old store.new }
+    ensures looks { ReadsUnbrokenStore S.Store store.old store.new result }
 {
     let place = create_entry_key(alloc, run, position)?;
     let count = count_under_key(store, alloc, &entry_table(), &place)?;
@@ -208,8 +206,7 @@ fn check_can_put<S: Alter>(
     ensures accepted { HoldsForTrees S.Store store.old store.new (λ runs.
         OnOk result (HasNoReasonIfPassed entry.now → (put_refusal runs run entry.now ≡ None)
         × CanAdd run entry.now runs)) }
-    ensures through { MovesCursorsIfOk S.Store store.old store.new result }
-    ensures looks { OnlyReadsStore S.Store store.old store.new }
+    ensures looks { ReadsUnbrokenStore S.Store store.old store.new result }
 {
     let head = find_run_head(store, alloc, run)?;
     if head.finished {
@@ -285,8 +282,7 @@ fn create_finished_row(alloc: Global, row: &Row) -> Result<Row, NoMemory>
 fn count_run_entries<S: Store>(store: &mut S, alloc: Global, run: u32) -> Result<u64, DatabaseError>
     ensures count { HoldsForTrees S.Store store.old store.new (λ runs.
         IfOk result (λ n. n ≡ length (entries_of (run_at runs run)))) }
-    ensures through { MovesCursorsIfOk S.Store store.old store.new result }
-    ensures looks { OnlyReadsStore S.Store store.old store.new }
+    ensures looks { ReadsUnbrokenStore S.Store store.old store.new result }
 {
     let place = create_number_key(alloc, run)?;
     let count = count_under_key(store, alloc, &entry_table(), &place)?;
@@ -302,8 +298,7 @@ fn check_can_finish<S: Alter>(store: &mut S, alloc: Global, run: u64) -> Result<
     ensures accepted { HoldsForTrees S.Store store.old store.new (λ runs.
         IfOk result (λ row. (r : Run) × (run_at runs run ≡ Some r) × (row ≡ run_row r)
         × (finish_refusal runs run ≡ None) × IsComplete run runs)) }
-    ensures through { MovesCursorsIfOk S.Store store.old store.new result }
-    ensures looks { OnlyReadsStore S.Store store.old store.new }
+    ensures looks { ReadsUnbrokenStore S.Store store.old store.new result }
 {
     let row = find_run_row(store, alloc, run)?;
     let head = head_from_stored_row(alloc, &row)?;

@@ -5,7 +5,7 @@
 //! hides a result. The cost of the checks hardly grows with the size of the file.
 
 ghost use Rattle.std.specs.Prelude.{◌≡◌, ◌<◌, ◌≤◌, [], ◌∷◌, Some, length, map, option_map, true, IfOk};
-ghost use Rattle.kt_dbfile.specs.Common.{AllByRecursion, Entry as Stored, IsAscending, OnlyReadsStore, MovesCursorsIfOk, HoldsForTrees, Run, ends_with, head_of, greatest_run_number, outline_entry, run_at};
+ghost use Rattle.kt_dbfile.specs.Common.{AllByRecursion, Entry as Stored, IsAscending, OnlyReadsStore, ReadsUnbrokenStore, HoldsForTrees, Run, ends_with, head_of, greatest_run_number, outline_entry, run_at};
 ghost use Rattle.kt_store.specs.Runs.{IsValidRun};
 
 use crate::tables::{
@@ -101,8 +101,7 @@ fn is_possible_last_key(alloc: Global, end: &Row, last: RunHead) -> Result<bool,
 /// Returns `true` if the entry of a property exists, or if there is no property. `pair` has the run
 /// and the position of the entry, or two NULLs if there is no property.
 fn has_entry<S: Store>(store: &mut S, alloc: Global, pair: &Row) -> Result<bool, DatabaseError>
-    ensures through { MovesCursorsIfOk S.Store store.old store.new result }
-    ensures looks { OnlyReadsStore S.Store store.old store.new }
+    ensures looks { ReadsUnbrokenStore S.Store store.old store.new result }
 {
     let count = count_under_key(store, alloc, &entry_table(), pair)?;
     Ok(count == 1 || matches!(pair.get(0), ValueRef::Null))
@@ -124,8 +123,7 @@ fn check_last_entry<S: Store>(
 /// Checks that the index of properties has the last row of its table, and that the entry of the
 /// last key of the index exists.
 fn check_last_property<S: Store>(store: &mut S, alloc: Global) -> Result<(), DatabaseError>
-    ensures through { MovesCursorsIfOk S.Store store.old store.new result }
-    ensures looks { OnlyReadsStore S.Store store.old store.new }
+    ensures looks { ReadsUnbrokenStore S.Store store.old store.new result }
 {
     let pair = read_last_key(store, alloc, &property_table())?;
     ensure_sound(has_entry(store, alloc, &pair)?)
@@ -139,8 +137,7 @@ pub(crate) fn check_last_rows<S: Store>(
     alloc: Global,
     last: RunHead,
 ) -> Result<(), DatabaseError>
-    ensures through { MovesCursorsIfOk S.Store store.old store.new result }
-    ensures looks { OnlyReadsStore S.Store store.old store.new }
+    ensures looks { ReadsUnbrokenStore S.Store store.old store.new result }
 {
     check_last_entry(store, alloc, last)?;
     check_last_property(store, alloc)
@@ -189,8 +186,7 @@ pub(crate) fn check_last_run<S: Store>(
     alloc: Global,
     last: u64,
 ) -> Result<(), DatabaseError>
-    ensures through { MovesCursorsIfOk S.Store store.old store.new result }
-    ensures looks { OnlyReadsStore S.Store store.old store.new }
+    ensures looks { ReadsUnbrokenStore S.Store store.old store.new result }
 {
     let head = read_last_head(store, alloc, last)?;
     check_last_rows(store, alloc, head)

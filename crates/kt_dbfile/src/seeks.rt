@@ -1,5 +1,5 @@
 ghost use Rattle.std.specs.Prelude.{◌≡◌, ◌⊎◌, ◌<◌, ◌≤◌, ◌^◌, ℕ, Some, None, drop, length, map, IfOk, IfErr, IfSome, OnOk};
-ghost use Rattle.kt_dbfile.specs.Common.{IsNumbered, HoldsForTrees, IsDatabaseFault, OnlyReadsStore, MovesCursorsIfOk, Run, AreValidRuns, Blob, Entry, column, entry_row, key_before, greatest_run_number, outputs_of, run_row, head_of, Serves, Head, Outline, Outputs, Pairs, entries_of, outline_entry, run_at, map_success};
+ghost use Rattle.kt_dbfile.specs.Common.{IsNumbered, HoldsForTrees, IsDatabaseFault, OnlyReadsStore, ReadsUnbrokenStore, Run, AreValidRuns, Blob, Entry, column, entry_row, key_before, greatest_run_number, outputs_of, run_row, head_of, Serves, Head, Outline, Outputs, Pairs, entries_of, outline_entry, run_at, map_success};
 ghost use Rattle.kt_dbfile.specs.Inner.Known.{read_only_spec};
 
 use crate::ends::{check_entries, check_last_run, require_head};
@@ -22,8 +22,7 @@ use std::alloc::Global;
 pub(crate) fn read_last_number<S: Store>(store: &mut S, alloc: Global) -> Result<u64, DatabaseError>
     ensures last { HoldsForTrees S.Store store.old store.new (λ runs.
         IfOk result (λ n. n ≡ length runs)) }
-    ensures through { MovesCursorsIfOk S.Store store.old store.new result }
-    ensures looks { OnlyReadsStore S.Store store.old store.new }
+    ensures looks { ReadsUnbrokenStore S.Store store.old store.new result }
 {
     let Some(row) = read_last_row(store, alloc, RUNS_TREE)? else {
         return Ok(0);
@@ -69,8 +68,7 @@ pub(crate) fn find_run_row<S: Store>(
     ensures refused { HoldsForTrees S.Store store.old store.new (λ runs.
         IfErr result (λ e. IsDatabaseFault e ⊎ ((e ≡ StoreFault.NoRun)
         × (run_at runs run ≡ None)))) }
-    ensures through { MovesCursorsIfOk S.Store store.old store.new result }
-    ensures looks { OnlyReadsStore S.Store store.old store.new }
+    ensures looks { ReadsUnbrokenStore S.Store store.old store.new result }
 {
     let number = key(run);
     ensure_sound(store.shape(RUNS_TREE) == Shape::Table)?;
@@ -94,8 +92,7 @@ pub(crate) fn find_run_head<S: Store>(
     ensures refused { HoldsForTrees S.Store store.old store.new (λ runs.
         IfErr result (λ e. IsDatabaseFault e ⊎ ((e ≡ StoreFault.NoRun)
         × (run_at runs run ≡ None)))) }
-    ensures through { MovesCursorsIfOk S.Store store.old store.new result }
-    ensures looks { OnlyReadsStore S.Store store.old store.new }
+    ensures looks { ReadsUnbrokenStore S.Store store.old store.new result }
 {
     let row = find_run_row(store, alloc, run)?;
     let head = head_from_stored_row(alloc, &row)?;

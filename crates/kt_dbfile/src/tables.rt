@@ -1,5 +1,5 @@
 ghost use Rattle.std.specs.Prelude.{◌≡◌, [], ◌∷◌, pos, IfOk};
-ghost use Rattle.kt_dbfile.specs.Common.{Int, IsLast, OnlyReadsStore, MovesCursorsIfOk, Run, head_of, run_row};
+ghost use Rattle.kt_dbfile.specs.Common.{Int, IsLast, ReadsUnbrokenStore, Run, head_of, run_row};
 ghost use Rattle.sqlite_trees.specs.View.{IsClean};
 
 use crate::trees::{TreeTable, create_number_key, query_row};
@@ -71,8 +71,7 @@ pub(crate) fn read_last_row<S: Store>(
 ) -> Result<Option<Row>, DatabaseError>
     ensures last { IfOk result (λ found. IsClean (S.Store.view store.new)
         → IsLast ((S.Store.view store.old).trees tree) found) }
-    ensures through { MovesCursorsIfOk S.Store store.old store.new result }
-    ensures looks { OnlyReadsStore S.Store store.old store.new }
+    ensures looks { ReadsUnbrokenStore S.Store store.old store.new result }
 {
     ensure_sound(store.shape(tree) == Shape::Table)?;
     let mut row = Row::new(alloc);

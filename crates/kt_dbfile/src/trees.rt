@@ -1,6 +1,6 @@
 ghost use Rattle.std.specs.Prelude.{◌≡◌, ◌++◌, ◌<◌, ℕ, ℤ, pos, List, [], ◌∷◌, map, length, false, Some, IsSome, IsTrue, IfOk, OnOk};
 ghost use Rattle.std.specs.List.{list_all};
-ghost use Rattle.kt_dbfile.specs.Common.{Blob, column, Int, AreWide, FindsFirstUnderKey, CursorReturns, OnlyReadsStore, MovesCursorsIfOk, SelectsUnderKey, CountsUnderKey, is_blob, selected_columns};
+ghost use Rattle.kt_dbfile.specs.Common.{Blob, column, Int, AreWide, FindsFirstUnderKey, CursorReturns, OnlyReadsStore, ReadsUnbrokenStore, SelectsUnderKey, CountsUnderKey, is_blob, selected_columns};
 ghost use Rattle.sqlite_exec.specs.Calls.{OnlyReads};
 ghost use Rattle.sqlite_exec.specs.Loops.{left_of};
 ghost use Rattle.sqlite_trees.specs.Tree.{rowid};
@@ -268,8 +268,7 @@ pub(crate) fn count_under_key<S: Store>(
     ensures counted { IfOk result (λ n. IsClean (S.Store.view store.new)
         → CountsUnderKey table.now.tree table.now.index key.now
         (S.Store.view store.old).trees n) }
-    ensures through { MovesCursorsIfOk S.Store store.old store.new result }
-    ensures looks { OnlyReadsStore S.Store store.old store.new }
+    ensures looks { ReadsUnbrokenStore S.Store store.old store.new result }
 {
     ensure_sound(have_shapes(store, table))?;
     store.seek(0, table.index, key, Direction::Forward)?;

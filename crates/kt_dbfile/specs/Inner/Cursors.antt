@@ -101,12 +101,6 @@ IsLast rows (Some row) = (front : List Row) × (rows ≡ front ++ row ∷ [])
 abbrev pub OnlyMovesCursors : View → View → Type 0
 OnlyMovesCursors old new = (old.is_broken ≡ false) × (new ≡ record old { cursors = new.cursors })
 
--- `MovesCursorsIfOk g old new result`: `old` and `new` are a store before and after a call that
--- returned `result`. If the call succeeded, it changed only cursors (`OnlyMovesCursors`). Nothing
--- is stated if the disk has returned wrong data. `g` is the specification of the store.
-abbrev pub MovesCursorsIfOk : {S T E : Type 0} → Ghosts S → S → S → Result T E → Type 0
-MovesCursorsIfOk g old new result = IsClean (g.view new) → OnOk result (OnlyMovesCursors (g.view old) (g.view new))
-
 -- `KeepsLastCommit old new`: `old` and `new` are the views of a store before and after a call. If `new`
 -- is open, so is `old`, and both have the same last commit. The trees are then numbered in both or
 -- in neither.
@@ -122,3 +116,9 @@ pub record OnlyReadsStore {S : Type 0} (g : Ghosts S) (old new : S) : Type 0 whe
   pub same : IsClean (g.view new) → (g.view new).is_broken ≡ false → g.view new ≡ record (g.view old) { cursors = (g.view new).cursors }
   pub held : IsClean (g.view new) → KeepsLastCommit (g.view old) (g.view new)
   pub outcomes : (db : Trees) → g.recovers new db → g.recovers old db
+
+-- `ReadsUnbrokenStore g old new result`: `old` and `new` are a store before and after a call that
+-- only read it, and returned `result`. On success, the transaction of `old` was not broken, and only
+-- cursors moved, unless the disk has returned wrong data. `g` is the specification of the store.
+abbrev pub ReadsUnbrokenStore : {S T E : Type 0} → Ghosts S → S → S → Result T E → Type 0
+ReadsUnbrokenStore g old new result = OnlyReadsStore g old new × (IsClean (g.view new) → OnOk result (OnlyMovesCursors (g.view old) (g.view new)))

@@ -16,8 +16,8 @@ counted : (g : Over) (c : In_ok-count_run_entries g) (runs : List Run) → HasRu
     → (r : Run) × (run_at runs c.args.run ≡ Some r) × (c.in_ok-row.row ≡ run_row r) × (c.in_ok-head.head ≡ head_of r) × AreValidRuns runs
     × (c.in_ok-count_run_entries.field-0 ≡ length (entries_of (run_at runs c.args.run)))
 counted g c runs has clean =
-    let it = c.in_ok-row.ensures.found runs has (c.count_run_entries.ensures.looks.clean clean) in
-    let many = c.in_ok-count_run_entries.ensures.count runs (still_has g.S.Store _ _ c.find_run_row.ensures.looks runs has) clean in
+    let it = c.in_ok-row.ensures.found runs has (c.count_run_entries.ensures.looks.0.clean clean) in
+    let many = c.in_ok-count_run_entries.ensures.count runs (still_has g.S.Store _ _ c.find_run_row.ensures.looks.0 runs has) clean in
     (it.0, it.1, it.2, c.in_ok-head.ensures.head it.0 it.2, it.3, rw (c.key.ensures.same c.in_ok-row.ensures.small) at many)
 
 pub returns-then-branch-from-clause-refused : goal.returns-then-branch-from-clause-refused

@@ -5,15 +5,15 @@ use Rattle.kt_dbfile.proofs.edits.mark_run_finished.Goals as goal
 
 pub returns : goal.returns
 returns g c = record {
-  clean = λ clean. c.check_can_finish.ensures.looks.clean (omega (arith, clean, c.put_rows.ensures.quiet.clean));
-  held = λ clean. held_then (g.S.Store.view c.args.store.now) (g.S.Store.view c.check_can_finish.new.store) (g.S.Store.view c.put_rows.new.store) (c.check_can_finish.ensures.looks.held (omega (arith, clean, c.put_rows.ensures.quiet.clean))) (c.put_rows.ensures.held clean);
-  outcomes = λ db found. c.check_can_finish.ensures.looks.outcomes db (c.put_rows.ensures.quiet.outcomes db found);
+  clean = λ clean. c.check_can_finish.ensures.looks.0.clean (omega (arith, clean, c.put_rows.ensures.quiet.clean));
+  held = λ clean. held_then (g.S.Store.view c.args.store.now) (g.S.Store.view c.check_can_finish.new.store) (g.S.Store.view c.put_rows.new.store) (c.check_can_finish.ensures.looks.0.held (omega (arith, clean, c.put_rows.ensures.quiet.clean))) (c.put_rows.ensures.held clean);
+  outcomes = λ db found. c.check_can_finish.ensures.looks.0.outcomes db (c.put_rows.ensures.quiet.outcomes db found);
   obeys = c.in_ok-put_rows.ensures.obeys;
   agrees = λ runs has clean. (c.in_ok-row.ensures.accepted runs has (omega (arith, clean, c.put_rows.ensures.quiet.clean))).3;
   rows = λ runs has clean.
       let early : IsClean (g.S.Store.view c.check_can_finish.new.store) = omega (arith, clean, c.put_rows.ensures.quiet.clean) in
-      let through = c.in_ok-row.ensures.through early in
-      let was = c.check_can_finish.ensures.looks.clean early in
+      let through = c.in_ok-row.ensures.looks.1 early in
+      let was = c.check_can_finish.ensures.looks.0.clean early in
       let trees = ap (λ (v : View). v.trees) through.1 in
       let taken = c.in_ok-row.ensures.accepted runs has early in
       let r = taken.0 in

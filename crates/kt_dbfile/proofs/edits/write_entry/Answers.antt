@@ -5,14 +5,14 @@ use Rattle.kt_dbfile.proofs.edits.write_entry.Goals as goal
 
 pub returns : goal.returns
 returns g c = record {
-  clean = λ clean. c.check_can_put.ensures.looks.clean (omega (arith, clean, c.put_rows.ensures.quiet.clean, c.put_rows-2.ensures.quiet.clean));
+  clean = λ clean. c.check_can_put.ensures.looks.0.clean (omega (arith, clean, c.put_rows.ensures.quiet.clean, c.put_rows-2.ensures.quiet.clean));
   held = λ clean.
       let mid : IsClean (g.S.Store.view c.put_rows.new.store) = omega (arith, clean, c.put_rows-2.ensures.quiet.clean) in
       let first = g.S.Store.view c.args.store.now in
       let at = g.S.Store.view c.put_rows.new.store in
       held_then first at (g.S.Store.view c.put_rows-2.new.store)
-      (held_then first (g.S.Store.view c.check_can_put.new.store) at (c.check_can_put.ensures.looks.held (omega (arith, mid, c.put_rows.ensures.quiet.clean))) (c.put_rows.ensures.held mid)) (c.put_rows-2.ensures.held clean);
-  outcomes = λ db found. c.check_can_put.ensures.looks.outcomes db (c.put_rows.ensures.quiet.outcomes db (c.put_rows-2.ensures.quiet.outcomes db found));
+      (held_then first (g.S.Store.view c.check_can_put.new.store) at (c.check_can_put.ensures.looks.0.held (omega (arith, mid, c.put_rows.ensures.quiet.clean))) (c.put_rows.ensures.held mid)) (c.put_rows-2.ensures.held clean);
+  outcomes = λ db found. c.check_can_put.ensures.looks.0.outcomes db (c.put_rows.ensures.quiet.outcomes db (c.put_rows-2.ensures.quiet.outcomes db found));
   obeys = c.in_ok-put_rows-2.ensures.obeys;
   agrees = λ runs has clean.
       let early : IsClean (g.S.Store.view c.check_can_put.new.store) = omega (arith, clean, c.put_rows.ensures.quiet.clean, c.put_rows-2.ensures.quiet.clean) in
@@ -20,8 +20,8 @@ returns g c = record {
   rows = λ runs has clean.
       let mid : IsClean (g.S.Store.view c.put_rows.new.store) = omega (arith, clean, c.put_rows-2.ensures.quiet.clean) in
       let early : IsClean (g.S.Store.view c.check_can_put.new.store) = omega (arith, mid, c.put_rows.ensures.quiet.clean) in
-      let through = c.in_ok-check_can_put.ensures.through early in
-      let was = c.check_can_put.ensures.looks.clean early in
+      let through = c.in_ok-check_can_put.ensures.looks.1 early in
+      let was = c.check_can_put.ensures.looks.0.clean early in
       let trees = ap (λ (v : View). v.trees) through.1 in
       let number = c.key-number.ensures.same c.in_ok-check_can_put.ensures.small in
       let texts = c.in_ok-row.ensures.texts in

@@ -5,15 +5,15 @@ use Rattle.kt_dbfile.proofs.edits.write_run.Goals as goal
 
 pub returns : goal.returns
 returns g c = record {
-  clean = λ clean. c.find_next_number.ensures.looks.clean (omega (arith, clean, c.put_rows.ensures.quiet.clean));
-  held = λ clean. held_then (g.S.Store.view c.args.store.now) (g.S.Store.view c.find_next_number.new.store) (g.S.Store.view c.put_rows.new.store) (c.find_next_number.ensures.looks.held (omega (arith, clean, c.put_rows.ensures.quiet.clean))) (c.put_rows.ensures.held clean);
-  outcomes = λ db found. c.find_next_number.ensures.looks.outcomes db (c.put_rows.ensures.quiet.outcomes db found);
+  clean = λ clean. c.find_next_number.ensures.looks.0.clean (omega (arith, clean, c.put_rows.ensures.quiet.clean));
+  held = λ clean. held_then (g.S.Store.view c.args.store.now) (g.S.Store.view c.find_next_number.new.store) (g.S.Store.view c.put_rows.new.store) (c.find_next_number.ensures.looks.0.held (omega (arith, clean, c.put_rows.ensures.quiet.clean))) (c.put_rows.ensures.held clean);
+  outcomes = λ db found. c.find_next_number.ensures.looks.0.outcomes db (c.put_rows.ensures.quiet.outcomes db found);
   obeys = c.in_ok-put_rows.ensures.obeys;
   agrees = search rules;
   rows = λ runs has clean.
       let early : IsClean (g.S.Store.view c.find_next_number.new.store) = omega (arith, clean, c.put_rows.ensures.quiet.clean) in
-      let through = c.in_ok-number.ensures.through early in
-      let was = c.find_next_number.ensures.looks.clean early in
+      let through = c.in_ok-number.ensures.looks.1 early in
+      let was = c.find_next_number.ensures.looks.0.clean early in
       let trees = ap (λ (v : View). v.trees) through.1 in
       let keeps = has was through.0 in
       let sound = c.requires.sound was through.0 in

@@ -9,8 +9,8 @@ use Rattle.kt_dbfile.proofs.seeks.read_last_number.Goals as goal
 rows_are : (g : Over) (c : In_ok-row g) (runs : List Run) → HasRuns (g.S.Store.view c.args.store.now) runs → IsClean (g.S.Store.view c.read_last_row.new.store)
     → AreNumbered 1 runs × ((g.S.Store.view c.args.store.now).trees 2 ≡ map run_row runs)
 rows_are g c runs has clean =
-    let first = c.read_last_row.ensures.looks.clean clean in
-    let sound = (c.in_ok-row.ensures.through clean).0 in
+    let first = c.read_last_row.ensures.looks.0.clean clean in
+    let sound = (c.in_ok-row.ensures.looks.1 clean).0 in
     let keeps = has first sound in
     (keeps.3.valid.numbered, rows_of_runs runs _ keeps)
 

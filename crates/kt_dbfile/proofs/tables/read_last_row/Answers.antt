@@ -25,8 +25,8 @@ returns-clause-last g c clean =
     let it = sought_last g (goal.at.returns-clause-last g c).In_ok-next clean in
     sought_one (g.S.Store.view c.args.store.now) (g.S.Store.view c.seek.new.self) (g.S.Store.view c.next.new.self) ((g.S.Store.view c.args.store.now).trees c.args.tree) c.next.new.row it.0 (rw c.if-not-branch.false at (c.in_ok-next.ensures.ok clean))
 
-pub returns-then-not-branch-clause-through : goal.returns-then-not-branch-clause-through
-returns-then-not-branch-clause-through g c clean = (sought_last g (goal.at.returns-then-not-branch-clause-through g c).In_ok-next clean).1
+pub returns-then-not-branch-clause-looks : goal.returns-then-not-branch-clause-looks
+returns-then-not-branch-clause-looks g c = (search rules, λ clean. (sought_last g (goal.at.returns-then-not-branch-clause-looks g c).In_ok-next clean).1)
 
-pub returns-clause-through : goal.returns-clause-through
-returns-clause-through g c clean = (sought_last g (goal.at.returns-clause-through g c).In_ok-next clean).1
+pub returns-clause-looks : goal.returns-clause-looks
+returns-clause-looks g c = (search rules, λ clean. (sought_last g (goal.at.returns-clause-looks g c).In_ok-next clean).1)
