@@ -2,7 +2,7 @@ ghost use Rattle.std.specs.Prelude.{◌≡◌, [], ◌∷◌, pos, IfOk};
 ghost use Rattle.kt_dbfile.specs.Common.{Int, IsLast, ReadsUnbrokenStore, Run, head_of, run_row};
 ghost use Rattle.sqlite_trees.specs.View.{IsClean};
 
-use crate::trees::{TreeTable, create_number_key, query_row};
+use crate::trees::{TreeTable, create_number_key, select_columns};
 use kt_base::NoMemory;
 use kt_store::RunHead;
 use kt_store::heads::head_from_row;
@@ -87,6 +87,6 @@ pub(crate) fn read_last_row<S: Store>(
 pub(crate) fn head_from_stored_row(alloc: Global, row: &Row) -> Result<RunHead, DatabaseError>
     ensures head { (r : Run) → row.now ≡ run_row r → IfOk result (λ h. h ≡ head_of r) }
 {
-    let shown = query_row(alloc, row, &[0, 2, 3, 4])?;
+    let shown = select_columns(alloc, row, &[0, 2, 3, 4])?;
     head_from_row(&shown)
 }

@@ -82,27 +82,19 @@ pub(crate) fn copy_columns(
     Ok(values)
 }
 
-/// Copies the values in `columns` of a stored row into a row of a query result.
-pub(crate) fn query_row(alloc: Global, row: &row::Row, columns: &[usize]) -> Result<Row, NoMemory>
-    ensures { IfOk result (λ it. it ≡ selected_columns columns.now row.now) }
-{
-    let values = copy_columns(alloc, row, columns)?;
-    let row = Row::from_row(alloc, &values)?;
-    Ok(row)
-}
-
-/// Appends the values in `columns` of a stored row to `found`, as one element.
-fn push_columns<T: FromRow>(
+/// Copies the values in `columns` of a stored row into a value of type `T`, in the order of
+/// `columns`.
+pub(crate) fn select_columns<T: FromRow>(
     alloc: Global,
     row: &row::Row,
     columns: &[usize],
-    found: &mut Vec<T>,
-) -> Result<(), NoMemory>
-    ensures { OnOk result (found.new.items ≡ found.old.items
-        ++ T.FromRow.from_row_gives (selected_columns columns.now row.now) ∷ []) }
+) -> Result<T, NoMemory>
+    ensures { IfOk result (λ it. it
+        ≡ T.FromRow.from_row_gives (selected_columns columns.now row.now)) }
 {
     let values = copy_columns(alloc, row, columns)?;
-    add(found, T::from_row(alloc, &values)?)
+    let it = T::from_row(alloc, &values)?;
+    Ok(it)
 }
 
 /// Returns the rowid at the end of the index entry `place`, or `None` if the entry doesn't end in
@@ -226,7 +218,8 @@ fn read_rows_by_key<S: Store>(
         if !read_next_row(store, alloc, table, key, &mut place, &mut row)? {
             return Ok(rows);
         }
-        push_columns(alloc, &row, columns, &mut rows)?;
+        let selected = select_columns(alloc, &row, columns)?;
+        add(&mut rows, selected)?;
     }
     Err(DATABASE_FAILURE)
 }
@@ -296,7 +289,8 @@ pub(crate) fn copy_all_columns<T: FromRow>(
 {
     let mut found = Vec::new(alloc);
     for row in rows {
-        push_columns(alloc, row, columns, &mut found)?;
+        let selected = select_columns(alloc, row, columns)?;
+        add(&mut found, selected)?;
     }
     Ok(found)
 }

@@ -15,8 +15,11 @@ returns-in_err-read_next_row-clause-looks g c = only_looks g (goal.at.returns-in
 pub returns-then-not-branch-clause-looks : goal.returns-then-not-branch-clause-looks
 returns-then-not-branch-clause-looks g c = only_looks g (goal.at.returns-then-not-branch-clause-looks g c).After-read_next_row
 
-pub returns-in_err-push_columns-clause-looks : goal.returns-in_err-push_columns-clause-looks
-returns-in_err-push_columns-clause-looks g c = only_looks g (goal.at.returns-in_err-push_columns-clause-looks g c).After-read_next_row
+pub returns-in_err-selected-clause-looks : goal.returns-in_err-selected-clause-looks
+returns-in_err-selected-clause-looks g c = only_looks g (goal.at.returns-in_err-selected-clause-looks g c).After-read_next_row
+
+pub returns-in_err-add-clause-looks : goal.returns-in_err-add-clause-looks
+returns-in_err-add-clause-looks g c = only_looks g (goal.at.returns-in_err-add-clause-looks g c).After-read_next_row
 
 pub returns-then-not-branch-clause-all : goal.returns-then-not-branch-clause-all
 returns-then-not-branch-clause-all g c clean cs mine has =
@@ -38,8 +41,8 @@ places-preserved g c = (
       let trees = ap (λ (v : View). v.trees) (c.places.invariant.1 early) in
       let reads = λ (front : Row) (id : ℤ) (is : c.read_next_row.new.place ≡ front ++ Int id ∷ []). subst (λ (t : Trees). filter (has_rowid id) (t c.args.table.now.tree) ≡ c.read_next_row.new.row ∷ []) trees (goes.2 front id is) in
       let stepped = lemma.halfway_step c.args.columns.now cs c.args.key.now mine _ _ p c.read_next_row.new.place c.read_next_row.new.row _ goes.1 reads _ c.places.rows.items (c.places.invariant.3 early cs mine p) goes.0 in
-      rw c.in_ok-push_columns.ensures stepped,
-  rw c.in_ok-push_columns.ensures (all-append _ c.places.rows.items _ c.places.invariant.4 (omega (arith, length-map c.args.columns.now (column c.read_next_row.new.row)), tt)),
+      rw (c.in_ok-add.ensures.added, c.in_ok-selected.ensures) stepped,
+  rw (c.in_ok-add.ensures.added, c.in_ok-selected.ensures) (all-append _ c.places.rows.items _ c.places.invariant.4 (omega (arith, length-map c.args.columns.now (column c.read_next_row.new.row)), tt)),
   search rules,
   search rules,
 )
