@@ -4,7 +4,7 @@
 //! must have the last rows, and a run must have its entries. A lost or outdated page then seldom
 //! hides a result. The cost of the checks hardly grows with the size of the file.
 
-ghost use Rattle.std.specs.Prelude.{◌≡◌, ◌<◌, ◌≤◌, [], ◌∷◌, Some, length, map, option_map, true, IfOk};
+ghost use Rattle.std.specs.Prelude.{◌≡◌, ◌<◌, ◌≤◌, Some, length, map, option_map, true, IfOk};
 ghost use Rattle.kt_dbfile.specs.Common.{AllByRecursion, Entry as Stored, IsAscending, OnlyReadsStore, ReadsUnbrokenStore, HoldsForTrees, Run, ends_with, head_of, greatest_run_number, outline_entry, run_at};
 ghost use Rattle.kt_store.specs.Runs.{IsValidRun};
 

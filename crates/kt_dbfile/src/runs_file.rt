@@ -1,4 +1,4 @@
-ghost use Rattle.std.specs.Prelude.{◌≡◌, ◌⊎◌, codes, pos, true, false, IsTrue, IfErr, IfOk, IfSome, OnErr, OnOk, Err, Ok, List};
+ghost use Rattle.std.specs.Prelude.{◌≡◌, ◌⊎◌, codes, pos, true, false, IsTrue, IfErr, IfOk, IfSome, OnOk, Err, Ok, List};
 ghost use Rattle.kt_dbfile.specs.Common.{EndsTransaction, FailsToAttach, FailsToAttachFiles, FailsToOpen, Finds, HasCommitted, HasOtherSchema, IsConvertedFrom, IsOnlyRead, IsDatabaseFault, IsAttached, IsAttachedFiles, IsUri, LeavesRuns, OnlyReadsStore, Run, StandsFor, schema_2, state};
 ghost use Rattle.kt_store.specs.Runs.{HasSchemaNumber};
 ghost use Rattle.kt_store.specs.TrustedContents.{IsTrustedImage};

@@ -1,5 +1,5 @@
-ghost use Rattle.std.specs.Prelude.{◌≡◌, ◌⊎◌, ◌<◌, ◌≤◌, ◌^◌, ℕ, Some, None, drop, length, map, IfOk, IfErr, IfSome, OnOk};
-ghost use Rattle.kt_dbfile.specs.Common.{IsNumbered, HoldsForTrees, IsDatabaseFault, OnlyReadsStore, ReadsUnbrokenStore, Run, AreValidRuns, Blob, Entry, column, entry_row, key_before, greatest_run_number, outputs_of, run_row, head_of, Serves, Head, Outline, Outputs, Pairs, entries_of, outline_entry, run_at, map_success};
+ghost use Rattle.std.specs.Prelude.{◌≡◌, ◌⊎◌, ◌<◌, ◌≤◌, ℕ, Some, None, drop, length, map, IfOk, IfErr, IfSome, OnOk};
+ghost use Rattle.kt_dbfile.specs.Common.{IsNumbered, HoldsForTrees, IsDatabaseFault, OnlyReadsStore, ReadsUnbrokenStore, Run, AreValidRuns, Entry, column, entry_row, key_before, greatest_run_number, outputs_of, run_row, head_of, Serves, Head, Outline, Outputs, Pairs, entries_of, outline_entry, run_at, map_success};
 ghost use Rattle.kt_dbfile.specs.Inner.Known.{read_only_spec};
 
 use crate::ends::{check_entries, check_last_run, require_head};

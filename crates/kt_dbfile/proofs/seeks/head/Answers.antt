@@ -1,5 +1,5 @@
 use Rattle.kt_dbfile.proofs.Common.{Head, refl}
-use Rattle.kt_store.proofs.HeadLemmas.{asked_for, no_head, one_head}
+use Rattle.kt_store.proofs.HeadLemmas.{asked_for, one_head}
 use Rattle.kt_dbfile.proofs.SeenLemmas.{looked_serves, looks_then, still_has}
 use Rattle.kt_dbfile.proofs.seeks.head.Goals as goal
 
