@@ -1,5 +1,5 @@
 -- The execution of commands over a world and a store.
-use Rattle.std.proofs.Common.{Option, Some, Ok, Err, Bool, false, take, ◌==◌, if◌then◌else◌, ◌≡◌, ℕ, List, [], ◌∷◌, ◌++◌, refl, sym, ap, ◌∙◌, subst, inl, inr}
+use Rattle.std.proofs.Common.{Option, Some, Result, Ok, Err, Bool, false, take, ◌==◌, if◌then◌else◌, ◌≡◌, ℕ, List, [], ◌∷◌, ◌++◌, refl, sym, ap, ◌∙◌, subst}
 use Rattle.kt_cli.proofs.Common.{utf8, Kind, IsIdle, Job, StoreCall, Chain, Candidate, Command, ReportOptions, Entry, RunFault, NoMemory, SinkFailed, Totals, Trace, cases_of, filter_rule_of, FilterRule, AnyFilters, OneCase, ExecutesDebug, all_debug_bytes, debug_exit, memory_line, run_line, CommandCalls, IsPrepared, OnlyCallsStore, OnlyListsCases, Means, stopped, tested, debugged, reported, reported_junit, taken, MakesCallPrefix, selecting, preparing, no_memory, CommandResult, WritesNext, Printed, WorldCall, WorldLeads, host_calls, WritesReport, ReportCompletes, JunitCompletes, CommandState, command_state, World, launcher_of, Emits, ExecutesPlan, run_for, chain-append}
 use Rattle.kt_base.specs.declared.child.Role.{Role}
 use Rattle.kt_metadata.specs.declared.host.Host.{Host}
@@ -7,7 +7,10 @@ use Rattle.kt_suite.specs.Answers.{LeadsByCalls}
 use Rattle.kt_args.specs.declared.options.CaseOptions.{CaseOptions}
 use Rattle.kt_plan.specs.declared.cases.CommandSelection.{CommandSelection}
 use Rattle.kt_plan.specs.declared.selection_error.SelectionError.{SelectionError}
-use Rattle.kt_plan.specs.Selecting.{Selects, SelectsOrNoMemory}
+use Rattle.kt_plan.specs.Selecting.{IsSelectionPrefix, Selects}
+use Rattle.kt_plan.specs.Stops.{HoldsOrNoMemory, IsNoMemoryError, finished, memory_ran_out}
+use Rattle.kt_plan.proofs.SelectLaws.{HasSelection}
+use Rattle.kt_plan.proofs.Stops.{held}
 use Rattle.kt_cli.specs.Inner.Courses.{ExecutesWithoutStore, ExecutesWithoutWorld, world_calls_only, called_only}
 use Rattle.kt_plan.specs.Planning.{Surveys, IsSurveyPrefix, ArePlanned}
 use Rattle.kt_plan.proofs.LookLaws.{all_surveyed}
@@ -24,10 +27,10 @@ pub printed_as : (was now : Option (List ℕ)) (f : Bool) (exit due : ℕ) (byte
 printed_as was now f exit due bytes own s k e = record { failed = f; shows = s; exits = e ∙ ap (λ (x : ℕ). if f then 2 else x) k }
 
 module _ {W : Type 0} (w : World W) where
-  -- `HasSelected c options old picked new`: the command `c` with `options` made the selection
-  -- `picked`, and its calls led the world from `old` to `new`
-  abbrev HasSelected : Command → CaseOptions → W → CommandSelection → W → Type 0
-  HasSelected c options old picked new = LeadsByCalls (WorldLeads w.asks w.replies) old new (λ questions. SelectsOrNoMemory (filter_rule_of c) options questions (Ok picked))
+  -- `HasSelected rule options old new result`: the selection by `options` has the result `result`,
+  -- and its calls led the world from `old` to `new`
+  abbrev HasSelected : FilterRule → CaseOptions → W → W → Result CommandSelection SelectionError → Type 0
+  HasSelected = HasSelection w.asks w.replies
 
   -- a world without running children has none after a call of its host
   pub idle_after : ((s t : W) (q : Reply) → w.replies s q t → (k : ℕ) (role : Role) → w.running t k role ≡ w.running s k role) → ((s t : W) (q : Reply) → w.replies s q t → (k : ℕ) → w.pending t k ≡ w.pending s k)
@@ -46,39 +49,36 @@ module _ {W : Type 0} (w : World W) where
 
   -- a command that a fault stopped meets `ExecutesWithoutStore`
   pub stopped_only : (c : Command) (options : CaseOptions) (old new : W) (was now : Option (List ℕ)) (exit : ℕ) (fault : SelectionError) → cases_of c ≡ Some options
-      → LeadsByCalls (WorldLeads w.asks w.replies) old new (λ questions. SelectsOrNoMemory (filter_rule_of c) options questions (Err fault))
-      → Printed was now exit (utf8 (stop_line fault)) (stop_exit fault) → ExecutesWithoutStore w c old new was now exit
+      → HasSelected (filter_rule_of c) options old new (Err fault) → Printed was now exit (utf8 (stop_line fault)) (stop_exit fault) → ExecutesWithoutStore w c old new was now exit
   stopped_only c options old new was now exit fault e a p =
-      asks_only c old new was now exit a.asked (utf8 (stop_line fault)) (stop_exit fault) a.chain p (elim a.holds [
-        | inl s ↦ subst (λ (x : SelectionError). Means (world_calls_only a.asked) p.failed c (utf8 (stop_line x)) (stop_exit x)) (sym s.0.1) (no_memory c options e (selecting a.asked s.1) (only_asked a.asked))
-        | inr s ↦ stopped c options fault e s (only_asked a.asked)
-      ])
-
-  picked_is : (rule : FilterRule) (options : CaseOptions) (questions : List WorldCall) (picked : CommandSelection) → SelectsOrNoMemory rule options questions (Ok picked) → Selects rule options questions (Ok picked)
-  picked_is rule options questions picked (inl s) = absurd s.0
-  picked_is rule options questions picked (inr s) = s
+      asks_only c old new was now exit a.asked (utf8 (stop_line fault)) (stop_exit fault) a.chain p (by fault a.asked a.holds)
+    where
+      by : (why : SelectionError) (questions : List WorldCall) → HoldsOrNoMemory IsNoMemoryError (IsSelectionPrefix (filter_rule_of c) options) (Selects (filter_rule_of c) options) (Err why) questions
+          → Means (world_calls_only questions) p.failed c (utf8 (stop_line why)) (stop_exit why)
+      by why questions (finished _ _ s) = stopped c options why e s (only_asked questions)
+      by why questions (memory_ran_out _ _ m s) =
+          subst (λ (x : SelectionError). Means (world_calls_only questions) p.failed c (utf8 (stop_line x)) (stop_exit x)) (sym m.1) (no_memory c options e (selecting questions s) (only_asked questions))
 
   -- a command that only selected cases meets `ExecutesWithoutStore`
   pub picked_only : (c : Command) (rule : FilterRule) (options : CaseOptions) (old new : W) (was now : Option (List ℕ)) (exit : ℕ) (picked : CommandSelection) (bytes : List ℕ) (due : ℕ)
       → ((failed : Bool) (questions : List WorldCall) → Selects rule options questions (Ok picked) → OnlyListsCases (world_calls_only questions) → Means (world_calls_only questions) failed c bytes due)
-      → LeadsByCalls (WorldLeads w.asks w.replies) old new (λ questions. SelectsOrNoMemory rule options questions (Ok picked)) → Printed was now exit bytes due → ExecutesWithoutStore w c old new was now exit
-  picked_only c rule options old new was now exit picked bytes due means a p =
-      asks_only c old new was now exit a.asked bytes due a.chain p (means p.failed a.asked (picked_is rule options a.asked picked a.holds) (only_asked a.asked))
+      → HasSelected rule options old new (Ok picked) → Printed was now exit bytes due → ExecutesWithoutStore w c old new was now exit
+  picked_only c rule options old new was now exit picked bytes due means a p = asks_only c old new was now exit a.asked bytes due a.chain p (means p.failed a.asked (held a.holds) (only_asked a.asked))
 
   -- the calls of a selection, followed by the first calls about its cases, are a prefix of the
   -- command's calls
-  prepared_first : (rule : FilterRule) (options : CaseOptions) (questions : List WorldCall) (answers : List Reply) (picked : CommandSelection) (cases : List Candidate) → SelectsOrNoMemory rule options questions (Ok picked) → cases ≡ taken rule picked.chosen.cases
+  prepared_first : (rule : FilterRule) (options : CaseOptions) (questions : List WorldCall) (answers : List Reply) (picked : CommandSelection) (cases : List Candidate) → Selects rule options questions (Ok picked) → cases ≡ taken rule picked.chosen.cases
       → IsSurveyPrefix cases answers → MakesCallPrefix rule options (questions ++ host_calls answers)
   prepared_first rule options questions answers picked cases a same s =
-      preparing questions picked answers (picked_is rule options questions picked a) (subst (λ (cs : List Candidate). IsSurveyPrefix cs answers) same s)
+      preparing questions picked answers a (subst (λ (cs : List Candidate). IsSurveyPrefix cs answers) same s)
 
   -- a command whose allocation failed before the plan was made meets `ExecutesWithoutStore`
   pub short_only : (c : Command) (options : CaseOptions) (old mid new : W) (was now : Option (List ℕ)) (exit : ℕ) (picked : CommandSelection) (cases : List Candidate) → cases_of c ≡ Some options
-      → HasSelected c options old picked mid → cases ≡ taken (filter_rule_of c) picked.chosen.cases → LeadsByCalls w.replies mid new (λ answers. IsSurveyPrefix cases answers)
+      → HasSelected (filter_rule_of c) options old mid (Ok picked) → cases ≡ taken (filter_rule_of c) picked.chosen.cases → LeadsByCalls w.replies mid new (λ answers. IsSurveyPrefix cases answers)
       → Printed was now exit (utf8 memory_line) 2 → ExecutesWithoutStore w c old new was now exit
   short_only c options old mid new was now exit picked cases e a same b p =
       asks_only c old new was now exit (a.asked ++ host_calls b.asked) (utf8 memory_line) 2 (chain-append (WorldLeads w.asks w.replies) a.asked (host_calls b.asked) old mid new a.chain (chain_of_host w.asks w.replies b.asked mid new b.chain)) p
-      (no_memory c options e (prepared_first (filter_rule_of c) options a.asked b.asked picked cases a.holds same b.holds) (only_asked (a.asked ++ host_calls b.asked)))
+      (no_memory c options e (prepared_first (filter_rule_of c) options a.asked b.asked picked cases (held a.holds) same b.holds) (only_asked (a.asked ++ host_calls b.asked)))
 
   -- `Prepares picked cases plan answers`: `plan` is that of `cases` of the selection `picked`, by
   -- the `answers` of the host about their requirements
@@ -94,14 +94,14 @@ module _ {W : Type 0} (w : World W) where
       (chain_of_host w.asks w.replies answers mid asked q) (chain_of_host w.asks w.replies last asked begun r))
 
   prepared : (rule : FilterRule) (options : CaseOptions) (before : List WorldCall) (answers last : List Reply) (picked : CommandSelection) (cases : List Candidate)
-      (plan : List Job) (trace : Trace) (calls : List StoreCall) → SelectsOrNoMemory rule options before (Ok picked) → Prepares picked cases plan answers
+      (plan : List Job) (trace : Trace) (calls : List StoreCall) → Selects rule options before (Ok picked) → Prepares picked cases plan answers
       → IsPrepared rule options (record { questions = before ++ (host_calls answers ++ host_calls last); plan = plan; trace = trace; calls = calls }) picked cases last
   prepared rule options before answers last picked cases plan trace calls s p =
-      record { before = before; selects = picked_is rule options before picked s; answers = answers; host = p.0; surveys = p.1; asked = refl; planned = p.2 }
+      record { before = before; selects = s; answers = answers; host = p.0; surveys = p.1; asked = refl; planned = p.2 }
 
   -- a `debug` whose case ran meets `ExecutesWithoutStore`
   pub debug_only : (options : CaseOptions) (old mid begun new : W) (was now : Option (List ℕ)) (exit : ℕ) (picked : CommandSelection) (first : Candidate) (others cases some : List Candidate) (plan : List Job) (failed : Bool) (totals : Totals) (due : ℕ)
-      → HasSelected (command.Debug options) options old picked mid → cases ≡ picked.chosen.cases → cases ≡ first ∷ others → some ≡ take 1 cases
+      → HasSelected OneCase options old mid (Ok picked) → cases ≡ picked.chosen.cases → cases ≡ first ∷ others → some ≡ take 1 cases
       → LeadsByCalls w.replies mid begun (Prepares picked some plan)
       → ExecutesDebug (launcher_of w) plan begun new was now failed (Ok totals) → due ≡ (if totals.bad == 0 then 0 else 1) → exit ≡ (if failed then 2 else due)
       → ExecutesWithoutStore w (command.Debug options) old new was now exit
@@ -114,14 +114,13 @@ module _ {W : Type 0} (w : World W) where
         bytes = all_debug_bytes d.entries;
         due = debug_exit d.entries;
         is = debugged options picked first others d.entries (sym x ∙ n)
-            (prepared OneCase options a.asked one.asked [] picked (first ∷ []) plan d.trace [] a.holds one.holds) d.ends.0 refl;
+            (prepared OneCase options a.asked one.asked [] picked (first ∷ []) plan d.trace [] (held a.holds) one.holds) d.ends.0 refl;
         printed = record { failed = failed; shows = d.says.more; exits = e ∙ ap (λ (y : ℕ). if failed then 2 else y) (k ∙ ap (λ (y : ℕ). if y == 0 then 0 else 1) d.ends.1.bad) };
       }
 
   -- a `debug` whose allocation failed before its case was started meets `ExecutesWithoutStore`
   pub debug_short : (options : CaseOptions) (old mid begun new : W) (was between now : Option (List ℕ)) (exit : ℕ) (picked : CommandSelection) (some : List Candidate) (plan : List Job) (f g : Bool) (fault : RunFault)
-      → LeadsByCalls (WorldLeads w.asks w.replies) old mid (λ questions. SelectsOrNoMemory OneCase options questions (Ok picked))
-      → some ≡ take 1 picked.chosen.cases → LeadsByCalls w.replies mid begun (Prepares picked some plan) → ExecutesDebug (launcher_of w) plan begun new was between f (Err fault) → WritesNext between f now g (utf8 (run_line fault)) → exit ≡ (if g then 2 else 2)
+      → HasSelected OneCase options old mid (Ok picked) → some ≡ take 1 picked.chosen.cases → LeadsByCalls w.replies mid begun (Prepares picked some plan) → ExecutesDebug (launcher_of w) plan begun new was between f (Err fault) → WritesNext between f now g (utf8 (run_line fault)) → exit ≡ (if g then 2 else 2)
       → ExecutesWithoutStore w (command.Debug options) old new was now exit
   debug_short options old mid begun new was between now exit picked some plan f g (SinkFailed why) a same b d s e = absurd d.ends
   debug_short options old mid begun new was between now exit picked some plan f g (NoMemory refusal) a same b d s e =
@@ -132,7 +131,7 @@ module _ {W : Type 0} (w : World W) where
         uncalled = refl;
         bytes = utf8 memory_line;
         due = 2;
-        is = no_memory (command.Debug options) options refl (prepared_first OneCase options a.asked b.asked picked some a.holds same (all_surveyed some b.asked b.holds.0 b.holds.1)) (record { trace = q.0; calls = refl });
+        is = no_memory (command.Debug options) options refl (prepared_first OneCase options a.asked b.asked picked some (held a.holds) same (all_surveyed some b.asked b.holds.0 b.holds.1)) (record { trace = q.0; calls = refl });
         printed = record { failed = g; shows = (says_both was between now false f g [] (utf8 memory_line) (subst (λ (es : List Entry). WritesNext was false between f (all_debug_bytes es)) q.1 d.says) s).more; exits = e };
       }
 
@@ -151,13 +150,13 @@ module _ {W : Type 0} (w : World W) where
 
     -- a `test` whose plan was executed meets `CommandResult`
     pub did_test : (old new : CommandState W R) (options : CaseOptions) (file : List ℕ) (mid asked begun : W) (picked : CommandSelection) (cases : List Candidate) (plan : List Job) (moment exit : ℕ)
-        → HasSelected (command.Test options file) options old.world picked mid → cases ≡ picked.chosen.cases
+        → HasSelected AnyFilters options old.world mid (Ok picked) → cases ≡ picked.chosen.cases
         → LeadsByCalls w.replies mid asked (Prepares picked cases plan) → w.replies asked (Now moment) begun
         → ExecutesPlan (launcher_of w) keep (run_for plan options picked moment) (command_state begun old.store old.held) new exit → CommandResult w keep (command.Test options file) old new exit
     did_test old new options file mid asked begun picked cases plan moment exit a same parts t r =
         let b : LeadsByCalls w.replies mid asked (Prepares picked picked.chosen.cases plan) = subst (λ (xs : List Candidate). LeadsByCalls w.replies mid asked (Prepares picked xs plan)) same parts in
         let seen : CommandCalls = record { questions = a.asked ++ (host_calls b.asked ++ host_calls (Now moment ∷ [])); plan = plan; trace = r.trace; calls = r.calls } in
-        let ready = prepared AnyFilters options a.asked b.asked (Now moment ∷ []) picked picked.chosen.cases plan r.trace r.calls a.holds b.holds in
+        let ready = prepared AnyFilters options a.asked b.asked (Now moment ∷ []) picked picked.chosen.cases plan r.trace r.calls (held a.holds) b.holds in
         record {
           seen = seen;
           course = record { begun = begun; asked = asks_all a.asked b.asked (Now moment ∷ []) old.world mid asked begun a.chain b.chain (begun, t, refl); ran = r.leads };

@@ -1,6 +1,6 @@
 -- Lemmas on the filters of a command, one by one and together.
 use Rattle.std.proofs.Common.{arith, Option, Some, None, Result, Ok, Err, IsErrAnd, find, option_map, option_and_then, slice_get, ◌≡◌, ℕ, suc, ◌<◌, true, false, List, [], ◌∷◌, length, get_or, take, refl, sym, ap, ◌∙◌, subst, ◌⊎◌, inr}
-use Rattle.kt_plan.proofs.Common.{FilterRule, err_from_is_err_and, Filter, FilterFault, FindsOverlap, apart, position_in, shared, Filters, clash, results_of_each, filters_of, cons_result, is_case_missing, right, unnamed, unparsed, IsNoMemoryResult, SelectionError}
+use Rattle.kt_plan.proofs.Common.{FilterRule, err_from_is_err_and, Filter, FilterFault, FindsOverlap, apart, position_in, shared, Filters, clash, results_of_each, filters_of, cons_result, is_case_missing, right, unnamed, unparsed, IsNoMemoryError, SelectionError}
 use Rattle.std.proofs.lemmas.Option.{slice_get_read, slice_get_within}
 use Rattle.kt_suite.specs.Disjoint.{IsDisjoint, IsFirstFault, do_overlap}
 use Rattle.kt_suite.specs.Disjoint as of
@@ -61,7 +61,7 @@ module _ (rule : FilterRule) (words : List (List ℕ)) where
   -- `Reads result`: `result` has the filters of the arguments, is their first error as `Filters`
   -- says, or is the error of a failed allocation.
   abbrev pub Reads : Result (List Filter) SelectionError → Type 0
-  Reads result = IsNoMemoryResult result ⊎ Filters rule words result
+  Reads result = IsErrAnd result IsNoMemoryError ⊎ Filters rule words result
 
   -- An argument that is not a filter ends the read of the filters.
   pub not_parsed : (result : Result (List Filter) SelectionError) (fault : SelectionError) → IsErrAnd result (λ e. e ≡ fault) → filters_of words ≡ Err fault → Reads result

@@ -1,8 +1,11 @@
 -- Lemmas on the configuration of a command, one argument after the other.
-use Rattle.std.proofs.Common.{Option, Some, None, Result, Ok, Err, IsErrAnd, ◌≡◌, ℕ, List, [], ◌∷◌, ◌++◌, refl, sym, ap, ◌∙◌, subst, inl, inr, append_assoc}
-use Rattle.kt_plan.proofs.Common.{err_from_is_err_and, Definition, ConfigFault, Values, LeadsByCalls, HasConfiguration, HoldsOrNoMemory, AppendsDefinitions, AppendsDefinition, HasValuesOf, config_read_error, Configures, IsReadPrefix, before_file, after_file, IsConfiguration, ReadsConfig, values_after, cons_result, defined, failed, missing, none, read, refused, seen, stopped, unread, argument_definition, argument_definitions, CaseOptions, IsNoMemoryResult, Reply, ReadConfig, SelectionError}
+use Rattle.std.proofs.Common.{Option, Some, None, Result, Ok, Err, IsErrAnd, ◌≡◌, ℕ, List, [], ◌∷◌, ◌++◌, refl, sym, ap, ◌∙◌, subst, append_assoc}
+use Rattle.kt_plan.proofs.Common.{Definition, ConfigFault, Values, LeadsByCalls, HasConfiguration, HoldsOrNoMemory, IsNoMemoryError, finished, memory_ran_out, AppendsDefinitions, AppendsDefinition, HasValuesOf, config_read_error, Configures, IsReadPrefix, before_file, after_file, IsConfiguration, ReadsConfig, values_after, cons_result, defined, failed, missing, none, read, refused, seen, stopped, unread, argument_definition, argument_definitions, CaseOptions, Reply, ReadConfig, SelectionError}
+use Rattle.kt_base.proofs.Lists.{error_is}
+use Rattle.kt_base.specs.declared.no_memory.NoMemory.{NoMemory as OutOfMemory}
 use Rattle.kt_config.specs.Holding.{Holds}
 use Rattle.kt_plan.proofs.Chains.{answered-as, answered-once}
+use Rattle.kt_plan.proofs.Stops.{error_as, held, ran_out}
 use Rattle.kt_config.specs.Reading.{HasFault, IsConfigFile}
 use Rattle.kt_plan.specs.Types.{Failed, Memory, Missing, ReadFault}
 use Rattle.kt_plan.specs.declared.selection_error.SelectionError.TheVariants as stop
@@ -39,81 +42,79 @@ refused_config_file bytes fault d = record { meant = Err (stop.Configuration fau
 pub none_given : (path : Option (List ℕ)) (config : Values) → path ≡ None → Holds config [] → HasConfiguration (ReadsConfig path []) (Ok config)
 none_given path config e h = record { meant = Ok []; means = subst (λ (p : Option (List ℕ)). ReadsConfig p [] (Ok [])) (sym e) none; gives = h }
 
+-- If a configuration is an error, its definitions are this error.
+pub error_meant : (Means : Result (List Definition) SelectionError → Type 0) (fault : SelectionError) → HasConfiguration Means (Err fault) → Means (Err fault)
+error_meant Means fault c = by c.meant c.means c.gives
+  where
+    by : (meant : Result (List Definition) SelectionError) → Means meant → HasValuesOf (Err fault) meant → Means (Err fault)
+    by (Ok definitions) m g = absurd g
+    by (Err f) m g = subst (λ (x : SelectionError). Means (Err x)) (sym g) m
+
 module _ {W : Type 0} (replies : W → Reply → W → Type 0) (old new : W) where
+  -- `Gives path Means outcome`: the calls for the optional configuration file at `path` gave
+  -- `outcome`: the configuration or the error by `Means`, or the error of a failed allocation.
+  abbrev pub Gives : Option (List ℕ) → (List Reply → Result (List Definition) SelectionError → Type 0) → Result Values SelectionError → Type 0
+  Gives path Means outcome = LeadsByCalls replies old new (HoldsOrNoMemory IsNoMemoryError (IsReadPrefix path) (λ answers. HasConfiguration (Means answers)) outcome)
+
   -- `Reads path outcome`: `outcome` is the configuration of the optional file at `path`, the error
   -- of this file, or the error of a failed allocation.
   abbrev pub Reads : Option (List ℕ) → Result Values SelectionError → Type 0
-  Reads path outcome = LeadsByCalls replies old new (λ answers. HoldsOrNoMemory outcome path answers (HasConfiguration (ReadsConfig path answers) outcome))
+  Reads path outcome = Gives path (ReadsConfig path) outcome
 
   -- `Configuration options outcome`: `outcome` is the configuration of a command with the options
   -- `options`, its first error, or the error of a failed allocation.
   abbrev pub Configuration : CaseOptions → Result Values SelectionError → Type 0
-  Configuration options outcome = LeadsByCalls replies old new (λ answers. HoldsOrNoMemory outcome options.config answers (HasConfiguration (Configures options answers) outcome))
+  Configuration options outcome = Gives options.config (Configures options) outcome
 
   -- A configuration file that can't be read gives the error of the command.
   pub file_unread : (path : List ℕ) (answer : Result (List ℕ) ReadFault) (fault : ReadFault) → replies old (ReadConfig path answer) new → answer ≡ Err fault → Reads (Some path) (Err (config_read_error fault))
   file_unread path answer fault t e =
       answered-once (ReadConfig path (Err fault)) (subst (λ (a : Result (List ℕ) ReadFault). replies old (ReadConfig path a) new) e t) (by fault)
     where
-      by : (f : ReadFault) → HoldsOrNoMemory {T = Values} (Err (config_read_error f)) (Some path) (ReadConfig path (Err f) ∷ []) (HasConfiguration (ReadsConfig (Some path) (ReadConfig path (Err f) ∷ [])) (Err (config_read_error f)))
-      by Missing = inr (record { meant = Err stop.UnreadableConfiguration; means = unread path Missing missing; gives = refl })
-      by Failed = inr (record { meant = Err stop.UnreadableConfiguration; means = unread path Failed failed; gives = refl })
-      by (Memory refusal) = inl ((refusal, refl), after_file path (Err (Memory refusal)))
+      by : (f : ReadFault) → HoldsOrNoMemory IsNoMemoryError (IsReadPrefix (Some path)) (λ answers. HasConfiguration (ReadsConfig (Some path) answers)) (Err (config_read_error f)) (ReadConfig path (Err f) ∷ [])
+      by Missing = finished _ _ (record { meant = Err stop.UnreadableConfiguration; means = unread path Missing missing; gives = refl })
+      by Failed = finished _ _ (record { meant = Err stop.UnreadableConfiguration; means = unread path Failed failed; gives = refl })
+      by (Memory refusal) = memory_ran_out _ _ (refusal, refl) (after_file path (Err (Memory refusal)))
 
   -- An allocation may fail after the configuration file was read.
-  pub file_short : (path : List ℕ) (answer : Result (List ℕ) ReadFault) (outcome : Result Values SelectionError) → replies old (ReadConfig path answer) new → IsNoMemoryResult outcome → Reads (Some path) outcome
-  file_short path answer outcome t s = answered-once (ReadConfig path answer) t (inl (s, after_file path answer))
+  pub file_short : (path : List ℕ) (answer : Result (List ℕ) ReadFault) (outcome : Result Values SelectionError) (refusal : OutOfMemory) → replies old (ReadConfig path answer) new
+      → IsErrAnd outcome (λ e. e ≡ stop.NoMemory refusal) → Reads (Some path) outcome
+  file_short path answer outcome refusal t s = answered-once (ReadConfig path answer) t (ran_out _ outcome refusal s (after_file path answer))
 
   -- The bytes of the configuration file give its outcome.
   pub file_seen : (path bytes : List ℕ) (answer : Result (List ℕ) ReadFault) (outcome : Result Values SelectionError) → replies old (ReadConfig path answer) new → answer ≡ Ok bytes
       → HasConfiguration (IsConfiguration bytes) outcome → Reads (Some path) outcome
   file_seen path bytes answer outcome t e c =
       answered-once (ReadConfig path (Ok bytes)) (subst (λ (a : Result (List ℕ) ReadFault). replies old (ReadConfig path a) new) e t)
-      (inr (record { meant = c.meant; means = seen path bytes c.meant c.means; gives = c.gives }))
+      (finished _ _ (record { meant = c.meant; means = seen path bytes c.meant c.means; gives = c.gives }))
 
   -- The error of the configuration file is the error of the configuration.
   pub configured_not : (options : CaseOptions) (found outcome : Result Values SelectionError) (fault : SelectionError) → found ≡ Err fault → IsErrAnd outcome (λ e. e ≡ fault) → Reads options.config found
       → Configuration options outcome
-  configured_not options found outcome fault e r a =
-      let p = err_from_is_err_and outcome r in
-      answered-as a (λ answers h. subst (λ (o : Result Values SelectionError). HoldsOrNoMemory o options.config answers (HasConfiguration (Configures options answers) o)) (sym (p.1 ∙ ap (λ (x : SelectionError). Err x) p.2))
-      (by answers (subst (λ (o : Result Values SelectionError). HoldsOrNoMemory o options.config answers (HasConfiguration (ReadsConfig options.config answers) o)) e h)))
-    where
-      meant : (answers : List Reply) (m : Result (List Definition) SelectionError) → ReadsConfig options.config answers m → HasValuesOf (Err fault) m → HasConfiguration (Configures options answers) (Err fault)
-      meant answers (Ok definitions) m g = absurd g
-      meant answers (Err f) m g = record { meant = Err f; means = stopped f m; gives = g }
-
-      by : (answers : List Reply) → HoldsOrNoMemory {T = Values} (Err fault) options.config answers (HasConfiguration (ReadsConfig options.config answers) (Err fault))
-          → HoldsOrNoMemory {T = Values} (Err fault) options.config answers (HasConfiguration (Configures options answers) (Err fault))
-      by answers (inl s) = inl s
-      by answers (inr c) = inr (meant answers c.meant c.means c.gives)
+  configured_not options found outcome fault e r a = error_is (Configuration options) outcome fault r (answered-as (subst (Reads options.config) e a)
+      (λ answers. error_as (λ p. p) (λ c. record { meant = Err fault; means = stopped fault (error_meant (ReadsConfig options.config answers) fault c); gives = refl })))
 
   -- If `P` follows from the definitions of the configuration file, `P` holds of the calls.
   pub with_definitions : {found : Result Values SelectionError} {config : Values} {path : Option (List ℕ)} {P : List Reply → Type 0}
-      (Means : List Reply → Result (List Definition) SelectionError → Type 0) → found ≡ Ok config
-      → LeadsByCalls replies old new (λ answers. HoldsOrNoMemory found path answers (HasConfiguration (Means answers) found))
+      (Means : List Reply → Result (List Definition) SelectionError → Type 0) → found ≡ Ok config → Gives path Means found
       → ((answers : List Reply) (definitions : List Definition) → Means answers (Ok definitions) → HasValuesOf (Ok config) (Ok definitions) → P answers) → LeadsByCalls replies old new P
-  with_definitions {config = config} {path = path} {P = P} Means e a f =
-      answered-as a (λ answers h. by answers (subst (λ (o : Result Values SelectionError). HoldsOrNoMemory o path answers (HasConfiguration (Means answers) o)) e h))
+  with_definitions {config = config} {path = path} {P = P} Means e a f = answered-as (subst (Gives path Means) e a) (λ answers h. let c = held h in meant answers c.meant c.means c.gives)
     where
       meant : (answers : List Reply) (m : Result (List Definition) SelectionError) → Means answers m → HasValuesOf (Ok config) m → P answers
       meant answers (Ok definitions) m g = f answers definitions m g
       meant answers (Err fault) m g = absurd g
 
-      by : (answers : List Reply) → HoldsOrNoMemory {T = Values} (Ok config) path answers (HasConfiguration (Means answers) (Ok config)) → P answers
-      by answers (inl s) = absurd s.0
-      by answers (inr c) = meant answers c.meant c.means c.gives
-
   -- The arguments of `-v` follow the configuration file.
   pub configured_both : (options : CaseOptions) (found outcome : Result Values SelectionError) (config : Values) → found ≡ Ok config → AppendsDefinitions config outcome (argument_definitions options.variables) → Reads options.config found
       → Configuration options outcome
   configured_both options found outcome config e m a = with_definitions (ReadsConfig options.config) e a (λ answers before r g.
-      inr (record { meant = values_after before (argument_definitions options.variables); means = defined before r; gives = m before g }))
+      finished _ _ (record { meant = values_after before (argument_definitions options.variables); means = defined before r; gives = m before g }))
 
   -- An allocation may fail after the configuration file.
-  pub configured_short : (options : CaseOptions) (found outcome : Result Values SelectionError) (config : Values) → found ≡ Ok config → IsNoMemoryResult outcome → Reads options.config found → Configuration options outcome
-  configured_short options found outcome config e short a =
-      with_definitions (ReadsConfig options.config) e a (λ answers before r g. inl (short, file_first options.config answers (Ok before) r))
+  pub configured_short : (options : CaseOptions) (found outcome : Result Values SelectionError) (config : Values) (refusal : OutOfMemory) → found ≡ Ok config → IsErrAnd outcome (λ e. e ≡ stop.NoMemory refusal) → Reads options.config found
+      → Configuration options outcome
+  configured_short options found outcome config refusal e short a =
+      with_definitions (ReadsConfig options.config) e a (λ answers before r g. ran_out answers outcome refusal short (file_first options.config answers (Ok before) r))
 
 -- ---- the arguments of `-v`
 

@@ -13,4 +13,5 @@ pub mod QuestionChains
 pub mod SelectLaws
 pub mod Settling
 pub mod SelectionMessages
+pub mod Stops
 pub mod Wanting

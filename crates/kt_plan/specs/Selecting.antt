@@ -1,10 +1,9 @@
 -- The selection of test cases by the options of a command.
-use Rattle.std.specs.Prelude.{List, ◌++◌, ◌⊎◌, Result, Ok, Err}
+use Rattle.std.specs.Prelude.{List, ◌++◌, Result, Ok, Err}
 use Rattle.kt_plan.specs.Types.{Asked, CaseOptions, CaseSelection, CommandSelection, FilterRule, Settings, SelectionError}
 use Rattle.kt_plan.specs.Collecting.{Collects, IsCollectionPrefix}
 use Rattle.kt_plan.specs.Configuring.{IsReadPrefix, ReadsSettings}
 use Rattle.kt_plan.specs.WorldCalls.{WorldCall, tree_calls, host_calls}
-use Rattle.kt_plan.specs.Stops.{IsNoMemoryResult}
 use Rattle.kt_plan.specs.Reply.{Reply}
 
 -- `Selects rule options questions result`: a command with the options `options` selects its cases
@@ -25,10 +24,3 @@ pub data IsSelectionPrefix (rule : FilterRule) (options : CaseOptions) : List Wo
   settling : (answers : List Reply) → IsReadPrefix options.config answers → IsSelectionPrefix rule options (host_calls answers)
   collecting : (answers : List Reply) (settings : Settings) (asked : List Asked) (lists : List Reply) → ReadsSettings rule options answers (Ok settings)
       → IsCollectionPrefix settings options.kyuafile asked lists → IsSelectionPrefix rule options (host_calls answers ++ (tree_calls asked ++ host_calls lists))
-
--- `SelectsOrNoMemory rule options questions result`: `result` has the cases that a command with the
--- options `options` selects, by the calls `questions`, or is its first error. It may also be the
--- error of a failed allocation, if `questions` are the calls before it. `rule` states which filters
--- the command accepts.
-abbrev pub SelectsOrNoMemory : FilterRule → CaseOptions → List WorldCall → Result CommandSelection SelectionError → Type 0
-SelectsOrNoMemory rule options questions result = (IsNoMemoryResult result × IsSelectionPrefix rule options questions) ⊎ Selects rule options questions result

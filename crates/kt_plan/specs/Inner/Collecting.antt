@@ -1,26 +1,12 @@
 -- Definitions for private functions of the second step: the cases of the programs, and their
 -- selection.
-use Rattle.std.specs.Prelude.{ℕ, ◌≡◌, ◌⊎◌, List, [], ◌∷◌, map, Result, Err}
-use Rattle.kt_plan.specs.Types.{Asked, Candidate, CaseSelection, Filter, Listing, Program, Settings, SelectionError, SuiteFault, Values}
+use Rattle.std.specs.Prelude.{ℕ, List, [], ◌∷◌, map, Result}
+use Rattle.kt_plan.specs.Types.{Asked, Candidate, CaseSelection, Filter, Listing, Program, Settings, SelectionError, Values}
 use Rattle.kt_base.specs.Chains.{Chain}
-use Rattle.kt_suite.specs.Faults.{IsNoMemory}
-use Rattle.kt_suite.specs.Registered.{Outcome}
 use Rattle.kt_suite.specs.Selecting.{places, is_selected}
-use Rattle.kt_plan.specs.Listings.{Loads, IsLoadPrefix}
-use Rattle.kt_plan.specs.Stops.{IsNoMemoryResult}
+use Rattle.kt_plan.specs.Stops.{HoldsOrNoMemory, IsNoMemoryError}
 use Rattle.kt_plan.specs.Reply.{Reply, Lists}
 use Rattle.kt_plan.specs.Collecting.{Collects, IsCollectionPrefix, item_of, variables_for}
-
--- `IsNoMemoryOutcome outcome`: `outcome`, the result of loading a tree, is the error of a failed
--- allocation.
-abbrev pub IsNoMemoryOutcome : Outcome → Type 0
-IsNoMemoryOutcome outcome = (fault : SuiteFault) × IsNoMemory fault × (outcome ≡ Err fault)
-
--- `LoadsOrNoMemory kyuafile asked outcome`: `outcome` is the result of loading the Kyuafile
--- `kyuafile` by the calls `asked` to the tree. It may also be a failed allocation after these
--- calls.
-abbrev pub LoadsOrNoMemory : List ℕ → List Asked → Outcome → Type 0
-LoadsOrNoMemory kyuafile asked outcome = (IsNoMemoryOutcome outcome × IsLoadPrefix kyuafile asked) ⊎ Loads kyuafile asked outcome
 
 -- `selected_indexes filters place cases`: the indexes of the candidates in `cases` that the filters
 -- `filters` select. The first candidate in `cases` has the index `place`.
@@ -34,13 +20,6 @@ pub data IsListPrefix (config : Values) (program : Program) : List Reply → Typ
   before_list : IsListPrefix config program []
   after_list : (listing : Listing) → IsListPrefix config program (Lists program (variables_for config program.suite) listing ∷ [])
 
--- `CollectsOrNoMemory settings kyuafile asked answers result`: `result` is the result of a
--- selection with the settings `settings` from the tree of the Kyuafile `kyuafile`. `asked` are the
--- calls to the tree, and `answers` the calls by which programs list their cases. `result` may also
--- be a failed allocation after these calls.
-abbrev pub CollectsOrNoMemory : Settings → List ℕ → List Asked → List Reply → Result CaseSelection SelectionError → Type 0
-CollectsOrNoMemory settings kyuafile asked answers result = (IsNoMemoryResult result × IsCollectionPrefix settings kyuafile asked answers) ⊎ Collects settings kyuafile asked answers result
-
 module _ {W : Type 0} (asks : W → Asked → W → Type 0) (replies : W → Reply → W → Type 0) where
   -- `CollectsBetween settings kyuafile old new result`: `result` is the result of a selection with
   -- the settings `settings` from the tree of the Kyuafile `kyuafile`. The world goes from the state
@@ -51,4 +30,4 @@ module _ {W : Type 0} (asks : W → Asked → W → Type 0) (replies : W → Rep
     pub loaded : W
     pub chain : Chain asks old asked loaded
     pub lists : Chain replies loaded answers new
-    pub holds : CollectsOrNoMemory settings kyuafile asked answers result
+    pub holds : HoldsOrNoMemory IsNoMemoryError (IsCollectionPrefix settings kyuafile asked) (Collects settings kyuafile asked) result answers

@@ -1,14 +1,12 @@
 -- Definitions for private functions of the first step: the configuration and the filters of a
 -- command.
-use Rattle.std.specs.Prelude.{ℕ, ◌≡◌, ◌⊎◌, List, [], Option, Some, None, Result, Ok, Err}
-use Rattle.kt_plan.specs.Types.{CaseOptions, Definition, Failed, Filter, FilterFault, FilterRule, Memory, Missing, ReadFault, Settings, SelectionError, Values}
+use Rattle.std.specs.Prelude.{ℕ, ◌≡◌, List, [], Option, Some, None, Result, Ok, Err}
+use Rattle.kt_plan.specs.Types.{Definition, Failed, Filter, FilterFault, Memory, Missing, ReadFault, SelectionError, Values}
 use Rattle.kt_config.specs.Holding.{Holds}
 use Rattle.kt_suite.specs.declared.filter.FilterFault.TheVariants.{Repeated, NotDisjoint}
 use Rattle.kt_suite.specs.Disjoint.{IsDisjoint}
 use Rattle.kt_plan.specs.declared.selection_error.SelectionError.TheVariants as stop
-use Rattle.kt_plan.specs.Stops.{IsNoMemoryResult}
-use Rattle.kt_plan.specs.Reply.{Reply}
-use Rattle.kt_plan.specs.Configuring.{IsFirstOverlap, IsReadPrefix, ReadsSettings, values_after, cons_result}
+use Rattle.kt_plan.specs.Configuring.{IsFirstOverlap, values_after, cons_result}
 
 -- `config_read_error fault`: the error of a command for `fault`, an error of reading its
 -- configuration file.
@@ -63,16 +61,3 @@ position_in other = 0
 pub data FindsOverlap (words : List (List ℕ)) (filters : List Filter) : Option SelectionError → Type 0 where
   apart : IsDisjoint filters → FindsOverlap words filters None
   shared : (word : List ℕ) (fault : FilterFault) → IsFirstOverlap words filters word fault → FindsOverlap words filters (Some (stop.Filter word fault))
-
--- `HoldsOrNoMemory result path answers fact`: the fact `fact` is true, or the result `result` of a
--- step is a failed allocation. In the second case, there is no call in `answers`, or only the read
--- of the configuration file at `path`.
-abbrev pub HoldsOrNoMemory : {T : Type 0} → Result T SelectionError → Option (List ℕ) → List Reply → Type 0 → Type 0
-HoldsOrNoMemory result path answers fact = (IsNoMemoryResult result × IsReadPrefix path answers) ⊎ fact
-
--- `ReadsSettingsOrNoMemory rule options answers result`: `result` has the settings of a command with
--- the options `options`, by the calls `answers`, or is its first error. It may also be the error of
--- a failed allocation, if `answers` are the calls before it. `rule` states which filters the
--- command accepts.
-abbrev pub ReadsSettingsOrNoMemory : FilterRule → CaseOptions → List Reply → Result Settings SelectionError → Type 0
-ReadsSettingsOrNoMemory rule options answers result = HoldsOrNoMemory result options.config answers (ReadsSettings rule options answers result)

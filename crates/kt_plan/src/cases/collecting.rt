@@ -1,5 +1,5 @@
 ghost use Rattle.std.specs.Prelude.{◌≡◌, ◌≤◌, ◌⊎◌, length, IfOk};
-ghost use Rattle.kt_plan.specs.Common.{IsIdle, IsNoMemory, item_limit, CollectsBetween, LeadsByCalls, IsFaultAt, no_memory, program_limit, LoadsOrNoMemory, SelectsOrNoMemory, WorldLeads};
+ghost use Rattle.kt_plan.specs.Common.{IsIdle, IsNoMemory, item_limit, CollectsBetween, LeadsByCalls, IsFaultAt, no_memory, program_limit, HoldsOrNoMemory, IsNoMemoryError, IsLoadPrefix, Loads, IsSelectionPrefix, Selects, WorldLeads};
 ghost use Rattle.kt_base.specs.declared.no_memory.NoMemory.{NoMemory as OutOfMemory};
 ghost use Rattle.kt_plan.specs.declared.selection_error.SelectionError.TheVariants as stop;
 
@@ -54,7 +54,7 @@ pub fn load_programs<T: Tree>(
     tree: &mut T,
 ) -> Result<Items<Program>, SuiteFault>
     ensures loaded { LeadsByCalls T.asks tree.old tree.new
-        (λ asked. LoadsOrNoMemory kyuafile.now asked result) }
+        (HoldsOrNoMemory IsNoMemory (IsLoadPrefix kyuafile.now) (Loads kyuafile.now) result) }
     ensures few { IfOk result (λ programs. length programs ≤ program_limit) }
 {
     let root = match split_path(alloc, kyuafile) {
@@ -143,7 +143,8 @@ pub fn select_cases<W: World>(
 ) -> Result<CommandSelection, SelectionError>
     requires { IsIdle (W.running world.old) (W.pending world.old) }
     ensures selects { LeadsByCalls (WorldLeads W.asks W.replies) world.old world.new
-        (λ questions. SelectsOrNoMemory rule options.now questions result) }
+        (HoldsOrNoMemory IsNoMemoryError (IsSelectionPrefix rule options.now)
+        (Selects rule options.now) result) }
     ensures few { IfOk result (λ picked. length picked.chosen.cases ≤ item_limit) }
     ensures idle { IsIdle (W.running world.new) (W.pending world.new) }
 {

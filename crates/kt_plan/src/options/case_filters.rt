@@ -1,5 +1,5 @@
-ghost use Rattle.std.specs.Prelude.{◌≡◌, ◌⊎◌, IfOk, length};
-ghost use Rattle.kt_plan.specs.Common.{position_in, FindsOverlap, filter_of, filters_of, names_one_case, is_case_missing, Filters, IsNoMemoryResult};
+ghost use Rattle.std.specs.Prelude.{◌≡◌, ◌⊎◌, IfOk, IsErrAnd, length};
+ghost use Rattle.kt_plan.specs.Common.{position_in, FindsOverlap, filter_of, filters_of, names_one_case, is_case_missing, Filters, IsNoMemoryError};
 
 use crate::SelectionError;
 use kt_args::FilterRule;
@@ -111,7 +111,7 @@ pub fn read_filters(
     rule: FilterRule,
     words: &[Text],
 ) -> Result<Items<Filter>, SelectionError>
-    ensures { IsNoMemoryResult result ⊎ Filters rule words.now result }
+    ensures { IsErrAnd result IsNoMemoryError ⊎ Filters rule words.now result }
 {
     let filters = parse_filters(alloc, words)??;
     if let Some(fault) = find_overlap(words, filters.as_slice())? {

@@ -1,5 +1,5 @@
 ghost use Rattle.std.specs.Prelude.{◌≡◌, Some, IfOk};
-ghost use Rattle.kt_plan.specs.Common.{IsIdle, LeadsByCalls, config_read_error, HasConfiguration, AppendsDefinitions, config_or_error, HoldsOrNoMemory, ReadsSettingsOrNoMemory, AppendsDefinition, argument_definitions, Configures, IsConfiguration, ReadsConfig, with_selection_error, argument_definition, definition_named, variables_for};
+ghost use Rattle.kt_plan.specs.Common.{IsIdle, LeadsByCalls, config_read_error, HasConfiguration, AppendsDefinitions, config_or_error, HoldsOrNoMemory, IsNoMemoryError, IsReadPrefix, ReadsSettings, AppendsDefinition, argument_definitions, Configures, IsConfiguration, ReadsConfig, with_selection_error, argument_definition, definition_named, variables_for};
 
 use crate::options::case_filters::read_filters;
 use crate::{SelectionError, Settings, World};
@@ -87,9 +87,9 @@ fn read_config<W: World>(
     path: &Text,
     world: &mut W,
 ) -> Result<Config, SelectionError>
-    ensures { LeadsByCalls W.replies world.old world.new (λ answers. HoldsOrNoMemory result (Some
-        path.now)
-        answers (HasConfiguration (ReadsConfig (Some path.now) answers) result)) }
+    ensures { LeadsByCalls W.replies world.old world.new (HoldsOrNoMemory IsNoMemoryError
+        (IsReadPrefix (Some path.now))
+        (λ answers. HasConfiguration (ReadsConfig (Some path.now) answers)) result) }
 {
     match world.config(path) {
         Ok(bytes) => parse_config(alloc, bytes.as_slice())?,
@@ -106,9 +106,9 @@ fn read_given_config<W: World>(
     options: &CaseOptions,
     world: &mut W,
 ) -> Result<Config, SelectionError>
-    ensures { LeadsByCalls W.replies world.old world.new (λ answers. HoldsOrNoMemory result
-        options.now.config answers (HasConfiguration (ReadsConfig options.now.config answers)
-        result)) }
+    ensures { LeadsByCalls W.replies world.old world.new (HoldsOrNoMemory IsNoMemoryError
+        (IsReadPrefix options.now.config)
+        (λ answers. HasConfiguration (ReadsConfig options.now.config answers)) result) }
 {
     match &options.config {
         None => Ok(Config::new(alloc)),
@@ -143,8 +143,9 @@ fn configure<W: World>(
     options: &CaseOptions,
     world: &mut W,
 ) -> Result<Config, SelectionError>
-    ensures { LeadsByCalls W.replies world.old world.new (λ answers. HoldsOrNoMemory result
-        options.now.config answers (HasConfiguration (Configures options.now answers) result)) }
+    ensures { LeadsByCalls W.replies world.old world.new (HoldsOrNoMemory IsNoMemoryError
+        (IsReadPrefix options.now.config)
+        (λ answers. HasConfiguration (Configures options.now answers)) result) }
 {
     let config = read_given_config(alloc, options, world)?;
     set_arguments(config, options.variables.as_slice())?
@@ -176,7 +177,8 @@ pub fn read_settings<W: World>(
 ) -> Result<Settings, SelectionError>
     requires { IsIdle (W.running world.old) (W.pending world.old) }
     ensures settled { LeadsByCalls W.replies world.old world.new
-        (λ answers. ReadsSettingsOrNoMemory rule options.now answers result) }
+        (HoldsOrNoMemory IsNoMemoryError (IsReadPrefix options.now.config)
+        (ReadsSettings rule options.now) result) }
     ensures idle { IsIdle (W.running world.new) (W.pending world.new) }
 {
     let config = configure(alloc, options, world)?;

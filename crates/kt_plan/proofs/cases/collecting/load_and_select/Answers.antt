@@ -1,4 +1,3 @@
-use Rattle.kt_plan.proofs.Common.{err_from_is_err_and}
 use Rattle.kt_plan.proofs.Chains.{idle_after}
 use Rattle.kt_plan.proofs.Collections.{tree_stopped, lists_stopped, all_chosen, few_chosen}
 use Rattle.kt_plan.proofs.cases.collecting.load_and_select.Goals as goal
@@ -19,8 +18,7 @@ list_all_cases-requires g c =
 
 pub returns-in_err-found-clause-collected : goal.returns-in_err-found-clause-collected
 returns-in_err-found-clause-collected g c =
-    let p = err_from_is_err_and c.from_residual.result c.from_residual.ensures.1 in
-    lists_stopped g.W.Tree.asks g.W.World.replies c.args.settings.now c.args.kyuafile.now c.args.world.now c.load_programs.new.tree c.in-Ok.programs c.list_all_cases.new.world c.in-Ok.ensures.loaded c.as_slice.result.now c.from_residual.result p.0 c.as_slice.ensures c.in_err-found.ensures.offers p.1 (_, p.2)
+    lists_stopped g.W.Tree.asks g.W.World.replies c.args.settings.now c.args.kyuafile.now c.args.world.now c.load_programs.new.tree c.in-Ok.programs c.list_all_cases.new.world c.in-Ok.ensures.loaded c.as_slice.result.now c.from_residual.result _ c.as_slice.ensures c.in_err-found.ensures.offers c.from_residual.ensures.1
 
 pub returns-clause-collected : goal.returns-clause-collected
 returns-clause-collected g c =

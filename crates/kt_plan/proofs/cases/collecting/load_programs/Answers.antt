@@ -1,10 +1,11 @@
-use Rattle.std.proofs.Common.{◌≡◌, ◌∙◌, [], ap, sym, refl, inl, false, true}
-use Rattle.kt_plan.proofs.Common.{name_in, is_empty, before_tree}
+use Rattle.std.proofs.Common.{◌≡◌, ◌∙◌, [], ap, sym, false, true}
+use Rattle.kt_plan.proofs.Common.{memory_ran_out, name_in, is_empty, before_tree}
+use Rattle.kt_plan.proofs.Chains.{asked_nothing}
 use Rattle.kt_plan.proofs.Loading.{not_there, loaded}
 use Rattle.kt_plan.proofs.cases.collecting.load_programs.Goals as goal
 
 pub returns-in-Err-clause-loaded : goal.returns-in-Err-clause-loaded
-returns-in-Err-clause-loaded g c = record { asked = []; chain = refl; holds = inl ((_, (c.in-Err.refusal, c.create_memory_fault.ensures), refl), before_tree) }
+returns-in-Err-clause-loaded g c = asked_nothing g.T.Tree.asks _ _ (memory_ran_out _ [] (c.in-Err.refusal, c.create_memory_fault.ensures) before_tree)
 
 pub returns-then-is_empty-clause-loaded : goal.returns-then-is_empty-clause-loaded
 returns-then-is_empty-clause-loaded g c =
