@@ -24,7 +24,7 @@ pub use Rattle.kt_suite.specs.declared.cause.SuiteCause.TheVariants.{NoMemory, U
 unfoldable pub use lib.Utf8.{encode}
 pub use Rattle.kt_plan.specs.Collecting.{Collects, IsCollectionPrefix, IsSelectable, ListsAtfCases, ListsAllCases, IsAllListsPrefix, ListsProgramCases, asks, candidates_of, chosen, selection_of, item_of, listed, listing, loading, no_further, offering, one_and, passes, selected_cases, single, too_many, unlisted, unloaded, variables_for}
 pub use Rattle.kt_plan.specs.Configuring.{Configures, Filters, IsConfiguration, ReadsConfig, IsReadPrefix, ReadsSettings, after_file, before_file, values_after, clash, defined, results_of_each, failed, filter_of, filters_of, cons_result, is_case_missing, missing, none, read, refused, right, seen, settled, stopped, unconfigured, unfiltered, unnamed, unparsed, unread, argument_definition, argument_definitions}
-pub use Rattle.kt_plan.specs.Inner.Collecting.{CollectsBetween, IsListPrefix, after_list, before_list, selected_indexes}
+pub use Rattle.kt_plan.specs.Inner.Collecting.{CollectsBetween, selected_indexes}
 pub use Rattle.kt_plan.specs.Inner.Configuring.{FindsOverlap, HasConfiguration, HasValuesOf, AppendsDefinitions, AppendsDefinition, apart, position_in, shared, config_read_error}
 pub use Rattle.kt_plan.specs.Inner.Planning.{RecordsFound}
 pub use Rattle.kt_plan.specs.Listings.{IsLoadPrefix, Loads, before_tree, by_tree, named, unfinished}

@@ -1,30 +1,27 @@
 -- Lemmas on the cases of programs, and on the calls for them.
 use Rattle.std.proofs.Common.{Some, None, ◌≡◌, ◌≢◌, List, [], ◌∷◌, ◌++◌, sym, subst, append_assoc, append-nil, length}
-use Rattle.kt_plan.proofs.Common.{Atf, Values, LeadsByCalls, Filter, Program, Candidate, IsListPrefix, before_list, after_list, candidates_of, variables_for, IsSelectable, ListsAtfCases, listed, ListsProgramCases, listing, unlisted, single, ListsAllCases, one_and, IsAllListsPrefix, no_further, asks, passes, Reply, Lists}
+use Rattle.kt_plan.proofs.Common.{Atf, Values, LeadsByCalls, Filter, Program, Candidate, candidates_of, variables_for, IsSelectable, listed, ListsProgramCases, listing, unlisted, single, ListsAllCases, one_and, IsAllListsPrefix, no_further, asks, passes, Reply, Lists}
 use Rattle.kt_plan.proofs.Chains.{answered-as, answered-once, answered-then, asked_nothing}
 use Rattle.kt_plan.specs.Types.{CaseDef, Listing, Variable}
 use Rattle.kt_atflist.specs.Cases.{AreCases}
 use Rattle.kt_plan.specs.Collecting.{none}
 use Rattle.std.proofs.lemmas.List.{nil_from_length}
 
--- If an allocation fails after a program listed its cases, this listing is the only call so far.
-pub list_asked : {W : Type 0} (replies : W → Reply → W → Type 0) (config : Values) (program : Program) (variables : List Variable) (old new : W) (answer : Listing) → variables ≡ variables_for config program.suite
-    → replies old (Lists program variables answer) new → LeadsByCalls replies old new (λ answers. IsListPrefix config program answers)
-list_asked replies config program variables old new answer e h =
-    answered-once (Lists program (variables_for config program.suite) answer) (subst (λ (vs : List Variable). replies old (Lists program vs answer) new) e h) (after_list answer)
-
--- The listing of an ATF program gives its cases.
-pub lists_cases : {W : Type 0} (replies : W → Reply → W → Type 0) (config : Values) (program : Program) (variables : List Variable) (old new : W) (answer : Listing) (cases : List CaseDef)
-    → variables ≡ variables_for config program.suite → replies old (Lists program variables answer) new
-    → AreCases program.props Atf (Some answer) cases → LeadsByCalls replies old new (λ answers. ListsAtfCases config program answers cases)
-lists_cases replies config program variables old new answer cases e h a =
-    answered-once (Lists program (variables_for config program.suite) answer) (subst (λ (vs : List Variable). replies old (Lists program vs answer) new) e h) (listed answer cases a)
-
 module _ {W : Type 0} (replies : W → Reply → W → Type 0) (config : Values) (filters : List Filter) where
-  -- An ATF program that `IsSelectable` has the cases that it lists.
-  pub offers_listed : (program : Program) (old new : W) (cases : List CaseDef) → program.interface ≡ Atf → IsSelectable filters program → LeadsByCalls replies old new (λ answers. ListsAtfCases config program answers cases)
-      → LeadsByCalls replies old new (λ answers. ListsProgramCases config filters program answers (candidates_of program cases))
-  offers_listed program old new cases e w a = answered-as a (λ answers h. listing answers cases e w h)
+  module _ (program : Program) (variables : List Variable) (old new : W) (answer : Listing) (atf : program.interface ≡ Atf) (w : IsSelectable filters program)
+      (own : variables ≡ variables_for config program.suite) (h : replies old (Lists program variables answer) new) where
+    -- The listing of an ATF program that `IsSelectable`, with the variables of its test suite, is its
+    -- only call.
+    listed_once : {P : List Reply → Type 0} → P (Lists program (variables_for config program.suite) answer ∷ []) → LeadsByCalls replies old new P
+    listed_once p = answered-once (Lists program (variables_for config program.suite) answer) (subst (λ (vs : List Variable). replies old (Lists program vs answer) new) own h) p
+
+    -- The program has the cases that it lists.
+    pub offers_listed : (cases : List CaseDef) → AreCases program.props Atf (Some answer) cases → LeadsByCalls replies old new (λ answers. ListsProgramCases config filters program answers (candidates_of program cases))
+    offers_listed cases a = listed_once (listing _ cases atf w (listed answer cases a))
+
+    -- If an allocation fails after the listing, the listing is a prefix of the calls for the program.
+    pub list_asked : LeadsByCalls replies old new (λ answers. IsAllListsPrefix config filters (program ∷ []) answers)
+    list_asked = listed_once (asks program [] answer [] atf w (no_further []))
 
   -- An ATF program that is not `IsSelectable` has no cases and no calls.
   pub offers_none : (program : Program) (world : W) (cases : List CaseDef) → program.interface ≡ Atf → (IsSelectable filters program → ⊥) → cases ≡ []
@@ -55,16 +52,6 @@ module _ {W : Type 0} (replies : W → Reply → W → Type 0) (config : Values)
   pub all_first : (programs : List Program) (answers : List Reply) (found : List Candidate) → ListsAllCases config filters programs answers found → IsAllListsPrefix config filters programs answers
   all_first _ _ _ none = no_further []
   all_first _ _ _ (one_and program programs answers more own others o h) = first_of_one program programs answers more own o (all_first programs more others h)
-
-  -- A prefix of the calls for the listing of a program that `IsSelectable` is a prefix of the calls for
-  -- the program.
-  pub first_listed : (program : Program) (old new : W) → program.interface ≡ Atf → IsSelectable filters program → LeadsByCalls replies old new (λ answers. IsListPrefix config program answers)
-      → LeadsByCalls replies old new (λ answers. IsAllListsPrefix config filters (program ∷ []) answers)
-  first_listed program old new e w a = answered-as a by
-    where
-      by : (answers : List Reply) → IsListPrefix config program answers → IsAllListsPrefix config filters (program ∷ []) answers
-      by _ before_list = no_further (program ∷ [])
-      by _ (after_list answer) = asks program [] answer [] e w (no_further [])
 
   -- The calls that give the cases of a program are a prefix of the calls for it.
   pub first_offered : (program : Program) (old new : W) (found : List Candidate) → LeadsByCalls replies old new (λ answers. ListsProgramCases config filters program answers found)

@@ -15,9 +15,9 @@ pub use Rattle.kt_suite.specs.Matching.{MayMatch}
 pub use Rattle.kt_suite.specs.Registered.{program_limit}
 pub use Rattle.kt_suite.specs.Selecting.{item_limit}
 pub use Rattle.kt_suite.specs.declared.filter.Filter.{Filter}
-pub use Rattle.kt_plan.specs.Collecting.{IsSelectable, ListsAtfCases, ListsAllCases, IsAllListsPrefix, ListsProgramCases, candidate_of, candidates_of, selection_of, item_of, selected_cases, variables_for}
+pub use Rattle.kt_plan.specs.Collecting.{IsSelectable, ListsAllCases, IsAllListsPrefix, ListsProgramCases, candidate_of, candidates_of, selection_of, item_of, selected_cases, variables_for}
 pub use Rattle.kt_plan.specs.Configuring.{Configures, Filters, IsConfiguration, IsReadPrefix, ReadsConfig, ReadsSettings, filter_of, filters_of, is_case_missing, names_one_case, with_selection_error, argument_definition, argument_definitions}
-pub use Rattle.kt_plan.specs.Inner.Collecting.{CollectsBetween, IsListPrefix, selected_indexes}
+pub use Rattle.kt_plan.specs.Inner.Collecting.{CollectsBetween, selected_indexes}
 pub use Rattle.kt_plan.specs.Inner.Configuring.{FindsOverlap, HasConfiguration, AppendsDefinitions, AppendsDefinition, config_or_error, position_in, config_read_error}
 pub use Rattle.kt_plan.specs.Inner.Planning.{RecordsFound}
 pub use Rattle.kt_plan.specs.Listings.{IsLoadPrefix, Loads}

@@ -1,24 +1,17 @@
 -- Definitions for private functions of the second step: the cases of the programs, and their
 -- selection.
-use Rattle.std.specs.Prelude.{ℕ, List, [], ◌∷◌, map, Result}
-use Rattle.kt_plan.specs.Types.{Asked, Candidate, CaseSelection, Filter, Listing, Program, Settings, SelectionError, Values}
+use Rattle.std.specs.Prelude.{ℕ, List, map, Result}
+use Rattle.kt_plan.specs.Types.{Asked, Candidate, CaseSelection, Filter, Settings, SelectionError}
 use Rattle.kt_base.specs.Chains.{Chain}
 use Rattle.kt_suite.specs.Selecting.{places, is_selected}
 use Rattle.kt_plan.specs.Stops.{HoldsOrNoMemory, IsNoMemoryError}
-use Rattle.kt_plan.specs.Reply.{Reply, Lists}
-use Rattle.kt_plan.specs.Collecting.{Collects, IsCollectionPrefix, item_of, variables_for}
+use Rattle.kt_plan.specs.Reply.{Reply}
+use Rattle.kt_plan.specs.Collecting.{Collects, IsCollectionPrefix, item_of}
 
 -- `selected_indexes filters place cases`: the indexes of the candidates in `cases` that the filters
 -- `filters` select. The first candidate in `cases` has the index `place`.
 abbrev pub selected_indexes : List Filter → ℕ → List Candidate → List ℕ
 selected_indexes filters place cases = places (is_selected filters) place (map item_of cases)
-
--- `IsListPrefix config program replies`: `replies` may be the calls for the cases of the program
--- `program` before an allocation failed. There is no call, or only the call by which the program
--- lists its cases. `config` is the configuration.
-pub data IsListPrefix (config : Values) (program : Program) : List Reply → Type 0 where
-  before_list : IsListPrefix config program []
-  after_list : (listing : Listing) → IsListPrefix config program (Lists program (variables_for config program.suite) listing ∷ [])
 
 module _ {W : Type 0} (asks : W → Asked → W → Type 0) (replies : W → Reply → W → Type 0) where
   -- `CollectsBetween settings kyuafile old new result`: `result` is the result of a selection with

@@ -1,39 +1,19 @@
-ghost use Rattle.std.specs.Prelude.{◌≡◌, ◌++◌, ◌∷◌, [], IfOk, OnOk, MatchResult, ◌↔◌, IsTrue};
-ghost use Rattle.kt_plan.specs.Common.{IsIdle, LeadsByCalls, IsListPrefix, candidates_of, ListsAtfCases, ListsAllCases, IsAllListsPrefix, ListsProgramCases, IsSelectable, Contains, Filter, MayMatch};
+ghost use Rattle.std.specs.Prelude.{◌≡◌, ◌++◌, ◌∷◌, [], OnOk, MatchResult, ◌↔◌, IsTrue};
+ghost use Rattle.kt_plan.specs.Common.{IsIdle, LeadsByCalls, candidates_of, ListsAllCases, IsAllListsPrefix, ListsProgramCases, IsSelectable, Contains, Filter, MayMatch};
 
 use crate::options::configuring::variables_for;
 use crate::{Candidate, Settings, World};
 use kt_atflist::{CaseDef, cases};
 use kt_base::{Interface, Items, NoMemory, Text};
-use kt_config::Config;
 use kt_suite::{Filter, Program};
 use std::alloc::Global;
 
-/// Lists the cases of the ATF program `program` by running it with the variables of its suite.
+/// Returns the cases of the program `program`. An ATF program is run with the variables of its
+/// suite, so that it lists its cases.
 ///
-/// If the list can't be used, returns one case that represents the list and has the error.
-fn list_atf_cases<W: World>(
-    alloc: Global,
-    config: &Config,
-    program: &Program,
-    world: &mut W,
-) -> Result<Items<CaseDef>, NoMemory>
-    requires { IsIdle (W.running world.old) (W.pending world.old) }
-    ensures offers { LeadsByCalls W.replies world.old world.new (λ answers. MatchResult result
-        (ListsAtfCases config.now program.now answers)
-        (λ _. IsListPrefix config.now program.now answers)) }
-    ensures idle { IsIdle (W.running world.new) (W.pending world.new) }
-{
-    let variables = variables_for(alloc, config, &program.suite)?;
-    let listing = Some(world.list(program, &variables));
-    let found = cases(alloc, Interface::Atf, &program.props, &listing)?;
-    Ok(found)
-}
-
-/// Returns the cases of the program `program`. An ATF program is run, so that it lists its cases.
-///
-/// If there are filters, and none may match a case of an ATF program, the program is not run, and
-/// no cases are returned.
+/// If the list can't be used, returns one case that represents the list and has the error. If there
+/// are filters, and none may match a case of an ATF program, the program is not run, and no cases
+/// are returned.
 fn list_program_cases<W: World>(
     alloc: Global,
     settings: &Settings,
@@ -53,7 +33,9 @@ fn list_program_cases<W: World>(
             if !is_selectable(settings.filters.as_slice(), program) {
                 return Ok(Items::new(alloc));
             }
-            let found = list_atf_cases(alloc, &settings.config, program, world)?;
+            let variables = variables_for(alloc, &settings.config, &program.suite)?;
+            let listing = Some(world.list(program, &variables));
+            let found = cases(alloc, Interface::Atf, &program.props, &listing)?;
             Ok(found)
         }
         other => {
