@@ -1,7 +1,7 @@
 -- Lemmas on filters that may select a case of a program.
 use Rattle.std.proofs.Common.{◌≡◌, ℕ, ◌<◌, List, [], ◌∷◌, sym, subst, inl, inr, Contains, arith}
 use Rattle.kt_plan.proofs.Common.{Filter, MayMatch}
-use Rattle.std.proofs.lemmas.List.Elements.{Contains-append_left, Contains-append_right, Contains-append_cases, Contains-push, Contains-push_cases}
+use Rattle.std.proofs.lemmas.List.Elements.{Contains-append_right, Contains-append_cases, Contains-push_cases}
 
 -- `AnyMatches filters path`: one of `filters` may match a case of the program at `path`.
 abbrev pub AnyMatches : List Filter → List ℕ → Type 0

@@ -4,10 +4,9 @@ pub use Rattle.kt_base.specs.Moments.{IsMoment}
 pub use Rattle.kt_base.specs.declared.child.Role.{Role}
 pub use Rattle.kt_config.specs.Names.{definition_named}
 pub use Rattle.kt_config.specs.Values.{Values}
-pub use Rattle.kt_metadata.specs.Effective.{effective}
-pub use Rattle.kt_metadata.specs.Requirements.{first_reason, needed, rows}
+pub use Rattle.kt_metadata.specs.Requirements.{first_reason, rows}
 pub use Rattle.kt_sched.specs.Children.{IsIdle}
-pub use Rattle.kt_sched.specs.Plan.{IsFit, IsPlan}
+pub use Rattle.kt_sched.specs.Plan.{IsPlan}
 pub use Rattle.kt_suite.specs.Answers.{LeadsByCalls, Asked}
 pub use Rattle.kt_suite.specs.Faults.{IsNoMemory, no_memory}
 pub use Rattle.kt_suite.specs.Inner.Steps.{IsFaultAt}
@@ -15,7 +14,7 @@ pub use Rattle.kt_suite.specs.Matching.{MayMatch}
 pub use Rattle.kt_suite.specs.Registered.{program_limit}
 pub use Rattle.kt_suite.specs.Selecting.{item_limit}
 pub use Rattle.kt_suite.specs.declared.filter.Filter.{Filter}
-pub use Rattle.kt_plan.specs.Collecting.{IsSelectable, ListsAllCases, IsAllListsPrefix, ListsProgramCases, candidate_of, candidates_of, selection_of, item_of, selected_cases, variables_for}
+pub use Rattle.kt_plan.specs.Collecting.{IsSelectable, ListsAllCases, IsAllListsPrefix, ListsProgramCases, candidates_of, selection_of, item_of, selected_cases, variables_for}
 pub use Rattle.kt_plan.specs.Configuring.{Configures, Filters, IsConfiguration, IsReadPrefix, ReadsConfig, ReadsSettings, filter_of, filters_of, is_case_missing, names_one_case, with_selection_error, argument_definition, argument_definitions}
 pub use Rattle.kt_plan.specs.Inner.Collecting.{CollectsBetween, selected_indexes}
 pub use Rattle.kt_plan.specs.Inner.Configuring.{FindsOverlap, HasConfiguration, AppendsDefinitions, AppendsDefinition, config_or_error, position_in, config_read_error}

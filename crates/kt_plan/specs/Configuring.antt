@@ -1,5 +1,5 @@
 -- The first step of a command that selects test cases: its configuration and its filters.
-use Rattle.std.specs.Prelude.{ℕ, Bool, true, false, not, ◌≡◌, ◌<◌, ◌&&◌, List, [], ◌∷◌, ◌++◌, Option, Some, None, Result, Ok, Err, is_some, slice_get}
+use Rattle.std.specs.Prelude.{ℕ, Bool, true, false, not, ◌≡◌, ◌<◌, List, [], ◌∷◌, ◌++◌, Option, Some, None, Result, Ok, Err, is_some, slice_get}
 use Rattle.std.specs.Option.{option_map_or}
 use Rattle.kt_plan.specs.Types.{CaseOptions, Definition, Failed, Filter, FilterFault, FilterRule, Missing, ReadFault, Settings, SelectionError}
 use Rattle.kt_base.specs.Texts.{before, after}

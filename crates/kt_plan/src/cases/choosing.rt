@@ -1,4 +1,4 @@
-ghost use Rattle.std.specs.Prelude.{◌≡◌, ◌≤◌, ◌<◌, ◌+◌, ◌⊎◌, ◌∷◌, ◌++◌, List, ℕ, length, map, IfOk, IfErr, OnOk};
+ghost use Rattle.std.specs.Prelude.{◌≡◌, ◌≤◌, ◌<◌, ◌+◌, ◌⊎◌, ◌∷◌, ◌++◌, List, length, map, IfOk, IfErr, OnOk};
 ghost use Rattle.kt_plan.specs.Common.{Filter, item_limit, Candidate, item_of, selected_cases, selection_of, selected_indexes, IsNoMemoryError};
 ghost use Rattle.kt_plan.specs.declared.selection_error.SelectionError.TheVariants as stop;
 
