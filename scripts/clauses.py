@@ -32,9 +32,9 @@ def rejections(path):
 
 def is_cut_at(goal, clause, function):
     """Returns `True` if a goal whose end is cut is of a clause. The rest of its label must begin no other clause of the function."""
-    label = re.search(r"-clause-(\w*)$", goal)
+    label = re.search(r"-clause-?(\w*)$", goal)
     if label is None:
-        return "-clause" not in goal and not goal.endswith(clause)
+        return is_at(goal, clause) or not goal.endswith(clause)
     return [it for it in LABEL.findall(function["text"]) if it.startswith(label[1])] == [clause]
 
 
@@ -51,7 +51,8 @@ def fault(mutant, due, said):
     if not is_there and not any((file or "").startswith(it) for it in folders):
         return f"it is rejected in {file}:{row}, and not in {name}: {text}"
     goal = GOAL.search(text)
-    if not goal or not (is_at(goal[1], clause) or not goal[2] and any(is_cut_at(goal[1], clause, it) for it in own)):
+    is_found = goal and (is_at(goal[1], clause) if goal[2] else any(is_cut_at(goal[1], clause, it) for it in own))
+    if not is_found:
         return f"it is rejected at {goal[1] if goal else text}, and not at {clause} of {name}"
     return None
 
