@@ -9,12 +9,12 @@ abbrev pub is_undefined : Values → List ℕ → List ℕ → Bool
 is_undefined config suite name =
     not (is_some (option_and_then (value_of name) (variables_of suite config.suites)))
 
--- `architecture_of config`: the architecture among the values `config` of a configuration, or
--- `unknown` if it is not defined.
+-- `architecture_of config`: the architecture in the configuration `config`, or `unknown` if the
+-- configuration doesn't define it.
 abbrev pub architecture_of : Values → List ℕ
 architecture_of config = unwrap_or config.architecture (codes "unknown")
 
--- `platform_of config`: the platform among the values `config` of a configuration, or `unknown` if
--- it is not defined.
+-- `platform_of config`: the platform in the configuration `config`, or `unknown` if the
+-- configuration doesn't define it.
 abbrev pub platform_of : Values → List ℕ
 platform_of config = unwrap_or config.platform (codes "unknown")

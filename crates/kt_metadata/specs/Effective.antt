@@ -14,8 +14,9 @@ use Rattle.kt_metadata.specs.Properties.{value_of_text}
 abbrev pub texts_of : List Variable → List ℕ → Option (List ℕ)
 texts_of definitions name = value_of name definitions
 
--- `given texts name`: the value of the property `name`, or nothing if the property isn't set. The
--- function `texts` returns the text to which a property is set, or nothing if it isn't set.
+-- `given texts name`: the value of the property `name`, or nothing if the property isn't set or its
+-- text is invalid. The function `texts` maps the name of a property to the text to which the
+-- property is set, or to nothing.
 abbrev pub given : (List ℕ → Option (List ℕ)) → List ℕ → Option Value
 given texts name = option_and_then (value_of_text name) (texts name)
 
@@ -50,9 +51,9 @@ abbrev pub timeout_in : Option Value → ℕ
 timeout_in (Some (Timeout seconds)) = seconds
 timeout_in other = default_timeout_seconds
 
--- `meta_of texts`: the effective properties of a case: each has the value of its text, or its
--- default. The function `texts` returns the text to which a property is set, or nothing if it isn't
--- set.
+-- `meta_of texts`: the effective properties of a case. Each has the value that its text represents,
+-- or its default if it isn't set. The function `texts` maps the name of a property to the text to
+-- which the property is set, or to nothing.
 abbrev pub meta_of : (List ℕ → Option (List ℕ)) → Meta
 meta_of texts = record {
   allowed_architectures = words_in (given texts (codes "allowed_architectures"));

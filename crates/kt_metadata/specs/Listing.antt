@@ -59,15 +59,15 @@ default_value form.Size = value.Size 0
 default_value form.RequiredUser = value.RequiredUser Any
 default_value form.Timeout = value.Timeout default_timeout_seconds
 
--- `property_text texts r`: the text of the property of the table row `r` in a listing: the text of
--- its value, or of its default if the property isn't set. The function `texts` returns the text to
--- which a property is set, or nothing if it isn't set.
+-- `property_text texts r`: the text that a listing has for the property in the table row `r`. It is
+-- the text of the property's value, or of its default value if the property isn't set. The function
+-- `texts` maps the name of a property to the text to which the property is set, or to nothing.
 abbrev pub property_text : (List ℕ → Option (List ℕ)) → PropertyRow → List ℕ
 property_text texts r = listing_text (unwrap_or (given texts r.name) (default_value r.form)) (unwrap_or (texts r.name) [])
 
--- `property_pair texts r`: the name of the property of the table row `r`, with its text in a
--- listing. The function `texts` returns the text to which a property is set, or nothing if it isn't
--- set.
+-- `property_pair texts r`: the name of the property in the table row `r`, with the text that a
+-- listing has for the property. The function `texts` maps the name of a property to the text to
+-- which the property is set, or to nothing.
 abbrev pub property_pair : (List ℕ → Option (List ℕ)) → PropertyRow → Variable
 property_pair texts r = record { name = r.name; value = property_text texts r }
 
@@ -79,9 +79,9 @@ has_value pair = not (is_empty pair.value)
 abbrev pub is_custom_pair : Variable → Bool
 is_custom_pair pair = is_custom pair.name
 
--- `property_pairs texts rows`: the names of the properties of the table rows `rows` with their
--- texts in a listing, in order. Properties with empty texts are omitted. The function `texts`
--- returns the text to which a property is set, or nothing if it isn't set.
+-- `property_pairs texts rows`: for each property in the table rows `rows`, its name with the text
+-- that a listing has for it, in order. Properties with empty texts are omitted. The function
+-- `texts` maps the name of a property to the text to which the property is set, or to nothing.
 abbrev pub property_pairs : (List ℕ → Option (List ℕ)) → List PropertyRow → List Variable
 property_pairs texts rows = filter has_value (map (property_pair texts) rows)
 
@@ -90,8 +90,10 @@ property_pairs texts rows = filter has_value (map (property_pair texts) rows)
 abbrev pub custom_pairs : List Variable → List Variable
 custom_pairs pairs = filter has_value (filter is_custom_pair pairs)
 
--- `listing definitions`: the listing of the properties that the definitions `definitions` set:
--- names with texts. First come the properties of the table, in the order of the table. The custom
--- properties follow, in the order of their first definitions.
+-- `listing definitions`: the listing of the properties of a program or a case, which has the
+-- definitions `definitions`. The listing has pairs of names and texts. First come the properties of
+-- the table, in its order. An unset property of the table has the text of its default value. The
+-- custom properties that are set follow, in the order of their first definitions. Properties with
+-- empty texts are omitted.
 abbrev pub listing : List Variable → List Variable
 listing definitions = property_pairs (texts_of definitions) table ++ custom_pairs (last_values definitions)

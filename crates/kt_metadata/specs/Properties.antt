@@ -11,18 +11,19 @@ use Rattle.kt_metadata.specs.declared.fault.PropFault.TheVariants.{NoMemory, Unk
 use Rattle.kt_metadata.specs.Words.{words}
 use Rattle.kt_metadata.specs.Values.{truth_of, user_of, size_of, timeout_of, is_not_absolute, is_not_program_name}
 
--- `PropertyRow`: a property with a fixed name: the name, the key in lists of ATF cases, and the
--- form of the values.
+-- `PropertyRow`: a row of the table of properties with fixed names. It has the name of a property,
+-- its key in lists of ATF cases, and the form of its values.
 pub record PropertyRow : Type 0 where
   pub name : List ℕ
   pub key : List ℕ
   pub form : Form
 
--- `row name key f`: the row of the property `name` with the key `key` and values of the form `f`.
+-- `row name key f`: the table row of the property `name` with the key `key` and values of the form
+-- `f`.
 abbrev row : List ℕ → List ℕ → Form → PropertyRow
 row name key f = record { name = name; key = key; form = f }
 
--- `table`: the properties with fixed names, in the order of a listing.
+-- `table`: the rows of the properties with fixed names, in the order of a listing of properties.
 abbrev pub table : List PropertyRow
 table =
     row (codes "allowed_architectures") (codes "require.arch") form.Words
@@ -64,7 +65,7 @@ is_custom name = is_some (non_empty_suffix (codes "custom.") name)
 abbrev pub has_name : List ℕ → PropertyRow → Bool
 has_name name r = bytes_eq name r.name
 
--- `form_of_property name`: the form of the values of the property `name`: any text for a custom
+-- `form_of_property name`: the form of the values of the property `name`. It is `Text` for a custom
 -- property, otherwise the form in the table. Nothing if no property has this name.
 abbrev pub form_of_property : List ℕ → Option Form
 form_of_property name = if is_custom name then Some form.Text else option_map (λ r. r.form) (find (has_name name) table)
@@ -74,8 +75,8 @@ form_of_property name = if is_custom name then Some form.Text else option_map (�
 abbrev pub is_kyuafile_property : List ℕ → Bool
 is_kyuafile_property name = not (bytes_eq name (codes "has_cleanup")) && is_some (form_of_property name)
 
--- `valid_words is_wrong found`: the list value with the elements `found`, or nothing if one of them
--- satisfies the test `is_wrong`.
+-- `valid_words is_wrong found`: the property value that is the list `found`, or nothing if one of
+-- its elements satisfies the test `is_wrong`.
 abbrev pub valid_words : (List ℕ → Bool) → List (List ℕ) → Option Value
 valid_words is_wrong found = if list_any is_wrong found then None else Some (value.Words found)
 

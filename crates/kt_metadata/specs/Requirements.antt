@@ -55,8 +55,8 @@ architecture_reason_text meta config = unsupported_reason_text (codes "Current a
 abbrev pub platform_reason_text : Meta → Values → Option (List ℕ)
 platform_reason_text meta config = unsupported_reason_text (codes "Current platform '") meta.allowed_platforms (platform_of config)
 
--- `user_reason_text user root`: the reason to skip a case because the runner isn't the required
--- user `user`, or nothing if the runner is that user. `root` is true if the runner is root.
+-- `user_reason_text user root`: the reason to skip a case because the test runner doesn't run as
+-- the required user `user`, or nothing if it does. `root` is true if the test runner runs as root.
 abbrev pub user_reason_text : RequiredUser → Bool → Option (List ℕ)
 user_reason_text Root false = Some (codes "Requires root privileges")
 user_reason_text Unprivileged true = Some (codes "Requires an unprivileged user")
@@ -93,8 +93,8 @@ pub record RecordsAsFound (need : Need) (word : List ℕ) (old new : Host) : Typ
   pub memory : new.memory ≡ old.memory
   pub disk : new.disk ≡ old.disk
 
--- `need_text need`: the beginning of the reason to skip a case because an object of the kind `need`
--- is missing.
+-- `need_text need`: the beginning of the message that an object of the kind `need` is missing. The
+-- message is the reason to skip a case.
 abbrev pub need_text : Need → List ℕ
 need_text File = codes "Required file '"
 need_text Program = codes "Required program '"
@@ -105,9 +105,9 @@ need_text Program = codes "Required program '"
 abbrev pub need_reason_text : Need → Meta → Host → Option (List ℕ)
 need_reason_text need meta host = enclosed_text (need_text need) (codes "' not found") (find (λ word. not (is_found need host word)) (needed need meta))
 
--- `amount_reason_text phrase due there`: the reason, with the message `phrase`, to skip a case that
--- requires `due` bytes on a host that has fewer, `there` bytes. Nothing if `there` is enough or
--- unknown.
+-- `amount_reason_text phrase due there`: the reason to skip a case that requires `due` bytes,
+-- because the host has only `there` bytes. The reason has the message `phrase`. Nothing if `there`
+-- is enough or unknown.
 abbrev pub amount_reason_text : Phrase → ℕ → Option ℕ → Option (List ℕ)
 amount_reason_text phrase due None = None
 amount_reason_text phrase due (Some there) =

@@ -9,7 +9,7 @@ use Rattle.kt_base.specs.Utf8.{utf8}
 use Rattle.kt_metadata.specs.declared.value.RequiredUser.{RequiredUser}
 use Rattle.kt_metadata.specs.declared.value.RequiredUser.TheVariants.{Any, Root, Unprivileged}
 
--- `truth_values`: the table from texts to truth values.
+-- `truth_values`: the texts that represent a truth value, each with this value.
 abbrev pub truth_values : List (List ℕ × Bool)
 truth_values = (codes "true", true) ∷ (codes "yes", true) ∷ (codes "false", false) ∷ (codes "no", false) ∷ []
 
@@ -17,7 +17,7 @@ truth_values = (codes "true", true) ∷ (codes "yes", true) ∷ (codes "false", 
 abbrev pub truth_of : List ℕ → Option Bool
 truth_of text = named truth_values text
 
--- `required_users`: the table from texts to required users.
+-- `required_users`: the texts that represent a required user, each with this user.
 abbrev pub required_users : List (List ℕ × RequiredUser)
 required_users = ([], Any) ∷ (codes "root", Root) ∷ (codes "unprivileged", Unprivileged) ∷ []
 
@@ -39,8 +39,8 @@ digits_of text = take (prefix_len is_digit text) text
 abbrev pub after_digits : List ℕ → List ℕ
 after_digits text = drop (prefix_len is_digit text) text
 
--- `unit_of c`: the number of bytes that the unit `c` represents, or nothing if the byte `c` isn't
--- K, M, G or T, in either case.
+-- `unit_of c`: the number of bytes that the unit `c` represents. Nothing if the byte `c` isn't one
+-- of the letters K, M, G and T, upper-case or lower-case.
 abbrev pub unit_of : ℕ → Option ℕ
 unit_of c =
     if c == 75 || c == 107 then Some 1024 else if c == 77 || c == 109 then Some (1024 ^ 2)
@@ -60,8 +60,8 @@ checked_product None factor = None
 checked_product (Some v) None = None
 checked_product (Some v) (Some factor) = fits (v * factor)
 
--- `size_in bytes`: the size in bytes that `bytes` represent: ASCII digits and at most one unit.
--- Nothing if `bytes` aren't a size.
+-- `size_in bytes`: the size, in bytes, that the characters `bytes` represent: ASCII digits, and at
+-- most one unit after them. Nothing if `bytes` aren't a size below 2^64.
 abbrev pub size_in : List ℕ → Option ℕ
 size_in bytes = checked_product (number_of (digits_of bytes)) (factor_of (after_digits bytes))
 
@@ -70,8 +70,8 @@ abbrev pub size_of : List ℕ → Option ℕ
 size_of text = size_in (utf8 text)
 
 -- `timeout_of_number number rest`: the timeout in seconds that the number `number` represents,
--- where 0 is the longest timeout. Nothing if `number` is absent or too large, or if bytes `rest`
--- follow its digits.
+-- where 0 is the longest timeout. Nothing if `number` is absent or above the longest timeout, or if
+-- the bytes `rest` after its digits aren't empty.
 abbrev pub timeout_of_number : Option ℕ → List ℕ → Option ℕ
 timeout_of_number (Some v) [] = if v == 0 then Some longest_timeout_seconds else if nat_le v longest_timeout_seconds then Some v else None
 timeout_of_number (Some v) (c ∷ cs) = None

@@ -8,7 +8,7 @@ use crate::values::{has_invalid_file, has_invalid_program, size, timeout, truth,
 use kt_base::{Items, NoMemory, Text};
 use std::alloc::Global;
 
-/// A form of property values, which determines how a text is parsed and what the default is.
+/// A form of property values: it determines how a text is parsed, and which value is the default.
 #[derive(Clone, Copy)]
 pub enum Form {
     /// A list of elements, which white space separates.
@@ -33,9 +33,9 @@ pub enum Form {
 /// The timeout of a case without a `timeout` property, in seconds.
 pub const DEFAULT_TIMEOUT_SECONDS: u32 = 300;
 
-/// Returns a list value with the elements `words`, or `None` if `wrong` is `true`.
+/// Returns the property value that is the list `words`, or `None` if `wrong` is `true`.
 ///
-/// The caller passes `true` if one of the elements is invalid.
+/// `wrong` is `true` if an element of `words` is invalid for the property.
 fn create_list_value(wrong: bool, words: Items<Text>) -> Option<Value>
     ensures { result ≡ (if wrong then None else Some (Value.Words words)) }
 {
@@ -73,7 +73,7 @@ impl Form {
         }
     }
 
-    /// Returns the default value of a property of this form, for a property that isn't set.
+    /// Returns the value of an unset property whose values have this form.
     ///
     /// Allocates nothing.
     pub fn default_value(self, alloc: Global) -> Value

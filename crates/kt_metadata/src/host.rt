@@ -25,7 +25,10 @@ impl Need {
         &NEEDS
     }
 
-    /// Returns the beginning of the reason to skip a case whose file or program is missing.
+    /// Returns the beginning of the message that an object of this kind is missing.
+    ///
+    /// The message is the reason to skip a case. It begins with `Required file '` or `Required
+    /// program '`.
     pub(crate) fn text(self) -> &'static str
         ensures { chars result.now ≡ need_text self }
     {
@@ -36,10 +39,10 @@ impl Need {
     }
 }
 
-/// A description of the host, by which the requirements of test cases are checked.
+/// A description of the host, against which the requirements of test cases are checked.
 #[derive(Drop)]
 pub struct Host {
-    /// `true` if the runner is root.
+    /// `true` if the test runner runs as root.
     pub root: bool,
     /// The required files that were found, as absolute paths.
     files: BTreeSet<String>,
@@ -60,8 +63,8 @@ impl Host {
 
     /// Creates the description of a host on which no required file or program was found yet.
     ///
-    /// `root` is `true` if the runner is root. `memory` and `disk` are in bytes, or `None` if they
-    /// are unknown. Allocates nothing.
+    /// `root` is `true` if the test runner runs as root. `memory` and `disk` are the physical
+    /// memory and the free disk space in bytes, or `None` if they are unknown. Allocates nothing.
     pub fn new(alloc: Global, root: bool, memory: Option<u64>, disk: Option<u64>) -> Host
         ensures root { result.root ≡ root }
         ensures memory { result.memory ≡ memory }

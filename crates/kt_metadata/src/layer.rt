@@ -11,7 +11,8 @@ use std::marker::Model;
 /// A map from the names of properties to their last definitions, in the order of the first
 /// definitions.
 ///
-/// In contracts, a `Layer` is the list of its names with their texts. Each name occurs once.
+/// In contracts, a `Layer` is the list of the names, each with the text of its last definition.
+/// Each name occurs once.
 #[derive(Drop)]
 pub struct Layer {
     given: IndexMap<String, PropertyDefinition>,
@@ -30,7 +31,7 @@ impl Model for Layer {
 }
 
 impl Layer {
-    /// Creates a layer without definitions.
+    /// Creates a layer that defines no property.
     ///
     /// Allocates nothing.
     pub fn new(alloc: Global) -> Layer
@@ -41,7 +42,7 @@ impl Layer {
         }
     }
 
-    /// Returns the allocator of the layer.
+    /// Returns the allocator with which the layer was created.
     pub fn allocator(&self) -> Global
         // Each name occurs once.
         ensures { self.now ≡ last_values self.now }
@@ -49,7 +50,7 @@ impl Layer {
         *self.given.allocator()
     }
 
-    /// Returns `true` if the layer contains no definition.
+    /// Returns `true` if the layer defines no property.
     pub fn is_empty(&self) -> bool
         ensures { IsTrue result ↔ (self.now ≡ []) }
     {
@@ -87,8 +88,8 @@ impl Layer {
         Ok(())
     }
 
-    /// Sets each definition of `more` in the layer, in place of an earlier definition of its
-    /// property.
+    /// Copies each definition of `more` into the layer, where it replaces an earlier definition of
+    /// the same property.
     ///
     /// # Errors
     ///
@@ -103,7 +104,7 @@ impl Layer {
         Ok(())
     }
 
-    /// Appends the layer's custom properties with their texts to `pairs`.
+    /// Appends the names of the layer's custom properties, with their texts, to `pairs`.
     ///
     /// Properties with empty texts are omitted.
     ///

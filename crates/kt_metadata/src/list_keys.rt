@@ -14,7 +14,10 @@ fn create_custom_name(alloc: Global, part: &str) -> Result<Text, NoMemory>
     Ok(name)
 }
 
-/// Returns the name `custom.NAME` for the key `X-NAME`, or `None` if `key` has another form.
+/// Returns the property name `custom.NAME` if `key` is `X-NAME`, or `None` if `key` has another
+/// form.
+///
+/// `key` is a key in a list of ATF cases. `NAME` has at least one character.
 fn parse_custom_key(alloc: Global, key: &Text) -> Result<Option<Text>, NoMemory>
     ensures { IfOk result (λ found. found
         ≡ option_map (λ part. codes "custom." ++ part) (non_empty_suffix (codes "X-") key.now)) }

@@ -70,7 +70,7 @@ impl Props {
     ghost use Rattle.std.specs.Prelude.{◌≡◌, ◌≤◌, [], List, IfOk, chars, unwrap_or};
     ghost use Rattle.kt_metadata.specs.Common.{Variable, last_values, longest_timeout_seconds, texts_of, given, words_in, truth_in, size_in, user_in, timeout_in, effective, needed};
 
-    /// Returns the list to which the property `name` is set, or an empty list if it isn't set.
+    /// Returns the value of the list property `name`, or an empty list if the property isn't set.
     fn listed(&self, name: &str) -> &[Text]
         ensures { result.now ≡ words_in (given (texts_of self.now) (chars name.now)) }
     {
@@ -80,7 +80,8 @@ impl Props {
         }
     }
 
-    /// Copies the list to which the property `name` is set. The copy is empty if it isn't set.
+    /// Copies the value of the list property `name`, or creates an empty list if the property isn't
+    /// set.
     fn words(&self, name: &str) -> Result<Items<Text>, NoMemory>
         ensures { IfOk result (λ found. found
             ≡ words_in (given (texts_of self.now) (chars name.now))) }
@@ -88,7 +89,7 @@ impl Props {
         copy_words(self.allocator(), self.listed(name))
     }
 
-    /// Copies the text of the property `name`. The copy is empty if the property isn't set.
+    /// Copies the text of the property `name`, or creates an empty text if the property isn't set.
     fn description(&self, name: &str) -> Result<Text, NoMemory>
         ensures { IfOk result (λ text. text ≡ unwrap_or (texts_of self.now (chars name.now)) []) }
     {
@@ -98,7 +99,7 @@ impl Props {
         }
     }
 
-    /// Returns the truth value of the property `name`, or `false` if the property isn't set.
+    /// Returns the value of the Boolean property `name`, or `false` if the property isn't set.
     fn truth(&self, name: &str) -> bool
         ensures { result ≡ truth_in (given (texts_of self.now) (chars name.now)) }
     {
@@ -108,7 +109,8 @@ impl Props {
         }
     }
 
-    /// Returns the size that the property `name` sets, in bytes, or 0 if it isn't set.
+    /// Returns the size in bytes that is the value of the property `name`, or 0 if the property
+    /// isn't set.
     fn size(&self, name: &str) -> u64
         ensures { result ≡ size_in (given (texts_of self.now) (chars name.now)) }
     {
@@ -118,7 +120,7 @@ impl Props {
         }
     }
 
-    /// Returns the required user that the property `name` sets, or `Any` if it isn't set.
+    /// Returns the user that the property `name` requires, or `Any` if the property isn't set.
     fn user(&self, name: &str) -> RequiredUser
         ensures { result ≡ user_in (given (texts_of self.now) (chars name.now)) }
     {
@@ -128,7 +130,8 @@ impl Props {
         }
     }
 
-    /// Returns the timeout that the property `name` sets, in seconds, or 300 if it isn't set.
+    /// Returns the timeout in seconds that is the value of the property `name`, or 300 if the
+    /// property isn't set.
     fn timeout(&self, name: &str) -> u32
         ensures { result ≡ timeout_in (given (texts_of self.now) (chars name.now)) }
     {

@@ -11,11 +11,11 @@ use std::alloc::Global;
 use std::marker::Model;
 use std::rc::Rc;
 
-/// A set of properties of a program or a test case, with their values.
+/// A set of properties of a test program or a test case, with their values.
 ///
-/// In contracts, a `Props` is the list of the last values of the accepted definitions, in the order
-/// of the first definitions. Overlays over properties from [`Props::shared`] share the memory of
-/// these properties.
+/// In contracts, a `Props` is the list of the properties' names, each with the text to which the
+/// property was last set. The order is that in which the properties were first set. All overlays
+/// over one result of [`Props::shared`] share its memory.
 pub struct Props {
     program: Option<Rc<SharedLayer>>,
     own: Layer,
@@ -64,7 +64,7 @@ impl Props {
         }
     }
 
-    /// Returns the allocator of the properties.
+    /// Returns the allocator with which the properties were created.
     pub(crate) fn allocator(&self) -> Global
         // Each name has one value.
         ensures { self.now ≡ last_values self.now }
@@ -157,7 +157,9 @@ impl Props {
         }
     }
 
-    /// Creates one layer from copies of all properties, those of the program and those of the case.
+    /// Creates one layer with copies of the properties of the program and of the case.
+    ///
+    /// A definition of the case takes precedence over a definition of its program.
     ///
     /// # Errors
     ///
@@ -170,7 +172,7 @@ impl Props {
         Ok(layer)
     }
 
-    /// Creates the listing of the properties. Copies of the listing share its memory.
+    /// Creates the listing of the properties in memory that copies of the listing share.
     fn create_shared_listing(&self) -> Result<Variables, NoMemory>
         ensures { IfOk result (λ pairs. pairs ≡ listing self.now) }
     {
@@ -178,7 +180,7 @@ impl Props {
         pairs.into_shared()
     }
 
-    /// Creates a shared layer that contains copies of all properties, with their listing.
+    /// Creates a shared layer from copies of all properties, together with their listing.
     fn shared_layer(&self) -> Result<SharedLayer, NoMemory>
         ensures { IfOk result (λ layer. layer ≡ self.now) }
     {
@@ -187,10 +189,11 @@ impl Props {
         Ok(SharedLayer::new(layer, pairs))
     }
 
-    /// Copies the properties, so that all overlays over the copy share its memory.
+    /// Copies the properties into memory that the properties of several test cases can share.
     ///
-    /// The call also computes the listing of the properties. If an overlay adds no property,
-    /// [`Props::listing`] shares the memory of this listing.
+    /// [`Props::overlay`] over the copy doesn't copy these properties again. The call also computes
+    /// the listing of the properties. If an overlay adds no property, [`Props::listing`] shares the
+    /// memory of this listing.
     ///
     /// # Errors
     ///
@@ -230,9 +233,11 @@ impl Props {
 }
 
 impl Props {
-    /// Returns the text of the property of the table row `row` in a listing of properties.
+    /// Returns the text that a listing of the properties has for the property in the table row
+    /// `row`.
     ///
-    /// A property that isn't set has the text of its default value.
+    /// The text represents the value of the property, or its default value if the property isn't
+    /// set.
     fn listing_text(&self, row: &PropertyRow) -> Result<Text, NoMemory>
         ensures { IfOk result (λ text. text ≡ property_text (texts_of self.now) (row_in row.now)) }
     {
@@ -243,9 +248,11 @@ impl Props {
         }
     }
 
-    /// Appends the properties of the table rows `rows`, with their texts in a listing, to `pairs`.
+    /// Appends a pair of name and text to `pairs` for each property in `rows`, rows of
+    /// `PROPERTY_TABLE`.
     ///
-    /// Properties with empty texts are omitted.
+    /// The text represents the value of the property, or its default value if the property isn't
+    /// set. A property with an empty text is omitted.
     fn add_table_properties(
         &self,
         pairs: &mut Variables,
@@ -261,7 +268,7 @@ impl Props {
         Ok(())
     }
 
-    /// Appends the custom properties with their texts to `pairs`.
+    /// Appends the names of the custom properties, with their texts, to `pairs`.
     ///
     /// Properties with empty texts are omitted.
     fn add_custom_properties(&self, pairs: &mut Variables) -> Result<(), NoMemory>
@@ -271,7 +278,9 @@ impl Props {
         all.add_custom_properties(pairs)
     }
 
-    /// Creates a listing of the properties in newly allocated memory.
+    /// Creates a listing of the properties: names with the texts of their effective values.
+    ///
+    /// The listing is in newly allocated memory.
     fn create_listing(&self) -> Result<Variables, NoMemory>
         ensures { IfOk result (λ pairs. pairs ≡ listing self.now) }
     {
@@ -285,8 +294,9 @@ impl Props {
     ///
     /// The properties with fixed names come first, in alphabetical order. The custom properties
     /// follow in the order of their first definitions. The elements of a list are joined by one
-    /// space, and numbers are decimal. A property with an empty text is omitted. If an overlay adds
-    /// no property to [`Props::shared`] properties, the result shares the memory of their listing.
+    /// space, and numbers are decimal. A property with an empty text is omitted. For an overlay
+    /// that adds no property to the result of [`Props::shared`], the listing shares the memory of
+    /// the listing of that result.
     ///
     /// # Errors
     ///

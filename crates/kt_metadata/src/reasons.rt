@@ -25,9 +25,10 @@ fn first_undefined_name<'a>(words: &'a [Text], config: &Config, suite: &Text) ->
     words.iter().find(|word| is_undefined(config, suite, *word))
 }
 
-/// Returns the first required object of the kind `need` in `meta` that wasn't found on `host`.
+/// Returns the first object of the kind `need` that a case requires and that wasn't found on
+/// `host`.
 ///
-/// Returns `None` if all such objects were found.
+/// `meta` are the properties of the case. Returns `None` if all such objects were found.
 fn first_missing_object<'a>(need: Need, meta: &'a Meta, host: &Host) -> Option<&'a Text>
     ensures { option_copied result
         ≡ find (λ word. not (is_found need host.now word)) (needed need meta.now) }
@@ -36,7 +37,7 @@ fn first_missing_object<'a>(need: Need, meta: &'a Meta, host: &Host) -> Option<&
     words.iter().find(|word| !host.has(need, *word))
 }
 
-/// Returns `true` if one of the elements `words` is `word`.
+/// Returns `true` if the list `words` contains the element `word`.
 fn contains_element(words: &[Text], word: &str) -> bool
     ensures { result ≡ list_any (λ w. bytes_eq w (chars word.now)) words.now }
 {
@@ -117,9 +118,10 @@ pub fn unsupported_reason(
     Ok(Some(reason))
 }
 
-/// Returns the reason to skip a case if the runner isn't the required user `user`, else `None`.
+/// Returns the reason to skip a case if the test runner doesn't run as the required user `user`.
 ///
-/// `root` is `true` if the runner is root.
+/// `root` is `true` if the test runner runs as root. Returns `None` if it runs as the required
+/// user.
 pub fn user_reason(user: RequiredUser, root: bool) -> Option<Reason>
     ensures { text_in result ≡ user_reason_text user root }
 {

@@ -7,7 +7,8 @@ use std::marker::Model;
 
 /// A layer of a program's properties, and the listing of the layer. The program's cases share both.
 ///
-/// In contracts, a `SharedLayer` is the list of its names with their texts. Each name occurs once.
+/// In contracts, a `SharedLayer` is the list of the properties' names, each with the text of its
+/// last definition. Each name occurs once.
 #[derive(Drop)]
 pub struct SharedLayer {
     layer: Layer,

@@ -25,12 +25,12 @@ fn push_non_empty(words: &mut Items<Text>, word: Text) -> Result<(), NoMemory>
     words.push(word)
 }
 
-/// Processes `c`, the next character of a text that is split into elements.
+/// Appends `c`, the next character of a text, to the element `word`, or ends the element if `c` is
+/// white space.
 ///
-/// `word` is the part of the current element before `c`.
-///
-/// Returns `word` with `c` appended. If `c` is white space, the element ends: the call appends
-/// `word` to `words`, unless `word` is empty, and returns an empty text.
+/// `word` is the part of the current element before `c`. Returns the part of the current element up
+/// to `c`. If `c` is white space, the call appends `word` to `words`, unless `word` is empty, and
+/// returns an empty text.
 fn process_char(
     alloc: Global,
     words: &mut Items<Text>,
@@ -66,7 +66,9 @@ pub fn words(alloc: Global, text: &Text) -> Result<Items<Text>, NoMemory>
     Ok(found)
 }
 
-/// Theorem: by the rule `AreWords`, each text has exactly one list of elements, `words text`.
+/// Theorem: by the rule `AreWords`, each text has exactly one list of elements.
+///
+/// The definition `words` returns this list.
 pub fn theorem_of_words()
     ensures words { (text : List ℕ) → AreWords text (words text) }
     ensures only { (text : List ℕ) → (found : List (List ℕ)) → AreWords text found
@@ -125,7 +127,8 @@ fn number(digits: &[u8]) -> Option<u64>
 
 /// Returns the number of bytes that the unit `c` represents, or `None` if `c` isn't a unit.
 ///
-/// The units are K (1024), M (1024^2), G (1024^3) and T (1024^4), in either case.
+/// The units are K (1024), M (1024^2), G (1024^3) and T (1024^4), as upper-case or lower-case
+/// letters.
 fn unit_bytes(c: u8) -> Option<u64>
     ensures { result ≡ unit_of c }
 {
@@ -171,10 +174,11 @@ pub fn size(text: &[u8]) -> Option<u64>
     checked_product(number(&text[..length]), factor(&text[length..]))
 }
 
-/// Converts `number` to a timeout in seconds. `rest` are the bytes after the number's digits.
+/// Converts `number` to a timeout in seconds, or returns `None` if it isn't a timeout.
 ///
-/// The number 0 represents the longest timeout, 1,000,000 seconds. Returns `None` if `number` is
-/// `None` or above 1,000,000, or if `rest` isn't empty.
+/// `rest` are the bytes after the number's digits. The number 0 represents the longest timeout,
+/// 1,000,000 seconds. Returns `None` if `number` is `None` or above 1,000,000, or if `rest` isn't
+/// empty.
 fn timeout_of_number(number: Option<u64>, rest: &[u8]) -> Option<u32>
     ensures { result ≡ timeout_of_number number rest.now }
 {
@@ -191,9 +195,9 @@ fn timeout_of_number(number: Option<u64>, rest: &[u8]) -> Option<u32>
     }
 }
 
-/// Parses `text` as a timeout in seconds, 0 to 1,000,000. Returns `None` for another text.
+/// Parses `text` as a timeout in seconds, 0 to 1,000,000.
 ///
-/// The number 0 represents the longest timeout, 1,000,000 seconds.
+/// The number 0 represents the longest timeout, 1,000,000 seconds. Returns `None` for another text.
 pub fn timeout(text: &[u8]) -> Option<u32>
     ensures { result ≡ timeout_in text.now }
 {
@@ -215,7 +219,7 @@ fn is_not_program_name(word: &Text) -> bool
     !is_absolute(word.as_str()) && has_slash(word.as_str())
 }
 
-/// Returns `true` if one of `words` isn't an absolute path.
+/// Returns `true` if one of the elements `words` isn't an absolute path.
 ///
 /// Such an element can't name a required file.
 pub fn has_invalid_file(words: &[Text]) -> bool
@@ -224,7 +228,7 @@ pub fn has_invalid_file(words: &[Text]) -> bool
     words.iter().any(|word| is_not_absolute(word))
 }
 
-/// Returns `true` if one of `words` is a relative path with a slash.
+/// Returns `true` if one of the elements `words` is a relative path with a slash.
 ///
 /// Such an element can't name a required program.
 pub fn has_invalid_program(words: &[Text]) -> bool
