@@ -1,4 +1,4 @@
--- Cases and their properties, from blocks.
+-- Test cases and their properties, from the blocks of a list.
 use Rattle.std.specs.Prelude.{ℕ, Bool, not, List, [], ◌∷◌, ◌++◌, bytes_eq, None, is_some}
 use Rattle.std.specs.List.{list_any}
 use Rattle.kt_base.specs.LastValues.{is_named}

@@ -19,8 +19,8 @@ overlaid_case props case = record { name = case.name; props = last_values (props
 abbrev pub main_case : CaseDef
 main_case = empty_case (codes "main")
 
--- `list_case reason`: the only case of a program whose list can't be used, with the reason `reason`
--- as its fault.
+-- `list_case reason`: the only case of an ATF program whose list of test cases can't be used. Its
+-- fault is the reason `reason`.
 abbrev pub list_case : Reason → CaseDef
 list_case reason = record { name = codes "__test_cases_list__"; props = []; fault = Some reason }
 

@@ -28,8 +28,9 @@ list_failure_reason WaitFailed = Some (Fixed ListNotWaitedFor)
 list_failure_reason (Exited code) = if code == 0 then None else Some (Ended NoList (Exited code))
 list_failure_reason (Signaled signal core) = Some (Ended NoList (Signaled signal core))
 
--- `fault_phrase cause`: the fixed message in a reason for a list's fault with the cause `cause`. A
--- failed allocation has no such message and remains an error.
+-- `fault_phrase cause`: the message of a list's fault with the cause `cause`, without the number of
+-- the line. If the cause is a failed allocation, there is no message, and the result is the error
+-- `NoMemory`.
 abbrev pub fault_phrase : ListCause → Result Phrase NoMemory
 fault_phrase (cause.NoMemory refusal) = Err refusal
 fault_phrase BadHeader = Ok ListBadHeader
@@ -42,14 +43,14 @@ fault_phrase BadValue = Ok ListBadValue
 fault_phrase EmptyList = Ok ListEmpty
 fault_phrase NotUtf8 = Ok ListNotUtf8
 
--- `IsParsedList text found`: the result of parsing the bytes `text` as a list is `found`: the cases
--- of the list, or the reason why `text` isn't a list.
+-- `IsParsedList text found`: `found` is the result of parsing the bytes `text` as a list of test
+-- cases. It has the cases of the list, or is the reason why `text` isn't a list.
 pub data IsParsedList (text : List ℕ) : Result (List CaseDef) Reason → Type 0 where
   no_list : (fault : ListFault) (phrase : Phrase) → HasFault text fault → fault_phrase fault.cause ≡ Ok phrase → IsParsedList text (Err (Counted phrase fault.line 0))
   listed : (cases : List CaseDef) → IsListText text cases → IsParsedList text (Ok cases)
 
--- `IsListingResult listing found`: the result of the listing `listing` of a program is `found`: the
--- listed cases, or the reason why the listing can't be used.
+-- `IsListingResult listing found`: `found` has the test cases in the listing `listing` of a
+-- program, or is the reason why the listing can't be used.
 pub data IsListingResult : Listing → Result (List CaseDef) Reason → Type 0 where
   unstarted : (refused : Refused) → IsListingResult (listing.Refused refused) (Err (refused_reason refused))
   unlisted : (outcome : Outcome) (bytes : ListBytes) (reason : Reason) → list_failure_reason outcome ≡ Some reason → IsListingResult (listing.Ended outcome bytes) (Err reason)

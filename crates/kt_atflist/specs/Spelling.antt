@@ -17,11 +17,11 @@ use Rattle.kt_atflist.specs.declared.list_fault.ListFault.{ListFault}
 use Rattle.kt_atflist.specs.declared.listing.CaseDef.{CaseDef}
 use Rattle.kt_atflist.specs.Read.{Read}
 
--- `Outcome`: the result of parsing a list: the cases of the list, or its fault.
+-- `Outcome`: the result of parsing a list: the cases of the list, or its first fault.
 abbrev pub Outcome : Type 0
 Outcome = Result (List CaseDef) ListFault
 
--- `header`: the first line of each list, without its newline.
+-- `header`: the first line of each list of test cases, without its newline.
 abbrev pub header : List ℕ
 header = codes "Content-Type: application/X-atf-tp; version=\"1\""
 
@@ -44,8 +44,8 @@ pub data IsNextState (cases : List CaseDef) (line : List ℕ) : Option CaseDef �
   ends : (block : CaseDef) → is_empty line ≡ true → IsNextState cases line (Some block) (record { cases = cases ++ block ∷ []; block = None })
 
 -- `IsBlockSequence cases block lines all`: the lines `lines` are valid, and a list that ends with
--- them has the cases `all`. Before them, the finished blocks have the cases `cases`, and `block` is
--- the block that has begun, or nothing between two blocks.
+-- these lines has the cases `all`. Before the lines, the finished blocks have the cases `cases`,
+-- and `block` is the block that has begun, or nothing between two blocks.
 pub data IsBlockSequence : List CaseDef → Option CaseDef → List (List ℕ) → List CaseDef → Type 0 where
   no_block : (cases : List CaseDef) → IsBlockSequence cases None [] cases
   last_block : (cases : List CaseDef) (block : CaseDef) → IsBlockSequence cases (Some block) [] (cases ++ block ∷ [])
@@ -105,8 +105,9 @@ pub data IsFaultyLine (cases : List CaseDef) (line : List ℕ) : Option CaseDef 
       → IsFaultyLine cases line (Some block) cause
 
 -- `HasFirstFault n cases block lines fault`: one of the lines `lines` is faulty, and `fault` is the
--- fault of the first such line. The number of the first line is `n`. Before it, the finished blocks
--- have the cases `cases`, and `block` is the block that has begun, or nothing between two blocks.
+-- fault of the first faulty line. The first of `lines` has the number `n`. Before this line, the
+-- finished blocks have the cases `cases`, and `block` is the block that has begun, or nothing
+-- between two blocks.
 pub data HasFirstFault : ℕ → List CaseDef → Option CaseDef → List (List ℕ) → ListFault → Type 0 where
   here : (n : ℕ) (cases : List CaseDef) (block : Option CaseDef) (first : List ℕ) (rest : List (List ℕ)) (cause : ListCause)
       → IsFaultyLine cases first block cause → HasFirstFault n cases block (first ∷ rest) (fault_at cause n)

@@ -8,7 +8,8 @@ use kt_metadata::{PropFault, Props};
 use std::alloc::Global;
 use std::marker::Model;
 
-/// A block of a list of test cases, up to the last line read: one case with its properties so far.
+/// A block of a list of test cases: the name of one case, and its properties in the lines read so
+/// far.
 ///
 /// In contracts, a `Block` is the test case, without a fault.
 #[derive(Drop)]
@@ -31,7 +32,7 @@ impl Model for Block {
 }
 
 impl Block {
-    /// Creates a block for the case `name`, without properties.
+    /// Creates the block of the case `name` in a list of test cases, without properties.
     ///
     /// Allocates nothing.
     pub fn new(alloc: Global, name: Text) -> Block
@@ -50,7 +51,9 @@ impl Block {
         self.props.get(name).is_some()
     }
 
-    /// Sets the property `name` to `value`. The caller checks that the property is not set yet.
+    /// Sets the property `name` of the block's case to `value`.
+    ///
+    /// The caller checks that the property is not set yet.
     ///
     /// # Errors
     ///

@@ -25,7 +25,8 @@ fn list_failure_reason(outcome: Outcome) -> Option<Reason>
     }
 }
 
-/// Parses `text` as a list and returns its cases, or the reason why `text` isn't a list.
+/// Parses `text` as a list of test cases, and returns the cases, or the reason why `text` isn't a
+/// list.
 fn parse_list_bytes(alloc: Global, text: &Bytes) -> Result<Result<Items<CaseDef>, Reason>, NoMemory>
     ensures { IfOk result (λ found. IsParsedList text.now found) }
 {
@@ -38,7 +39,7 @@ fn parse_list_bytes(alloc: Global, text: &Bytes) -> Result<Result<Items<CaseDef>
     }
 }
 
-/// Returns the cases in the listing `listing`, or the reason why the listing can't be used.
+/// Returns the test cases in `listing`, or the reason why the listing can't be used.
 ///
 /// # Errors
 ///

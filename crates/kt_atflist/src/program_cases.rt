@@ -12,7 +12,7 @@ use std::alloc::Global;
 /// The name of the only case of a TAP or plain program.
 const MAIN_CASE_NAME: &str = "main";
 
-/// The name of the only case of a program whose list can't be used.
+/// The name of the only case of an ATF program whose list of test cases can't be used.
 const LIST_CASE_NAME: &str = "__test_cases_list__";
 
 /// Appends `case` to `cases`, with the properties `props` of its program added.
@@ -62,9 +62,9 @@ fn share_and_overlay(
     overlay_cases(alloc, &shared, found)
 }
 
-/// Creates a list of one case, with the name `name` and the fault `fault`.
+/// Creates a list of one test case, with the name `name` and the properties `props` of its program.
 ///
-/// The case has the properties `props` of its program.
+/// `fault` is the reason why the program's list of test cases can't be used, or `None`.
 fn single_case_list(
     alloc: Global,
     name: &str,
@@ -84,7 +84,7 @@ fn single_case_list(
     Ok(cases)
 }
 
-/// Returns the cases of the ATF program with the properties `props` and the listing `listing`.
+/// Returns the test cases of an ATF program with the properties `props` and the listing `listing`.
 ///
 /// If the listing can't be used, the program has the one case `__test_cases_list__`.
 fn listed(alloc: Global, props: &Props, listing: &Listing) -> Result<Items<CaseDef>, NoMemory>
@@ -125,10 +125,10 @@ pub fn cases(
     }
 }
 
-/// Theorem: the text of a list has at most one result of parsing, and a program at most one list of
-/// cases.
+/// Theorem: a text has at most one result when it is parsed as a list of test cases.
 ///
-/// The result of parsing consists of the cases of the list, or is the first fault of the text.
+/// The result is the cases of the list, or the first fault of the text. A program with given
+/// properties, interface and listing has at most one list of cases.
 pub fn theorem_of_one_case_list()
     ensures text { (text : List ℕ) → (first : Result (List CaseDef) ListFault)
         → (second : Result (List CaseDef) ListFault) → IsResult text first → IsResult text second

@@ -10,15 +10,15 @@ use std::marker::Model;
 
 /// A state of the reader of a list of test cases, between two lines of the list.
 ///
-/// In contracts, a `ListReader` is a `Read`: the cases of the finished blocks, and the block that
-/// has begun, if any.
+/// In contracts, a `ListReader` is the record `Read`: the cases of the finished blocks, and the
+/// block that has begun, if any.
 #[derive(Drop)]
 pub struct ListReader {
-    /// The cases of the finished blocks.
+    /// The test cases whose blocks in the list are finished, in order.
     pub cases: Items<CaseDef>,
-    /// The names of `cases`, and the name of `block` if it is `Some`.
+    /// The names of the cases in `cases`, and of the case of `block` if it is `Some`.
     pub names: NameSet,
-    /// The block that has begun and is not finished, or `None` between two blocks.
+    /// The block of the list that has begun and is not finished, or `None` between two blocks.
     pub block: Option<Block>,
 }
 

@@ -14,7 +14,7 @@ use kt_base::{Items, NoMemory, Text, lossy};
 use kt_metadata::{PropFault, property_name_of_key};
 use std::alloc::Global;
 
-/// Begins a block for the case `name`, and returns the state of the reader after the block's first
+/// Begins the block of the case `name`, and returns the reader's state after the block's first
 /// line.
 ///
 /// `cases` are the cases of the earlier blocks, and `names` are their names. Returns the fault
@@ -57,10 +57,10 @@ fn parse_case_name(alloc: Global, line: &[u8]) -> Result<Result<Text, ListCause>
     }
 }
 
-/// Processes `line`, the first line of a block.
+/// Parses `line`, the first line of a block, and returns the reader's state after the line.
 ///
-/// `cases` are the cases of the earlier blocks, and `names` are their names. Returns the state
-/// after the line, or the cause of the fault in the line.
+/// `cases` are the cases of the earlier blocks, and `names` are their names. If the line is faulty,
+/// returns the cause of the fault instead.
 fn read_first_line(
     alloc: Global,
     cases: Items<CaseDef>,
@@ -77,10 +77,11 @@ fn read_first_line(
     }
 }
 
-/// Sets the property `name` of `block` to `value`. Returns `true` if the property accepts `value`.
+/// Sets the property `name` of `block` to `value`, and returns `true` if the property accepts
+/// `value`.
 ///
-/// If the property does not accept `value`, `block` is unchanged. The caller checks that the
-/// property is not set yet.
+/// Returns `false` and leaves `block` unchanged if the property does not accept `value`, or if no
+/// property has this name. The caller checks that the property is not set yet.
 fn try_set(block: &mut Block, name: &Text, value: &Text) -> Result<bool, NoMemory>
     requires { has_property block.old.props name.now ≡ false }
     ensures good { IfOk result (λ good. good ≡ is_valid_property name.now value.now) }
@@ -95,10 +96,12 @@ fn try_set(block: &mut Block, name: &Text, value: &Text) -> Result<bool, NoMemor
     }
 }
 
-/// Sets the property `name` of `block` to `value`.
+/// Sets the property `name` of `block` to `value`, and returns the cause of the line's fault, if
+/// any.
 ///
-/// Returns the cause of the fault, or `None` if there is no fault. If `name` is `None`, no property
-/// has the key of the line, and the cause is `UnknownKey`.
+/// The cause is `UnknownKey` if `name` is `None`, since no property has the key of the line. It is
+/// `RepeatedKey` if the property is already set, and `BadValue` if the property does not accept
+/// `value`.
 fn set_property(
     block: &mut Block,
     name: &Option<Text>,
@@ -122,9 +125,10 @@ fn set_property(
     }
 }
 
-/// Sets the property of `block` whose key in a list is `key` to `value`.
+/// Sets the property of `block` that has the key `key` in a list of test cases to `value`.
 ///
-/// Returns the cause of the fault, or `None` if there is no fault.
+/// Returns the cause of the line's fault, or `None` if the line has no fault. The key `ident` is a
+/// fault, since only the first line of a block has this key.
 fn set_key(
     alloc: Global,
     block: &mut Block,
@@ -142,9 +146,9 @@ fn set_key(
     set_property(block, &name, value)
 }
 
-/// Decodes `key` and `value` as UTF-8, and sets the property of `block` with the decoded key.
+/// Decodes `key` and `value` as UTF-8, and sets the property of `block` with this key to the value.
 ///
-/// Returns the cause of the fault, or `None` if there is no fault.
+/// Returns the cause of the line's fault, or `None` if the line has no fault.
 fn decode_and_set(
     alloc: Global,
     block: &mut Block,
@@ -185,10 +189,10 @@ fn set_from_line(
     }
 }
 
-/// Processes `line`, a line of `block` that sets a property.
+/// Parses `line`, a line of `block` that sets a property, and returns the reader's state after it.
 ///
-/// `cases` are the cases of the earlier blocks. `names` are the names of these cases and of
-/// `block`. Returns the state after the line, or the cause of the fault in the line.
+/// `cases` are the cases of the earlier blocks. `names` are the names of these cases and of the
+/// case of `block`. If the line is faulty, returns the cause of the fault instead.
 fn property_line_step(
     alloc: Global,
     cases: Items<CaseDef>,
@@ -218,10 +222,11 @@ fn append_block(mut cases: Items<CaseDef>, block: Block) -> Result<Items<CaseDef
     Ok(cases)
 }
 
-/// Processes `line`, a line of `block` after its first line. An empty line ends the block.
+/// Parses `line`, a line of `block` after its first line, and returns the reader's state after it.
 ///
-/// `cases` are the cases of the earlier blocks. `names` are the names of these cases and of
-/// `block`. Returns the state after the line, or the cause of the fault in the line.
+/// An empty line ends the block. `cases` are the cases of the earlier blocks. `names` are the names
+/// of these cases and of the case of `block`. If the line is faulty, returns the cause of the fault
+/// instead.
 fn later_line_step(
     alloc: Global,
     cases: Items<CaseDef>,
@@ -243,9 +248,11 @@ fn later_line_step(
     }))
 }
 
-/// Processes `line`, a line of a list from line 3 on, in the state `reading` of the reader.
+/// Parses `line`, a line of a list of test cases from line 3 on, and returns the reader's next
+/// state.
 ///
-/// Returns the state after the line, or the cause of the fault in the line.
+/// `reading` is the state before the line. If the line is faulty, returns the cause of the fault
+/// instead.
 ///
 /// # Errors
 ///
@@ -264,7 +271,7 @@ pub fn step(alloc: Global, reading: ListReader, line: &[u8]) -> Result<ListStep,
     }
 }
 
-/// Returns the cases of a list that ends in the state `reading` of the reader.
+/// Returns the test cases of a list that ends in the state `reading` of its reader.
 ///
 /// The end of the list finishes a block that has begun.
 ///

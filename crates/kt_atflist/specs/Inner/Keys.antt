@@ -12,8 +12,8 @@ characters key = chars (string_bytes key)
 abbrev pub name_of : CaseDef → List ℕ
 name_of case = case.name
 
--- `names_of cases block`: the names of the cases `cases`, followed by the name of the block `block`
--- if it is present.
+-- `names_of cases block`: the names of the cases `cases`, followed by the name of the case of the
+-- block `block` if the block is present.
 abbrev pub names_of : List CaseDef → Option CaseDef → List (List ℕ)
 names_of cases None = map name_of cases
 names_of cases (Some case) = map name_of cases ++ case.name ∷ []
