@@ -8,7 +8,7 @@ use Rattle.kt_suite.specs.declared.call.Call.TheVariants as call
 use Rattle.kt_suite.specs.declared.table.Key.{Key}
 use Rattle.kt_suite.specs.declared.table.Key.TheVariants as key
 
--- `calls`: the names of the calls of a Kyuafile, each with its kind.
+-- `calls`: the names of the functions that a Kyuafile may call, each with the kind of the call.
 abbrev pub calls : List (List ℕ × Call)
 calls =
     (codes "syntax", call.Syntax)
@@ -23,8 +23,8 @@ calls =
 abbrev pub call_named : List ℕ → Call
 call_named name = unwrap_or (named calls name) call.Unknown
 
--- `key_named name`: the kind of the key `name` in the table of a call that registers a program, or
--- `Unknown` if such a table may not have this key.
+-- `key_named name`: the kind of the key `name` in the table of a call that registers a program. It
+-- is `Unknown` if such a table may not have this key.
 abbrev pub key_named : List ℕ → Key
 key_named name =
     if bytes_eq name (codes "name") then key.Name

@@ -1,4 +1,4 @@
--- Filters that both match some case.
+-- Filters that match a common test case.
 use Rattle.std.specs.Prelude.{ℕ, ◌≡◌, ◌<◌, Bool, ◌&&◌, ◌||◌, IsTrue, List, Option, Some, None, take, find, slice_get, option_map, option_and_then, bytes_eq, if◌then◌else◌}
 use Rattle.std.specs.Option.{option_eq}
 use Rattle.kt_suite.specs.Types.{Filter, FilterFault}
@@ -21,8 +21,8 @@ parts_cover program (Some own) other = bytes_eq program other.program && option_
 abbrev pub covers : Filter → Filter → Bool
 covers filter other = parts_cover filter.program filter.case_name other
 
--- `do_overlap filter other`: the filter `filter` matches each test case of the filter `other`, or
--- `other` matches each test case of `filter`.
+-- `do_overlap filter other`: the filter `filter` matches each test case that the filter `other`
+-- matches, or conversely.
 abbrev pub do_overlap : Filter → Filter → Bool
 do_overlap filter other = covers filter other || covers other filter
 
@@ -36,18 +36,19 @@ abbrev pub clash : ℕ → Filter → Filter → FilterFault
 clash position filter earlier = if is_same_filter filter earlier then Repeated position else NotDisjoint position
 
 -- `overlap_fault filters position`: the error of the filter at the position `position` in the list
--- `filters`, or `None` if it overlaps with no earlier filter. The first earlier filter with which
--- it overlaps decides the error.
+-- `filters`, or `None` if this filter overlaps with no earlier filter. Two filters overlap if both
+-- match some test case. The error depends on the first earlier filter that overlaps with this
+-- filter.
 abbrev pub overlap_fault : List Filter → ℕ → Option FilterFault
 overlap_fault filters position =
     option_and_then (λ filter. option_map (clash position filter) (find (do_overlap filter) (take position filters))) (slice_get filters position)
 
--- `IsDisjoint filters`: no filter in the list `filters` overlaps with an earlier one.
+-- `IsDisjoint filters`: no two filters in the list `filters` match a common test case.
 abbrev pub IsDisjoint : List Filter → Type 0
 IsDisjoint filters = (position : ℕ) → overlap_fault filters position ≡ None
 
 -- `IsFirstFault filters fault`: `fault` is the error of the first filter in the list `filters` that
--- has an error.
+-- overlaps with an earlier filter.
 abbrev pub IsFirstFault : List Filter → FilterFault → Type 0
 IsFirstFault filters fault =
     (position : ℕ) × (overlap_fault filters position ≡ Some fault) × ((before : ℕ) → before < position → overlap_fault filters before ≡ None)

@@ -1,4 +1,4 @@
--- The messages of errors.
+-- The messages of the errors of this crate.
 use Rattle.std.specs.Prelude.{ℕ, List, [], ◌++◌, codes}
 use Rattle.std.specs.Fmt.{decimal}
 use Rattle.kt_suite.specs.Types.{FilterFault, ReadFault, SuiteCause, SuiteFault}
@@ -58,7 +58,7 @@ filter_message filter.EmptyCase = codes "empty case"
 filter_message (filter.Repeated position) = codes "repeated"
 filter_message (filter.NotDisjoint position) = codes "not disjoint"
 
--- `select_message fault`: the message of the error `fault` of a selection.
+-- `select_message fault`: the message of the error `fault` of selecting test cases.
 abbrev pub select_message : SelectFault → List ℕ
 select_message (select.NoMemory refusal) = codes "out of memory"
 select_message select.TooMany = codes "too many cases"

@@ -1,4 +1,4 @@
--- Errors in a tree, with their files and lines.
+-- Errors in a tree of Kyuafiles, with their files and lines.
 use Rattle.std.specs.Prelude.{ℕ, List, [], ◌≡◌}
 use Rattle.kt_suite.specs.Types.{NoMemory, ReadFault, ScriptFault, SuiteCause, SuiteFault, Unreadable}
 use Rattle.kt_base.specs.declared.no_memory.NoMemory.{NoMemory as Refusal}

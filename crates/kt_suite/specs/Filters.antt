@@ -27,7 +27,8 @@ case_fault None = None
 case_fault (Some name) = if is_empty name then Some EmptyCase else None
 
 -- `parts_fault path case_name`: the first error of a filter's text with the path `path` and the
--- optional case `case_name`, if any: an empty path, an absolute path, or an empty case.
+-- optional case `case_name`, or `None` if there is no error. The errors are an empty path, an
+-- absolute path and an empty case, in this order.
 abbrev pub parts_fault : List ℕ → Option (List ℕ) → Option FilterFault
 parts_fault [] case_name = Some Empty
 parts_fault (c ∷ path) case_name = if c == 47 then Some Absolute else case_fault case_name
@@ -54,8 +55,8 @@ abbrev pub filter_meaning : List ℕ → Meaning
 filter_meaning text =
     fault_or_meaning (parts_fault (before 58 text) (after 58 text)) (filter_of (normalized_path (before 58 text)) (after 58 text))
 
--- `Answers result meaning`: the result `result` of parsing a filter's text is the meaning `meaning`
--- of the text, or a failed allocation.
+-- `Answers result meaning`: `result` is the result of parsing a filter's text that has the meaning
+-- `meaning`. It is this meaning, or the error of a failed allocation.
 abbrev pub Answers : Result Filter FilterFault → Meaning → Type 0
 Answers (Err (NoMemory refusal)) meaning = Unit {0}
 Answers found meaning = found ≡ meaning

@@ -23,16 +23,16 @@ pub record Site : Type 0 where
 abbrev pub site_fault : Site → SuiteCause → SuiteFault
 site_fault at cause = fault_at at.file at.line cause
 
--- `Mark`: an event of reading a tree: a call with its result, a file to read, a program, or an
--- error.
+-- `Mark`: an event of reading a tree of Kyuafiles: a call with its result, a file to read, a
+-- program, or an error.
 pub data Mark : Type 0 where
   CallMark : Asked → Mark
   File : Site → Mark
   ProgramMark : Site → Program → Mark
   Fault : SuiteFault → Mark
 
--- `Part`: a part of the events of reading one file: a mark, or an `include` statement with its site
--- and the path of the included file.
+-- `Part`: an element of the description of reading one file alone. It is a mark, or an `include`
+-- statement with its site and the path of the included file.
 pub data Part : Type 0 where
   OneMark : Mark → Part
   Includes : Site → List ℕ → Part
@@ -44,8 +44,9 @@ abbrev pub lookup_mark : Site → Program → Bool → Mark
 lookup_mark at program true = ProgramMark at program
 lookup_mark at program false = Fault (site_fault at MissingProgram)
 
--- `statement_parts at there meaning`: the parts of a statement at the site `at` with the meaning
--- `meaning`. `there` is true if a file is at the path of the program that the statement registers.
+-- `statement_parts at there meaning`: the marks and includes of a statement at the site `at` with
+-- the meaning `meaning`. `there` is true if a file is at the path of the program that the statement
+-- registers.
 abbrev pub statement_parts : Site → Bool → Meaning → List Part
 statement_parts at there (meaning.Wrong cause) = OneMark (Fault (site_fault at cause)) ∷ []
 statement_parts at there (meaning.Suite name) = []
@@ -60,8 +61,9 @@ abbrev pub suite_after : Option (List ℕ) → Meaning → Option (List ℕ)
 suite_after suite (meaning.Suite name) = Some name
 suite_after suite other = suite
 
--- `StatementsGive file suite stmts parts`: the statements `stmts` of the file `file` have the parts
--- `parts`. `suite` is the test suite before these statements, if any.
+-- `StatementsGive file suite stmts parts`: `parts` are the marks and includes of the statements
+-- `stmts` of the file `file`, for some results of the calls. `suite` is the test suite before these
+-- statements, if any.
 pub data StatementsGive (file : List ℕ) : Option (List ℕ) → List Stmt → List Part → Type 0 where
   none : (suite : Option (List ℕ)) → StatementsGive file suite [] []
   one : (suite : Option (List ℕ)) (stmt : Stmt) (rest : List Stmt) (there : Bool) (parts : List Part)
@@ -69,8 +71,8 @@ pub data StatementsGive (file : List ℕ) : Option (List ℕ) → List Stmt → 
       → StatementsGive file suite (stmt ∷ rest)
       (statement_parts (record { file = file; line = stmt.line }) there (meaning_of suite stmt.action) ++ parts)
 
--- `FileGivesParts file parts`: `parts` are the parts of reading the file `file`, for some result of
--- the read.
+-- `FileGivesParts file parts`: `parts` are the marks and includes of reading the file `file` alone,
+-- for some results of the calls.
 pub data FileGivesParts (file : List ℕ) : List Part → Type 0 where
   fault_of_read : (why : ReadFault)
       → FileGivesParts file (OneMark (CallMark (Read file (Err why))) ∷ OneMark (Fault (read_fault file why)) ∷ [])
@@ -86,16 +88,17 @@ pub data FileGivesParts (file : List ℕ) : List Part → Type 0 where
       → FileGivesParts file (OneMark (CallMark (Read file (Ok text))) ∷ parts)
 
 -- `include_fault files path`: the cause of the error if the file `path` is included while the files
--- `files` are open, or `None` if the file may be included. The include is an error if `path` is one
--- of `files`, or if 32 files are open.
+-- `files` are open. It is `IncludeLoop` if `path` is one of `files`, otherwise `TooDeep` if 32
+-- files are open. It is `None` if the file may be included.
 abbrev pub include_fault : List (List ℕ) → List ℕ → Option SuiteCause
 include_fault files path =
     if list_any (bytes_eq path) files then Some IncludeLoop
     else if nat_le depth_limit (length files) then Some TooDeep else None
 
--- `Unfolds files parts marks`: reading the parts `parts` while the files `files` are open has the
--- marks `marks`. The mark of an include is its error. If it has none, its marks are that of the
--- file and those of reading the file.
+-- `Unfolds files parts marks`: `marks` are the marks of reading the parts `parts` while the files
+-- `files` are open. A part that is a mark has this mark. An include has the mark of its error if
+-- the file may not be included. Otherwise, it has the mark of the file and the marks of reading the
+-- file.
 pub data Unfolds : List (List ℕ) → List Part → List Mark → Type 0 where
   end : (files : List (List ℕ)) → Unfolds files [] []
   says : (files : List (List ℕ)) (mark : Mark) (parts : List Part) (marks : List Mark)
@@ -108,6 +111,7 @@ pub data Unfolds : List (List ℕ) → List Part → List Mark → Type 0 where
       → include_fault files path ≡ None → FileGivesParts path own → Unfolds (files ++ path ∷ []) own inner → Unfolds files parts marks
       → Unfolds files (Includes at path ∷ parts) (File at ∷ (inner ++ marks))
 
--- `TreeGives root marks`: `marks` are the marks of reading the tree with the root Kyuafile `root`.
+-- `TreeGives root marks`: `marks` are the marks of reading the tree with the root Kyuafile `root`,
+-- for some results of the calls.
 abbrev pub TreeGives : List ℕ → List Mark → Type 0
 TreeGives root marks = Unfolds [] (Includes (record { file = root; line = 0 }) root ∷ []) marks

@@ -2,8 +2,8 @@
 use Rattle.std.specs.Prelude.{ℕ, ◌≡◌, Bool, true, false, ◌==◌, ◌&&◌, ◌⊎◌, IsTrue, List, [], ◌∷◌, ◌++◌, Option, Some, None, bytes_eq}
 use Rattle.kt_suite.specs.Types.{Filter}
 
--- `is_within directory path`: the path `path` is the directory `directory` or is below it: it
--- begins with `directory` and a slash.
+-- `is_within directory path`: the path `path` is `directory`, or begins with `directory` and a
+-- slash.
 abbrev pub is_within : List ℕ → List ℕ → Bool
 is_within [] [] = true
 is_within [] (c ∷ path) = c == 47

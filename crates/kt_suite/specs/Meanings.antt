@@ -22,8 +22,8 @@ abbrev pub version_fault : Arg → Option SuiteCause
 version_fault (Value (Number n)) = if n == 2 then None else Some (WrongSyntax n)
 version_fault other = Some BadValue
 
--- `first_call_fault call arg`: the cause of the error if a file begins with a call of the kind
--- `call` with the argument `arg`, or `None` for `syntax(2)`.
+-- `first_call_fault call arg`: the cause of the error if a file's first statement is a call of the
+-- kind `call` with the argument `arg`. It is `None` for `syntax(2)`.
 abbrev pub first_call_fault : CallKind → Arg → Option SuiteCause
 first_call_fault call.Syntax arg = version_fault arg
 first_call_fault other arg = Some NoSyntax
@@ -42,9 +42,9 @@ suite_meaning (Table pairs) = meaning.Wrong BadValue
 
 -- `program_with_suite interface name file own props`: the meaning of a table that declares a
 -- program with the interface `interface`, the name `name` and the properties `props`. `own` is the
--- test suite that the table sets, if any, and `file` is that of the file. The program has the test
--- suite `own` if present, otherwise `file`. The meaning is an error if both are absent, or if `own`
--- is empty.
+-- test suite that the table sets, if any. `file` is the test suite that the Kyuafile sets, if any.
+-- The program has the test suite `own` if present, otherwise `file`. The meaning is an error if
+-- both are absent, or if `own` is empty.
 abbrev pub program_with_suite : Interface → List ℕ → Option (List ℕ) → Option (List ℕ) → List Variable → Meaning
 program_with_suite interface name file (Some own) props =
     if is_empty own then meaning.Wrong BadValue else meaning.Program interface name own props
@@ -54,8 +54,8 @@ program_with_suite interface name None None props = meaning.Wrong NoSuite
 -- `named interface file own props name`: the meaning of a table that declares a program with the
 -- interface `interface`, the properties `props` and the optional name `name`. `own` is the test
 -- suite that the table sets, and `file` is the test suite that the Kyuafile sets, if any. The
--- meaning is an error if the name is absent, is empty or has a directory. Otherwise it is
--- `program_with_suite`.
+-- meaning is an error if the name is absent, is empty or has a directory. Otherwise,
+-- `program_with_suite` defines the meaning.
 abbrev pub named : Interface → Option (List ℕ) → Option (List ℕ) → List Variable → Option (List ℕ) → Meaning
 named interface file own props None = meaning.Wrong BadValue
 named interface file own props (Some name) =
@@ -64,21 +64,22 @@ named interface file own props (Some name) =
     else program_with_suite interface name file own props
 
 -- `declared_meaning interface file table`: the meaning of a call that registers a program with the
--- interface `interface`. `table` has the declarations of the call's table, or the cause of its
--- error. `file` is the test suite of the file, if any.
+-- interface `interface`. `table` is the table that the call declares, or the cause of the table's
+-- error. `file` is the test suite that the Kyuafile sets before the call, if any.
 abbrev pub declared_meaning : Interface → Option (List ℕ) → Result ProgramTable SuiteCause → Meaning
 declared_meaning interface file (Err cause) = meaning.Wrong cause
 declared_meaning interface file (Ok table) = named interface file table.suite table.props table.name
 
 -- `program_meaning interface file arg`: the meaning of a call with the argument `arg` that
--- registers a program with the interface `interface`. `file` is the test suite of the file, if any.
+-- registers a program with the interface `interface`. `file` is the test suite that the Kyuafile
+-- sets before the call, if any. The meaning is the error `BadValue` if `arg` isn't a table.
 abbrev pub program_meaning : Interface → Option (List ℕ) → Arg → Meaning
 program_meaning interface file (Value v) = meaning.Wrong BadValue
 program_meaning interface file (Table pairs) = declared_meaning interface file (declared pairs)
 
 -- `include_meaning arg`: the meaning of a call of `include` with the argument `arg`. It is the
--- error `BadInclude` unless `arg` is a value whose text is a relative path. A component of the path
--- that is empty, `.` or `..` is an error, too.
+-- error `BadInclude` if `arg` is a table or an absolute path, or if a component of the path is
+-- empty, `.` or `..`.
 abbrev pub include_meaning : Arg → Meaning
 include_meaning (Value v) = if is_plain_relative (text_of v) then meaning.Include (text_of v) else meaning.Wrong BadInclude
 include_meaning (Table pairs) = meaning.Wrong BadInclude

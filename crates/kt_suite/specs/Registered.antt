@@ -18,39 +18,40 @@ program_limit = 10000
 abbrev pub Outcome : Type 0
 Outcome = Result (List Program) SuiteFault
 
--- `calls_in marks`: the calls of the tree among `marks`, in order.
+-- `calls_in marks`: the calls of functions of `Tree` among the marks `marks`, with their results,
+-- in order.
 abbrev pub calls_in : List Mark → List Asked
 calls_in [] = []
 calls_in (CallMark question ∷ marks) = question ∷ calls_in marks
 calls_in (other ∷ marks) = calls_in marks
 
--- `files_in marks`: the number of files among `marks`.
+-- `files_in marks`: the number of files to read among the marks `marks`.
 abbrev pub files_in : List Mark → ℕ
 files_in [] = 0
 files_in (File at ∷ marks) = 1 + files_in marks
 files_in (other ∷ marks) = files_in marks
 
--- `programs_in marks`: the registered programs among `marks`, in order.
+-- `programs_in marks`: the registered programs among the marks `marks`, in order.
 abbrev pub programs_in : List Mark → List Program
 programs_in [] = []
 programs_in (ProgramMark at program ∷ marks) = program ∷ programs_in marks
 programs_in (other ∷ marks) = programs_in marks
 
--- `faults_in marks`: the errors among `marks`, in order.
+-- `faults_in marks`: the errors among the marks `marks`, in order.
 abbrev pub faults_in : List Mark → List SuiteFault
 faults_in [] = []
 faults_in (Fault fault ∷ marks) = fault ∷ faults_in marks
 faults_in (other ∷ marks) = faults_in marks
 
--- `DecidesNothing marks`: none of the marks `marks` decides the result: none is an error, and the
--- files and the programs don't exceed their limits.
+-- `DecidesNothing marks`: none of the marks `marks` decides the result of loading: no mark is an
+-- error, and the files and the programs don't exceed their limits.
 pub record DecidesNothing (marks : List Mark) : Type 0 where
   pub faultless : faults_in marks ≡ []
   pub files : files_in marks ≤ file_limit
   pub programs : length (programs_in marks) ≤ program_limit
 
--- `Decides files programs mark fault`: the mark `mark` decides the result, which is the error
--- `fault`. The marks before it have `files` files and `programs` programs.
+-- `Decides files programs mark fault`: the mark `mark` decides the result of loading, which is the
+-- error `fault`. Among the marks before `mark` are `files` files and `programs` programs.
 pub data Decides (files programs : ℕ) : Mark → SuiteFault → Type 0 where
   is_fault : (fault : SuiteFault) → Decides files programs (Fault fault) fault
   file_too_many : (at : Site) → file_limit ≤ files → Decides files programs (File at) (site_fault at TooMany)
@@ -58,8 +59,8 @@ pub data Decides (files programs : ℕ) : Mark → SuiteFault → Type 0 where
       → Decides files programs (ProgramMark at program) (site_fault at TooMany)
 
 -- `Registered asked root result`: loading the tree with the root Kyuafile `root` has the result
--- `result`. `asked` are the calls of the tree before the mark that decides, or all its calls if no
--- mark decides.
+-- `result`. `asked` are the calls of the tree's functions before the mark that decides the result,
+-- or all calls if no mark decides.
 pub data Registered (asked : List Asked) (root : List ℕ) : Outcome → Type 0 where
   all : (marks : List Mark) → TreeGives root marks → DecidesNothing marks → asked ≡ calls_in marks
       → Registered asked root (Ok (programs_in marks))
@@ -76,8 +77,9 @@ pub data IsAtMostNextCall : List Mark → List Asked → Type 0 where
       → IsAtMostNextCall (CallMark other ∷ marks) (question ∷ [])
 
 -- `Unfinished asked root outcome`: loading the tree with the root Kyuafile `root` has the result
--- `outcome`, the error of an allocation that failed before a mark decided. `asked` are the calls of
--- the tree before this failure. The last of them may have any result.
+-- `outcome`, the error of a failed allocation. The allocation failed before a mark decided the
+-- result. `asked` are the calls of the tree's functions before this failure. The last of them may
+-- have any result.
 pub record Unfinished (asked : List Asked) (root : List ℕ) (outcome : Outcome) : Type 0 where
   pub fault : SuiteFault
   pub no_memory : IsNoMemory fault

@@ -4,7 +4,7 @@ use Rattle.std.specs.List.{list_any}
 use Rattle.kt_suite.specs.Types.{Filter, Item}
 use Rattle.kt_suite.specs.Matching.{matches}
 
--- `item_limit`: the maximum number of items to select from.
+-- `item_limit`: the maximum number of items, which are test cases, to select from.
 abbrev pub item_limit : ℕ
 item_limit = 100000
 
@@ -14,12 +14,12 @@ abbrev pub places : {A : Type 0} → (A → Bool) → ℕ → List A → List �
 places test n [] = []
 places test n (x ∷ xs) = if test x then n ∷ places test (n + 1) xs else places test (n + 1) xs
 
--- `matches_item item filter`: the filter `filter` matches the item `item`.
+-- `matches_item item filter`: the filter `filter` matches the test case `item`.
 abbrev pub matches_item : Item → Filter → Bool
 matches_item item filter = matches filter item.path item.case_name
 
--- `is_selected filters item`: the filters `filters` select the item `item`: one of them matches it,
--- or there is no filter.
+-- `is_selected filters item`: the filters `filters` select the test case `item`: one of them
+-- matches `item`, or there is no filter.
 abbrev pub is_selected : List Filter → Item → Bool
 is_selected [] item = true
 is_selected (filter ∷ filters) item = list_any (matches_item item) (filter ∷ filters)
@@ -29,7 +29,7 @@ is_selected (filter ∷ filters) item = list_any (matches_item item) (filter ∷
 abbrev pub selected_positions : List Item → List Filter → List ℕ
 selected_positions items filters = places (is_selected filters) 0 items
 
--- `is_unmatched items filter`: the filter `filter` matches none of the items `items`.
+-- `is_unmatched items filter`: the filter `filter` matches none of the test cases `items`.
 abbrev pub is_unmatched : List Item → Filter → Bool
 is_unmatched items filter = not (list_any (λ item. matches_item item filter) items)
 

@@ -1,4 +1,4 @@
--- The declarations in the table of a program.
+-- The declarations in the table of a call that registers a program.
 use Rattle.std.specs.Prelude.{Bool, List, [], ◌∷◌, codes, Option, Some, None, Result, Ok, Err}
 use Rattle.std.specs.List.{filter}
 use Rattle.std.specs.Option.{option_or}

@@ -11,10 +11,10 @@ use kt_script::ScriptFault;
 use std::io::Write;
 use thiserror::Error;
 
-/// The text before the number in the message of `WrongSyntax`.
+/// The text before the number of the syntax in the message of `WrongSyntax`.
 const SYNTAX: &str = "syntax ";
 
-/// The text after the number in the message of `WrongSyntax`.
+/// The text after the number of the syntax in the message of `WrongSyntax`.
 const NOT_SUPPORTED: &str = " not supported";
 
 /// A cause of an error in a tree of Kyuafiles (kyuafile(5) and this profile).
@@ -30,12 +30,14 @@ pub enum SuiteCause {
     /// A file declares a syntax with this number, which is not 2.
     #[error("{SYNTAX}{0}{NOT_SUPPORTED}")]
     WrongSyntax(u64),
-    /// A statement after the first is an assignment, a call of `syntax`, or an unknown call.
+    /// A statement after the first is an assignment, a call of `syntax`, or a call of an unknown
+    /// function.
     UnknownCall,
     /// A key of a program's table is not `name`, `test_suite` or a property that a Kyuafile may
     /// set.
     UnknownProperty,
-    /// A call, a key or a property has an invalid value, or a program has no name or an empty name.
+    /// The argument of a call or the value of a key is invalid, or a program has no name or an
+    /// empty name.
     BadValue,
     /// Neither the program's table nor an earlier `test_suite` of the file names a test suite.
     NoSuite,
@@ -44,7 +46,7 @@ pub enum SuiteCause {
     /// The argument of `include` is a table, is not a relative path, or has a component that is
     /// empty, `.` or `..`.
     BadInclude,
-    /// The included file is already open.
+    /// The included file is already open: it includes itself, directly or through other files.
     IncludeLoop,
     /// More than 32 files would be open, each included by the file before.
     TooDeep,

@@ -15,15 +15,19 @@ fn covers(filter: &Filter, other: &Filter) -> bool
     }
 }
 
-/// Returns `true` if `filter` matches each case of `other`, or if `other` matches each case of
-/// `filter`.
+/// Returns `true` if there is a test case that both `filter` and `other` match.
+///
+/// This is the case if one of the two filters matches each case that the other filter matches.
 fn do_overlap(filter: &Filter, other: &Filter) -> bool
     ensures { result ≡ do_overlap filter.now other.now }
 {
     covers(filter, other) || covers(other, filter)
 }
 
-/// Returns the first filter in `earlier` that overlaps with `filter`, or `None` without an overlap.
+/// Returns the first filter in `earlier` that overlaps with `filter`, or `None` if there is no such
+/// filter.
+///
+/// Two filters overlap if both match some test case.
 fn first_overlap<'a>(filter: &Filter, earlier: &'a [Filter]) -> Option<&'a Filter>
     ensures { option_copied result ≡ find (do_overlap filter.now) earlier.now }
 {
@@ -32,7 +36,7 @@ fn first_overlap<'a>(filter: &Filter, earlier: &'a [Filter]) -> Option<&'a Filte
 
 /// Returns the error of the filter at `position` in `filters`, or `None` if it has no error.
 ///
-/// A filter has an error if it overlaps with an earlier filter.
+/// A filter has an error if it overlaps with an earlier filter: both match some test case.
 fn overlap_fault(filters: &[Filter], position: usize) -> Option<FilterFault>
     ensures { result ≡ overlap_fault filters.now position }
 {
@@ -67,7 +71,8 @@ pub fn check_disjoint(filters: &[Filter]) -> Result<(), FilterFault>
     Ok(())
 }
 
-/// Theorem: two filters overlap if and only if there is a case that both of them match.
+/// Theorem: two filters match a common test case if and only if one of the filters matches each
+/// case that the other filter matches.
 ///
 /// A path is within a directory if and only if it is the directory, or begins with the directory
 /// and a slash. Two filters are equal if and only if their paths and their cases are equal.

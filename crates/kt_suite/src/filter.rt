@@ -60,7 +60,7 @@ impl From<NoMemory> for FilterFault {
 pub struct Filter {
     /// The path of a program or a directory, relative to the directory of the root Kyuafile.
     ///
-    /// After `parse`, no component is empty or `.`.
+    /// No component of the path is empty or `.` in a filter that [`Filter::parse`] returns.
     pub program: Text,
     /// The name of the case, or `None` if the filter matches all cases of the program or directory.
     pub case_name: Option<Text>,
@@ -164,6 +164,8 @@ fn push_component(path: &mut Text, component: &Text) -> Result<(), NoMemory>
 }
 
 /// Appends `component` to `path`, unless `component` is empty or `.`.
+///
+/// A slash separates the component from `path`, unless `path` is empty.
 fn push_normalized(path: &mut Text, component: &Text) -> Result<(), NoMemory>
     ensures { OnOk result (path.new ≡ with_component path.old component.now) }
 {

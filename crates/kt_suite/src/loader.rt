@@ -10,7 +10,7 @@ use kt_base::{Items, NoMemory, Text};
 use kt_script::{ScriptFault, Stmt, parse};
 use std::alloc::Global;
 
-/// Returns the error of the Kyuafile `file`, whose read failed with the error `why`.
+/// Returns the `SuiteFault` of the Kyuafile `file`, whose read failed with the error `why`.
 fn fault_of_read(alloc: Global, file: &Text, why: ReadFault) -> SuiteFault
     ensures { IsNoMemory result ⊎ (result ≡ read_fault file.now why) }
 {
@@ -31,7 +31,7 @@ fn script_fault_line(why: ScriptFault) -> u32
     }
 }
 
-/// Returns the error of the Kyuafile `file`, whose parsing failed with the error `why`.
+/// Returns the `SuiteFault` of the Kyuafile `file`, whose parsing failed with the error `why`.
 fn fault_of_parse(alloc: Global, file: &Text, why: ScriptFault) -> SuiteFault
     ensures { IsNoMemory result
         ⊎ (IsParseFault why × (result ≡ fault_at file.now (script_line why) (Script why))) }
@@ -96,7 +96,7 @@ fn push_open_file(registry: Registry, file: &Text) -> Result<Registry, NoMemory>
 /// Reads the Kyuafile `file` and all files that it includes, and registers their programs.
 ///
 /// Returns `registry` with these files and programs. The caller has counted `file` in `registry`,
-/// and has checked that it is not open.
+/// and has checked that `file` is not open.
 fn load_file<T: Tree>(
     alloc: Global,
     tree: &mut T,
@@ -148,7 +148,8 @@ fn load_file<T: Tree>(
 ///   of each cause.
 /// - [`SuiteFault`] with the cause `NoMemory`: an allocation fails.
 pub fn load<T: Tree>(alloc: Global, tree: &mut T, root: &Text) -> Result<Items<Program>, SuiteFault>
-    // The calls of the tree are the calls that decide the result, in their order, and no others.
+    // The calls of `tree` are exactly those that decide the result, in their order. If an
+    // allocation fails, they are the calls before the failure.
     ensures loaded { LeadsByCalls T.asks tree.old tree.new (λ asked. Registered asked root.now
         result
         ⊎ Unfinished asked root.now result) }

@@ -10,6 +10,6 @@ pub struct Program {
     pub path: Text,
     /// The name of the test suite of the program, which is not empty.
     pub suite: Text,
-    /// The properties that the program's table sets.
+    /// The properties in the table of the call that registers the program.
     pub props: Props,
 }

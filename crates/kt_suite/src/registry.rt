@@ -3,16 +3,16 @@ ghost use Rattle.std.specs.Prelude.{◌≡◌, ◌-◌, length, take, drop};
 use crate::Program;
 use kt_base::{Items, Text};
 
-/// A state of the loader: the open Kyuafiles, the number of Kyuafiles so far, and the registered
-/// programs.
+/// A state of the loader: the open Kyuafiles, the number of Kyuafiles counted so far, and the
+/// registered programs.
 pub struct Registry {
-    /// The paths of the open Kyuafiles: the root first, then each file after the file that includes
-    /// it.
+    /// The paths of the open Kyuafiles, whose statements are not all executed: the root first, then
+    /// each file after the file that includes it.
     pub reading: Items<Text>,
-    /// The number of Kyuafiles so far, with the root, at most 10,000. A file is counted before it
-    /// is opened.
+    /// The number of Kyuafiles counted so far, the root included, at most 10,000. A file is counted
+    /// before it is read. A file that is read twice counts twice.
     pub files: usize,
-    /// The registered programs in order, at most 10,000.
+    /// The programs in the order of their registration, at most 10,000.
     pub programs: Items<Program>,
 }
 
@@ -40,7 +40,9 @@ impl Registry {
         programs
     }
 
-    /// Removes the last open file, whose statements are executed, and returns the registry.
+    /// Removes the file that was opened last from the open files, and returns the registry.
+    ///
+    /// All statements of this file were executed.
     pub fn end(self) -> Registry
         ensures { result ≡ (record self { reading = take (length self.reading - 1) self.reading }) }
     {
@@ -59,12 +61,12 @@ impl Registry {
     }
 }
 
-/// A next step of the loader, after it executed a statement.
+/// A next step of the loader after the execution of a statement.
 #[derive(Drop)]
 pub enum LoadStep {
-    /// The next statement of the file is executed, with this registry.
+    /// The loader executes the next statement of the file. The field is the loader's state.
     Next(Registry),
-    /// The Kyuafile at this path is read, with this registry, before the next statement is
-    /// executed.
+    /// The loader reads the Kyuafile at this path, before it executes the next statement of the
+    /// including file. The first field is the loader's state.
     Enter(Registry, Text),
 }

@@ -18,7 +18,7 @@ use thiserror::Error;
 pub enum SelectFault {
     /// An allocation failed.
     NoMemory(NoMemory),
-    /// There are more than 100,000 items to select from.
+    /// There are more than 100,000 test cases to select from.
     TooMany,
 }
 
@@ -47,25 +47,27 @@ impl From<NoMemory> for SelectFault {
 /// A test case that filters may select: the path of its program, and its name.
 #[derive(Drop)]
 pub struct Item {
-    /// The path of the program, relative to the directory of the root Kyuafile.
+    /// The path of the test program that has the case, relative to the directory of the root
+    /// Kyuafile.
     pub path: Text,
-    /// The name of the case.
+    /// The name of the test case, without its program.
     pub case_name: Text,
 }
 
 /// A result of [`select`]: the positions of the selected items and of the unmatched filters.
 #[derive(Drop)]
 pub struct Selection {
-    /// The positions of the selected items, ascending, from 0.
+    /// The positions of the selected items in the list of items, ascending, from 0.
     pub cases: Vec<usize>,
-    /// The positions of the filters that match no item, ascending, from 0.
+    /// The positions of the unmatched filters in the list of filters, ascending, from 0. An
+    /// unmatched filter matches no item.
     pub unmatched: Vec<usize>,
 }
 
 /// The maximum number of items that [`select`] accepts.
 const ITEM_LIMIT: usize = 100_000;
 
-/// Returns `true` if `filter` matches `item`.
+/// Returns `true` if `filter` matches the test case `item`.
 fn matches_item(item: &Item, filter: &Filter) -> bool
     ensures { result ≡ matches_item item.now filter.now }
 {
@@ -80,7 +82,9 @@ fn first_match(filters: &[Filter], item: &Item) -> Option<usize>
     filters.iter().position(|filter| matches_item(item, filter))
 }
 
-/// Returns `true` if `filters` has a filter at the position `place` that matches `item`.
+/// Returns `true` if the filter at the position `place` in `filters` matches `item`.
+///
+/// Returns `false` if there is no filter at this position.
 fn is_match(filters: &[Filter], item: &Item, place: usize) -> bool
     ensures { result ≡ is_match filters.now item.now place }
 {
@@ -90,10 +94,10 @@ fn is_match(filters: &[Filter], item: &Item, place: usize) -> bool
     }
 }
 
-/// Returns `true` if `filters` has no filter at the position `place` that matches `item`.
+/// Returns `true` if the filter at the position `place` in `filters` does not match `item`.
 ///
-/// `first` is the position of the first filter that matches `item`, so earlier filters are not
-/// compared again.
+/// Returns `true` also if there is no filter at this position. `first` is the position of the first
+/// filter that matches `item`, so earlier filters are not compared again.
 fn is_miss(filters: &[Filter], item: &Item, first: usize, place: usize) -> bool
     ensures { first_match filters.now item.now ≡ Some first
         → result ≡ is_miss filters.now item.now place }
@@ -106,7 +110,7 @@ fn is_miss(filters: &[Filter], item: &Item, first: usize, place: usize) -> bool
 
 /// Removes the positions of the filters that match `item` from the positions `unmatched`.
 ///
-/// The positions are those in `filters`. `first` is the position of the first filter that matches
+/// The positions are indices of `filters`. `first` is the position of the first filter that matches
 /// `item`.
 fn remove_matches(unmatched: &mut Vec<usize>, filters: &[Filter], item: &Item, first: usize)
     requires { first_match filters.now item.now ≡ Some first }
@@ -148,7 +152,7 @@ fn all_positions(alloc: Global, filters: &[Filter]) -> Result<Vec<usize>, NoMemo
 
 /// Returns the positions of the items that `filters` select, and of the filters that match no item.
 ///
-/// Reads `items` once. A filter counts as unmatched until an item matches it.
+/// Reads `items` once. A filter counts as unmatched until it matches an item.
 #[tactic(auto, using(crate::proofs::Picking::unmatched_of_all))]
 fn select_items(alloc: Global, items: &[Item], filters: &[Filter]) -> Result<Selection, NoMemory>
     ensures cases { IfOk result (λ s. s.cases.items ≡ selected_positions items.now filters.now) }

@@ -10,7 +10,7 @@ use kt_base::{NoMemory, Text};
 use kt_script::{Action, Arg, Literal};
 use std::alloc::Global;
 
-/// Returns the cause of the error in a Kyuafile whose first statement has the action `action`.
+/// Returns the cause of the error if a Kyuafile's first statement has the action `action`.
 ///
 /// Returns `None` if `action` is the call `syntax(2)`.
 pub fn first_statement_cause(action: &Action) -> Option<SuiteCause>
@@ -27,7 +27,7 @@ pub fn first_statement_cause(action: &Action) -> Option<SuiteCause>
     }
 }
 
-/// Returns the meaning of a call of `test_suite` with the argument `arg`.
+/// Returns the meaning of a call of `test_suite` with the argument `arg`: its effect or its error.
 ///
 /// The meaning is the error `BadValue` if `arg` is a table or has an empty text.
 fn suite_call_meaning(alloc: Global, arg: &Arg) -> Result<Meaning, NoMemory>
@@ -45,10 +45,10 @@ fn suite_call_meaning(alloc: Global, arg: &Arg) -> Result<Meaning, NoMemory>
     }
 }
 
-/// Returns the meaning of a call of `include` with the argument `arg`.
+/// Returns the meaning of a call of `include` with the argument `arg`: its effect or its error.
 ///
-/// The meaning is the error `BadInclude` if `arg` is a table or an absolute path. It is the same
-/// error if a component of the path is empty, `.` or `..`.
+/// The meaning is the error `BadInclude` if `arg` is a table or an absolute path, or if a component
+/// of the path is empty, `.` or `..`.
 fn include_call_meaning(alloc: Global, arg: &Arg) -> Result<Meaning, NoMemory>
     ensures { IfOk result (λ found. found ≡ include_meaning arg.now) }
 {
@@ -64,9 +64,10 @@ fn include_call_meaning(alloc: Global, arg: &Arg) -> Result<Meaning, NoMemory>
     }
 }
 
-/// Returns the meaning of a statement with the action `action`, after a Kyuafile's first statement.
+/// Returns the meaning of a Kyuafile's statement with the action `action`: its effect or its error.
 ///
-/// `file` is the test suite that the file has set before the statement, if any.
+/// The statement is not the first of the file. `file` is the test suite that the file has set
+/// before the statement, if any.
 ///
 /// # Errors
 ///

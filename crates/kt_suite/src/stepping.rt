@@ -11,7 +11,7 @@ use kt_base::Text;
 use kt_script::Stmt;
 use std::alloc::Global;
 
-/// The maximum number of programs that a tree may register.
+/// The maximum number of programs that a tree of Kyuafiles may register.
 const PROGRAM_LIMIT: usize = 10_000;
 
 /// The maximum number of Kyuafiles that a tree may have, where a file that is read twice counts
@@ -28,7 +28,7 @@ fn contains_path(files: &[Text], path: &Text) -> bool
     files.iter().any(|file| *path == *file)
 }
 
-/// Returns the cause of the error of including the file at `path` while `files` are open.
+/// Returns the cause of the error if the file at `path` is included while `files` are open.
 ///
 /// Returns `None` if the file may be included.
 fn include_cause(files: &[Text], path: &Text) -> Option<SuiteCause>
@@ -45,9 +45,8 @@ fn include_cause(files: &[Text], path: &Text) -> Option<SuiteCause>
 
 /// Counts the included file at `path` in `registry`, and returns the registry.
 ///
-/// Fails if the file is open or a limit of the profile is reached.
-///
-/// The `include` statement is in the line `line` of `file`.
+/// The `include` statement is in the line `line` of `file`. Fails if the included file is already
+/// open, or if a limit of the profile is reached.
 fn count_include(
     alloc: Global,
     file: &Text,
@@ -68,7 +67,8 @@ fn count_include(
     Ok(registry)
 }
 
-/// Returns the step of the loader that reads the included file `name`.
+/// Returns the next step of the loader for an `include` of the file `name`: the step reads this
+/// file.
 ///
 /// The step has `registry`, with the included file counted. The `include` statement is in the line
 /// `line` of `file`. `name` is relative to the directory of `file`. Fails if the file may not be

@@ -143,7 +143,8 @@ fn set_pair(
     }
 }
 
-/// Returns the table that `pairs` declare, or the cause of the error in the first invalid pair.
+/// Returns the table of a program that `pairs` declare, or the cause of the error in the first
+/// invalid pair.
 fn build_table(alloc: Global, pairs: &[Pair]) -> Result<Result<ProgramTable, SuiteCause>, NoMemory>
     ensures { IfOk result (λ found. found ≡ declared pairs.now) }
 {
@@ -161,10 +162,10 @@ fn build_table(alloc: Global, pairs: &[Pair]) -> Result<Result<ProgramTable, Sui
     Ok(Ok(found))
 }
 
-/// Returns the meaning of a call that registers a program with the interface `interface`.
+/// Returns the meaning of a call that registers a program: the program, or the cause of the error.
 ///
-/// `arg` is the argument of the call. `file` is the test suite that the file has set for programs
-/// without their own, if any.
+/// `interface` is the interface of the program, and `arg` is the argument of the call. `file` is
+/// the test suite that the file has set for programs without their own, if any.
 ///
 /// # Errors
 ///

@@ -3,9 +3,9 @@ ghost use Rattle.kt_suite.specs.Common.{is_within};
 
 use kt_base::Text;
 
-/// Returns `true` if a component of `path` can end before the index `place`.
+/// Returns `true` if a path component can end before the byte at the index `place` of `path`.
 ///
-/// The byte at this index is a slash, or `path` has no such byte.
+/// This byte is a slash, or `path` has no such byte.
 fn ends_component_at(path: &[u8], place: usize) -> bool
     ensures { result ≡ is_within [] (drop place path.now) }
 {
@@ -15,8 +15,9 @@ fn ends_component_at(path: &[u8], place: usize) -> bool
     }
 }
 
-/// Returns `true` if a component of a path can end before `rest`: it is empty or begins with a
-/// slash.
+/// Returns `true` if `rest`, the remaining text of a path, is empty or begins with a slash.
+///
+/// A path component can end before such a text.
 fn ends_component(rest: &str) -> bool
     ensures { result ≡ is_within [] (chars rest.now) }
 {

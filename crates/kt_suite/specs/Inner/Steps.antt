@@ -12,8 +12,8 @@ use Rattle.kt_suite.specs.Filters.{counts}
 use Rattle.kt_suite.specs.Selecting.{places, matches_item}
 use Rattle.kt_suite.specs.Tables.{value_cause, pair_fault, table_of, cause_or_value}
 
--- `props_with before pair`: the properties that the pairs `before` and then the pair `pair` set, or
--- the cause of the error in `pair`.
+-- `props_with before pair`: the properties that are set by the pairs `before` and then by the pair
+-- `pair`, or the cause of the error in `pair`.
 abbrev pub props_with : List Variable → Variable → Result (List Variable) SuiteCause
 props_with before pair =
     cause_or_value (value_cause (definition_fault pair.name pair.value)) (last_values (before ++ pair ∷ []))
@@ -49,13 +49,13 @@ all_positions filters = places (λ filter. true) 0 filters
 abbrev pub first_match : List Filter → Item → Option ℕ
 first_match filters item = position (matches_item item) filters
 
--- `is_match filters item place`: the list `filters` has a filter at the position `place`, and this
--- filter matches the item `item`.
+-- `is_match filters item place`: the filter at the position `place` in the list `filters` matches
+-- the item `item`. False if there is no filter at this position.
 abbrev pub is_match : List Filter → Item → ℕ → Bool
 is_match filters item place = option_map_or (matches_item item) (slice_get filters place) false
 
--- `is_miss filters item place`: the list `filters` has no filter at the position `place` that
--- matches the item `item`.
+-- `is_miss filters item place`: the filter at the position `place` in the list `filters` does not
+-- match the item `item`. True if there is no filter at this position.
 abbrev pub is_miss : List Filter → Item → ℕ → Bool
 is_miss filters item place = not (is_match filters item place)
 

@@ -13,8 +13,9 @@ use Rattle.kt_suite.specs.Marks.{Site, site_fault, lookup_mark, Mark, CallMark, 
 use Rattle.kt_suite.specs.Meanings.{opening_fault}
 use Rattle.kt_suite.specs.Registered.{file_limit, program_limit, calls_in, Decides, IsAtMostNextCall}
 
--- `AddsMarks r marks after`: the registry `after` is the registry `r` with the files and programs
--- of `marks` added. No mark is an error, and no file or program exceeds its limit.
+-- `AddsMarks r marks after`: the loader's registry `after` is the registry `r` with the files and
+-- programs of `marks` added. `marks` are events of reading a tree. No mark is an error, and no file
+-- or program exceeds its limit.
 abbrev pub AddsMarks : Registry → List Mark → Registry → Type 0
 AddsMarks r [] after = after ≡ r
 AddsMarks r (CallMark question ∷ marks) after = AddsMarks r marks after
@@ -23,11 +24,11 @@ AddsMarks r (ProgramMark at program ∷ marks) after =
     (length r.programs < program_limit) × AddsMarks (record r { programs = r.programs ++ program ∷ [] }) marks after
 AddsMarks r (Fault fault ∷ marks) after = ⊥
 
--- `LoadsMarks leads old new Gives r result`: marks that have the property `Gives` were added to the
--- registry `r`, one by one. `result` is the registry after the last mark, the error of the mark
--- that decides, or the error of a failed allocation. By the relation `leads`, the calls among the
--- added marks lead from the tree's state `old` to its state `new`. Before a failed allocation, the
--- next call may have been made, too.
+-- `LoadsMarks leads old new Gives r result`: from the registry `r` on, the loader executed a list
+-- of marks that has the property `Gives`. The result `result` is the registry after the last mark,
+-- the error of the first mark that decides, or the error of a failed allocation. By the relation
+-- `leads`, the calls among the executed marks lead from the tree's state `old` to its state `new`.
+-- Before a failed allocation, the next call may have been made, too.
 pub data LoadsMarks {S : Type 0} (leads : S → Asked → S → Type 0) (old new : S) (Gives : List Mark → Type 0) (r : Registry)
     : Result Registry SuiteFault → Type 0 where
   through : (marks : List Mark) (after : Registry)
@@ -40,23 +41,24 @@ pub data LoadsMarks {S : Type 0} (leads : S → Asked → S → Type 0) (old new
       → Gives (front ++ back) → IsAtMostNextCall back more → Chain leads old (calls_in front ++ more) new → AddsMarks r front mid
       → IsNoMemory fault → LoadsMarks leads old new Gives r (Err fault)
 
--- `FileGives files file marks`: `marks` are the marks of reading the file `file` while the files
--- `files` are open.
+-- `FileGives files file marks`: `marks` are the events of reading the file `file` while the files
+-- `files` are open, for some results of the calls.
 pub record FileGives (files : List (List ℕ)) (file : List ℕ) (marks : List Mark) : Type 0 where
   pub parts : List Part
   pub says : FileGivesParts file parts
   pub unfolds : Unfolds (files ++ file ∷ []) parts marks
 
--- `MeaningGives files at meaning marks`: `marks` are the marks of executing a statement at the site
--- `at` with the meaning `meaning` while the files `files` are open.
+-- `MeaningGives files at meaning marks`: `marks` are the events of executing a statement with the
+-- meaning `meaning` at the site `at`, for some results of the calls. The files `files` are open.
 pub record MeaningGives (files : List (List ℕ)) (at : Site) (meaning : Meaning) (marks : List Mark) : Type 0 where
   pub there : Bool
   pub unfolds : Unfolds files (statement_parts at there meaning) marks
 
 module _ {S : Type 0} (leads : S → Asked → S → Type 0) (old new : S) where
-  -- `RegistersProgram at r program result`: the statement at the site `at` registers the program
-  -- `program`. `result` is the registry `r` with the program appended, or an error: the program's
-  -- file is missing, the program exceeds the limit, or an allocation failed.
+  -- `RegistersProgram leads old new at r program result`: the statement at the site `at` registers
+  -- the program `program`. `result` is the registry `r` with the program appended, or an error: the
+  -- program's file is missing, the program exceeds the limit, or an allocation failed. By the
+  -- relation `leads`, the statement's calls lead from the tree's state `old` to its state `new`.
   abbrev pub RegistersProgram : Site → Registry → Program → Result Registry SuiteFault → Type 0
   RegistersProgram at r program result =
       LoadsMarks leads old new (λ marks. (there : Bool) × (marks ≡ CallMark (Exists program.path there) ∷ lookup_mark at program there ∷ [])) r result
@@ -78,8 +80,8 @@ EntersFile at r path step = (next : Registry) × Enters at r path (Ok next) × (
 
 -- `StepsTo leads old new r at meaning result`: a statement at the site `at` with the meaning
 -- `meaning` was executed with the registry `r`. By the relation `leads`, its calls lead from the
--- tree's state `old` to its state `new`. `result` is the next step of the loader, or an error: that
--- of the statement, or that of a failed allocation.
+-- tree's state `old` to its state `new`. `result` is the next step of the loader, the error of the
+-- statement, or the error of a failed allocation.
 pub data StepsTo {S : Type 0} (leads : S → Asked → S → Type 0) (old new : S) (r : Registry) (at : Site)
     (meaning : Meaning) : Result LoadStep SuiteFault → Type 0 where
   goes : (after : Registry) → LoadsMarks leads old new (MeaningGives r.reading at meaning) r (Ok after)
@@ -91,8 +93,8 @@ pub data StepsTo {S : Type 0} (leads : S → Asked → S → Type 0) (old new : 
       → StepsTo leads old new r at meaning (Err fault)
 
 -- `ChecksOpening file stmts result`: `result` has the statements `stmts` of the file `file` if they
--- begin with `syntax(2)`, otherwise the error of `file`. It may also be the error of a failed
--- allocation.
+-- begin with `syntax(2)`. Otherwise, it is the error of `file`. It may also be the error of a
+-- failed allocation.
 pub data ChecksOpening (file : List ℕ) (stmts : List Stmt) : Result (List Stmt) SuiteFault → Type 0 where
   well : (first : Stmt) (rest : List Stmt) → stmts ≡ first ∷ rest → opening_fault first.action ≡ None
       → ChecksOpening file stmts (Ok stmts)
@@ -102,10 +104,9 @@ pub data ChecksOpening (file : List ℕ) (stmts : List Stmt) : Result (List Stmt
       → ChecksOpening file stmts (Err (fault_at file first.line cause))
   unclear : (fault : SuiteFault) → IsNoMemory fault → ChecksOpening file stmts (Err fault)
 
--- `OpensFile leads old new file result`: the file `file` was read, by a call that leads from the
--- tree's state `old` to its state `new` by the relation `leads`. `result` has the file's
--- statements, which begin with `syntax(2)`, or is an error: that of the file, or of a failed
--- allocation.
+-- `OpensFile leads old new file result`: the file `file` was read. By the relation `leads`, the
+-- read leads from the tree's state `old` to its state `new`. `result` has the file's statements,
+-- which begin with `syntax(2)`, or is the error of the file, or the error of a failed allocation.
 pub data OpensFile {S : Type 0} (leads : S → Asked → S → Type 0) (old new : S) (file : List ℕ)
     : Result (List Stmt) SuiteFault → Type 0 where
   opens : (text : List ℕ) (first : Stmt) (rest : List Stmt)
