@@ -32,7 +32,8 @@ abbrev pub history : ℕ → Trace → List EventKind
 history i T = map kind_of_event (of i T)
 
 -- `is_whole job history`: `history` is a whole history of the case of `job`: no more events of the
--- case follow.
+-- case follow. For a decided case, it is empty. Otherwise, the start of the body was refused, or
+-- the body ended. A declared cleanup then ended or was refused, too.
 abbrev pub is_whole : Job → List EventKind → Bool
 is_whole job [] = is_some job.decided
 is_whole job (BodyRefused ∷ []) = is_none job.decided

@@ -11,7 +11,8 @@ pub record IsFit (job : Job) : Type 0 where
   pub limited : job.timeout ≤ longest_timeout_seconds
   pub cleanup : job.cleanup ≡ true → job.interface ≡ Atf
 
--- `IsPlan plan`: each job of `plan` is at its position and can be started.
+-- `IsPlan plan`: the position of each job of `plan` is its index in `plan`, and the job can be
+-- started (`IsFit`).
 pub record IsPlan (plan : List Job) : Type 0 where
   pub placed : (i : ℕ) (job : Job) → slice_get plan i ≡ Some job → job.position ≡ i
   pub fit : (i : ℕ) (job : Job) → slice_get plan i ≡ Some job → IsFit job

@@ -6,8 +6,8 @@ use Rattle.kt_sched.specs.Trace.{Event, Trace, NoEvent, Then, position_of, event
 use Rattle.kt_sched.specs.History.{has_whole_history, active}
 use Rattle.kt_sched.specs.TurnOrder.{body_starts, turns}
 
--- `ScheduledPut`: a scheduled put: the position of its case, and the number of events after which
--- the put is scheduled.
+-- `ScheduledPut`: the put of an entry that a run must make: the position of its case, and the
+-- number of events after which the put is scheduled.
 pub record ScheduledPut : Type 0 where
   pub position : ℕ
   pub after : ℕ
@@ -23,14 +23,15 @@ jobs_before i [] = []
 jobs_before i (job ∷ jobs) = if job.position == i then [] else job ∷ jobs_before i jobs
 
 -- `is_put_allowed plan n T job`: `job` is decided, and its entry may be put after the events `T`.
--- Each case of `plan` before it in turn order is begun, and there is a free slot at the width `n`.
+-- Each case of `plan` before it in turn order is begun (`is_begun`). Fewer than `n` cases are
+-- active, and none if `job` is exclusive.
 abbrev pub is_put_allowed : List Job → ℕ → Trace → Job → Bool
 is_put_allowed plan n T job =
     is_some job.decided && list_all (is_begun T) (jobs_before job.position (turns plan))
     && (if job.exclusive then active plan T == 0 else nat_lt (active plan T) n)
 
--- `was_put_allowed plan n T job`: `is_put_allowed plan n` holds of `job` after the events `T`, or
--- after a prefix of `T`.
+-- `was_put_allowed plan n T job`: with the width `n`, the entry of the decided `job` of `plan`
+-- could be put after the events `T` or a prefix of `T` (`is_put_allowed`).
 abbrev pub was_put_allowed : List Job → ℕ → Trace → Job → Bool
 was_put_allowed plan n NoEvent job = is_put_allowed plan n NoEvent job
 was_put_allowed plan n (Then T e) job = was_put_allowed plan n T job || is_put_allowed plan n (Then T e) job
@@ -46,8 +47,8 @@ abbrev pub puts_scheduled_at : ℕ → List Job → List ScheduledPut
 puts_scheduled_at k jobs = map (λ job. record { position = job.position; after = k }) jobs
 
 -- `scheduled_puts plan n T`: the puts that the events `T` schedule in the run of `plan` with the
--- width `n`, in order. Each event schedules the case that it finished, then decided cases in turn
--- order.
+-- width `n`, in order. Each event schedules the put of the case that it finishes. Then it schedules
+-- the puts of the decided cases that become allowed, in turn order.
 abbrev pub scheduled_puts : List Job → ℕ → Trace → List ScheduledPut
 scheduled_puts plan n NoEvent = puts_scheduled_at 0 (filter (is_put_allowed plan n NoEvent) (turns plan))
 scheduled_puts plan n (Then T e) =
@@ -55,6 +56,6 @@ scheduled_puts plan n (Then T e) =
     ++ puts_scheduled_at (event_count (Then T e)) (filter (λ job. is_put_allowed plan n (Then T e) job && not (was_put_allowed plan n T job)) (turns plan)))
 
 -- `recorded plan n T`: the record order of the run of `plan` with the width `n`, after the events
--- `T`. It has the positions of `scheduled_puts plan n T`.
+-- `T`. It has the positions of the cases whose puts are scheduled (`scheduled_puts`), in order.
 abbrev pub recorded : List Job → ℕ → Trace → List ℕ
 recorded plan n T = map (λ due. due.position) (scheduled_puts plan n T)

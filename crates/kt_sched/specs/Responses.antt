@@ -7,13 +7,13 @@ use Rattle.kt_sched.specs.Trace.{Start, End, Trace, NoEvent, Then, event_count}
 use Rattle.kt_sched.specs.History.{EventKind, BodyStarted, BodyEnded, CleanupStarted, history}
 
 -- `Responses`: the responses in a run so far: the trace of the launcher, and the number of stored
--- entries. If a put failed, `stopped` is the number of events before this put.
+-- entries. If a put failed, `stopped` is the number of events before this put, else `None`.
 pub record Responses : Type 0 where
   pub trace : Trace
   pub stored : ℕ
   pub stopped : Option ℕ
 
--- `no_responses`: no response so far.
+-- `no_responses`: the responses at the start of a run: no event, no stored entry and no failed put.
 abbrev pub no_responses : Responses
 no_responses = record { trace = NoEvent; stored = 0; stopped = None }
 
@@ -22,7 +22,7 @@ abbrev pub has_failed : Responses → Bool
 has_failed fed = is_some fed.stopped
 
 -- `responses_after fed asked answer`: the responses `fed`, followed by the response `answer` to the
--- step `asked`.
+-- step `asked`. It is `fed` if `answer` does not fit this step.
 abbrev pub responses_after : Responses → Next → Answer → Responses
 responses_after fed (next.Start i role) (answer.Started moment) = record fed { trace = Then fed.trace (Start i role (Started moment)) }
 responses_after fed (next.Start i role) (answer.Refused cause) = record fed { trace = Then fed.trace (Start i role (Refused cause)) }

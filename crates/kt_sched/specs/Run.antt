@@ -11,8 +11,9 @@ use Rattle.kt_sched.specs.EntryOf.{PutsInOrder, IsEntryOf, AreEntries}
 use Rattle.kt_sched.specs.Children.{IsEvidence}
 use Rattle.kt_base.specs.Moments.{IsMoment}
 
--- `FitsAt plan T event`: the timestamp of `event` is in the range of timestamps, and its evidence
--- fits the interface of its job in `plan`. The rule doesn't depend on the events `T` before it.
+-- `FitsAt plan T event`: the timestamp of `event`, if any, is before the year 10000. If `event` is
+-- the end of a child, its evidence fits the interface of its job in `plan`. The rule doesn't depend
+-- on `T`, the events before `event`.
 abbrev pub FitsAt : List Job → Trace → Event → Type 0
 FitsAt plan T (Start i role answer) = HasMoment answer
 FitsAt plan T (End ended) =
@@ -52,8 +53,9 @@ module _ {S : Type 0} (puts : S → Entry → Result (Unit {0}) SinkFault → S 
     pub fails : puts mid refused (Err fault) after
 
   -- `CompletesRun plan n T gained before after totals`: no put of the run of `plan` with the width
-  -- `n` failed, and its trace `T` is legal. `gained` has the entry of each case in record order.
-  -- Their puts lead the sink from `before` to `after`, and `totals` counts them.
+  -- `n` failed, and its trace `T` is legal. The record order has each case once, and `gained` has
+  -- as many entries. The puts of these entries lead the sink from `before` to `after`, and `totals`
+  -- counts the entries.
   pub record CompletesRun (plan : List Job) (n : ℕ) (T : Trace) (gained : List Entry) (before after : S) (totals : Totals) : Type 0 where
     pub legal : Legal plan n T
     pub once : NamesEachOnce plan (recorded plan n T)
@@ -80,9 +82,10 @@ module _ {S : Type 0} (puts : S → Entry → Result (Unit {0}) SinkFault → S 
 
 module _ {L S : Type 0} (l : launcher.Ghosts L) (s : sink.Ghosts S) where
   -- `RunsPlan plan n old new before after result`: the run of `plan` with the width `n` returns
-  -- `result`. A trace of responses leads the launcher from `old` to `new`. From `before` to
-  -- `after`, the sink gains the entries of the first cases in record order. `l` and `s` are the
-  -- relations of the launcher and the sink.
+  -- `result`. A trace of responses leads the launcher from the state `old` to `new`. Each case has
+  -- at most 4 events and at most one put. From the state `before` to `after`, the sink gains the
+  -- entries of the first cases in record order. `l` and `s` are the relations of the launcher and
+  -- the sink.
   pub record RunsPlan (plan : List Job) (n : ℕ) (old new : L) (before after : S) (result : Result Totals RunFault) : Type 0 where
     pub trace : Trace
     pub leads : Leads l.starts l.waits plan trace old new

@@ -31,7 +31,8 @@ is_waiting_stage Waiting = true
 is_waiting_stage Decided = true
 is_waiting_stage _ = false
 
--- `is_active_stage stage`: a case in the stage `stage` is active.
+-- `is_active_stage stage`: a case in the stage `stage` is active: its body or cleanup runs, or its
+-- cleanup is to be started.
 abbrev pub is_active_stage : Stage → Bool
 is_active_stage (Running m) = true
 is_active_stage (PendingCleanup b) = true
@@ -53,14 +54,16 @@ abbrev pub work : List Case → ℕ
 work cases = sum_by (λ c. stage_work c.stage) cases
 
 -- `ReducesWork next old new`: `old` and `new` are the work left before and after the response to
--- the step `next`. The response to a put keeps it, and each other response reduces it.
+-- the step `next`. The response to a put keeps the work, and the response to a start or a wait
+-- reduces it.
 abbrev pub ReducesWork : Next → ℕ → ℕ → Type 0
 ReducesWork (next.Put i) old new = new ≡ old
 ReducesWork (next.Start i role) old new = new < old
 ReducesWork next.Wait old new = new < old
 ReducesWork next.Done old new = ⊤
 
--- `unstarted_record verdict`: the record of a case with the verdict `verdict` that was not started.
+-- `unstarted_record verdict`: the record of a case that was not started and has the verdict
+-- `verdict`.
 abbrev pub unstarted_record : VerdictValue → CaseRecord
 unstarted_record verdict = record { verdict = verdict; started = 0; millis = 0; body = empty_output; cleanup = empty_output }
 
@@ -96,20 +99,20 @@ IsStage i job (Finished t) es = (is_whole job (map kind_of_event es) ≡ true) �
 IsStage i job Taken es = is_whole job (map kind_of_event es) ≡ true
 
 -- `RepresentsCase T i job cases`: the element `i` of `cases` has the stage of case `i` after the
--- events `T`. It has the job `job` of this case, unless the entry of the case was taken.
+-- events `T`. It has the job `job` of this case, unless its stage is `Taken`.
 pub record RepresentsCase (T : Trace) (i : ℕ) (job : Job) (cases : List Case) : Type 0 where
   pub case : Case
   pub found : slice_get cases i ≡ Some case
   pub stage : IsStage i job case.stage (of i T)
   pub kept : case.stage ≢ Taken → case.job ≡ job
 
--- `HasExclusiveFlag cases i flag`: case `i` of `cases` is exclusive if `flag` is true, else
--- ordinary.
+-- `HasExclusiveFlag cases i flag`: case `i` of `cases` is exclusive if `flag` is true, and is not
+-- exclusive if `flag` is false.
 abbrev pub HasExclusiveFlag : List Case → ℕ → Bool → Type 0
 HasExclusiveFlag cases i flag = (c : Case) × (slice_get cases i ≡ Some c) × (c.job.exclusive ≡ flag)
 
--- `is_decided_stage stage`: `stage` is `Decided`: the verdict is decided before the run, and the
--- entry is not taken yet.
+-- `is_decided_stage stage`: `stage` is `Decided`: the verdict was decided before the run, and the
+-- entry was not moved out yet.
 abbrev pub is_decided_stage : Stage → Bool
 is_decided_stage Decided = true
 is_decided_stage _ = false
@@ -120,16 +123,19 @@ abbrev pub HasDecidedFlag : List Case → ℕ → Bool → Type 0
 HasDecidedFlag cases i flag = (c : Case) × (slice_get cases i ≡ Some c) × (is_decided_stage c.stage ≡ flag)
 
 -- `HasTurn b i`: in the state `b`, case `i` is next in turn order, no put failed, and there is a
--- free slot. Fewer cases are active than the width, and none if case `i` is exclusive.
+-- free slot for the case: fewer cases are active than the width, and none if case `i` is exclusive.
 abbrev pub HasTurn : SchedState → ℕ → Type 0
 HasTurn b i = (b.failed ≡ false) × (slice_get b.order b.turn ≡ Some i) × (b.active < b.width) × (b.active ≡ 0 ⊎ HasExclusiveFlag b.cases i false)
 
--- `IsSettled b`: if no case is ready in the state `b`, the next case in turn order is not a decided
--- case with a free slot.
+-- `IsSettled b`: in the state `b`, no decided case can be made ready to be put. Either a put
+-- failed, a case is ready already, or the next case in turn order is not decided or has no free
+-- slot.
 abbrev pub IsSettled : SchedState → Type 0
 IsSettled b = b.ready ≡ None → (i : ℕ) → HasTurn b i → HasDecidedFlag b.cases i false
 
 -- `HasRequested b next`: the scheduler may be in the state `b` after it requested the step `next`.
+-- A put is that of the ready case, and before a start or a wait no case is ready. The start of a
+-- cleanup is that of the pending case. Before the start of a body or a wait, no cleanup is pending.
 abbrev pub HasRequested : SchedState → Next → Type 0
 HasRequested b (next.Start i Body) = (b.ready ≡ None) × (b.pending ≡ None) × HasTurn b i × IsSettled b
 HasRequested b (next.Start i Cleanup) = (b.ready ≡ None) × (b.pending ≡ Some i) × IsSettled b
@@ -137,12 +143,12 @@ HasRequested b next.Wait = (b.ready ≡ None) × (b.pending ≡ None) × (0 < b.
 HasRequested b (next.Put i) = (b.failed ≡ false) × (b.ready ≡ Some i)
 HasRequested b next.Done = ⊤
 
--- `HasRecord cases i`: case `i` of `cases` has a record, so its entry can be taken.
+-- `HasRecord cases i`: case `i` of `cases` has a record, so `Sched::take` can return its entry.
 abbrev pub HasRecord : List Case → ℕ → Type 0
 HasRecord cases i = (c : Case) × (t : CaseRecord) × (slice_get cases i ≡ Some c) × (record_in c.job c.stage ≡ Some t)
 
--- `IsNotTaken cases i`: the entry of case `i` of `cases` is not taken yet, so `Sched::job` may
--- return its job.
+-- `IsNotTaken cases i`: the stage of case `i` of `cases` is not `Taken`, so `Sched::job` may return
+-- its job.
 abbrev pub IsNotTaken : List Case → ℕ → Type 0
 IsNotTaken cases i = (c : Case) × (slice_get cases i ≡ Some c) × (c.stage ≢ Taken)
 
@@ -163,9 +169,10 @@ allowed_puts plan n T turn = filter (is_put_allowed plan n T) (drop turn (turns 
 abbrev pub positions : List Job → List ℕ
 positions jobs = map (λ (job : Job). job.position) jobs
 
--- `TracksAllowedPuts plan n T turn`: after the events `T`, `was_put_allowed plan n T` holds of each
--- decided case of `plan` before the index `turn` in turn order. From this index on, it holds only
--- of the cases of which `is_put_allowed plan n T` holds now.
+-- `TracksAllowedPuts plan n T turn`: `turn` is an index in the turn order of `plan`, after the
+-- events `T` and with the width `n`. The puts of all decided cases before this index were allowed
+-- after `T` or a prefix of `T`. From this index on, each put that was ever allowed is still allowed
+-- after `T`.
 pub record TracksAllowedPuts (plan : List Job) (n : ℕ) (T : Trace) (turn : ℕ) : Type 0 where
   pub gone : (k : ℕ) (job : Job) → k < turn → slice_get (turns plan) k ≡ Some job → is_decided job ≡ true → was_put_allowed plan n T job ≡ true
   pub due : (k : ℕ) (job : Job) → turn ≤ k → slice_get (turns plan) k ≡ Some job → was_put_allowed plan n T job ≡ is_put_allowed plan n T job
@@ -175,7 +182,8 @@ abbrev pub is_pending_stage : Stage → Bool
 is_pending_stage (PendingCleanup b) = true
 is_pending_stage _ = false
 
--- `is_pending_case pending k`: case `k` is `pending`, the case whose cleanup is to be started.
+-- `is_pending_case pending k`: case `k` is the case `pending`, whose cleanup is to be started. It
+-- is false if `pending` is `None`.
 abbrev pub is_pending_case : Option ℕ → ℕ → Bool
 is_pending_case None k = false
 is_pending_case (Some i) k = k == i
@@ -209,9 +217,9 @@ pub record RepresentsTurn (plan : List Job) (T : Trace) (cases : List Case) (ord
       → (turn ≤ k → is_waiting_stage c.stage ≡ true) × (k < turn → c.stage ≢ Waiting)
 
 -- `RepresentPuts plan n fed order turn next stop`: `stop` is true if a put of the responses `fed`
--- failed. Otherwise, the run of `plan` with the width `n` has puts left. They are the put of the
--- ready case `next`, if any, and then those of `allowed_puts` for the index `turn`. `order` is the
--- turn order.
+-- failed. Otherwise, `next` and `turn` determine the puts that are left in the run of `plan` with
+-- the width `n`. The first is the put of the ready case `next`, if any. Then come the puts of
+-- `allowed_puts` for the index `turn`. `order` is the turn order.
 pub record RepresentPuts (plan : List Job) (n : ℕ) (fed : Responses) (order : List ℕ) (turn : ℕ) (next : Option ℕ) (stop : Bool) : Type 0 where
   pub failed : stop ≡ has_failed fed
   pub stopped : stop ≡ true → next ≡ None
@@ -229,7 +237,8 @@ pub record RepresentsRun (plan : List Job) (n : ℕ) (fed : Responses) (b : Sche
   pub has_record : (i : ℕ) → b.ready ≡ Some i → b.asked ≡ next.Done → HasRecord b.cases i
   pub asked : HasRequested b b.asked
 
--- `HoldsForEachRun b P`: `P` holds for each plan, width and responses of which `b` is the state.
+-- `HoldsForEachRun b P`: `P` holds for each plan, width and responses that lead a scheduler to the
+-- state `b` (`RepresentsRun`).
 abbrev pub HoldsForEachRun : SchedState → (List Job → ℕ → Responses → Type 0) → Type 0
 HoldsForEachRun b P = (plan : List Job) (n : ℕ) (fed : Responses) → RepresentsRun plan n fed b → P plan n fed
 

@@ -7,8 +7,8 @@ use Rattle.kt_sched.specs.Trace.{Event, Start, End, Trace, NoEvent, Then, of, fi
 use Rattle.kt_sched.specs.History.{has_whole_history, is_active, active}
 use Rattle.kt_sched.specs.TurnOrder.{body_starts, undecided_turns, next_to_start}
 
--- `HoldsAtEachEvent P T`: `P U e` holds for each event `e` of `T`, where `U` are the events before
--- `e`.
+-- `HoldsAtEachEvent P T`: the rule `P` holds for each event of the trace `T`. `P U e` is the rule
+-- for the event `e` after the events `U`.
 abbrev pub HoldsAtEachEvent : (Trace → Event → Type 0) → Trace → Type 0
 HoldsAtEachEvent P NoEvent = ⊤
 HoldsAtEachEvent P (Then T e) = HoldsAtEachEvent P T × P T e
@@ -23,20 +23,21 @@ abbrev pub KeepsWidth : List Job → ℕ → Trace → Event → Type 0
 KeepsWidth plan n T (Start i Body answer) = active plan T < n
 KeepsWidth plan n T other = ⊤
 
--- `IsQuiet plan T`: after the events `T`, no case of `plan` is active, and the history of each
--- ordinary case is whole.
+-- `IsQuiet plan T`: after the events `T`, no case of `plan` is active, and each case that is not
+-- exclusive has a whole history.
 abbrev pub IsQuiet : List Job → Trace → Type 0
 IsQuiet plan T = (active plan T ≡ 0) × (list_all (λ (job : Job). job.exclusive || has_whole_history T job) plan ≡ true)
 
--- `IsExclusiveAtStart plan T i role`: exclusiveness allows the start of case `i` of `plan` in the
--- role `role` after the events `T`. An exclusive body starts only if `IsQuiet` holds. While an
--- exclusive case is active, only its own cleanup starts.
+-- `IsExclusiveAtStart plan T i role`: the rule of exclusive cases allows the start of case `i` of
+-- `plan` in the role `role` after the events `T`. An exclusive body starts only if no case is
+-- active and each case that is not exclusive is over (`IsQuiet`). While an exclusive case is
+-- active, only its own cleanup starts.
 pub record IsExclusiveAtStart (plan : List Job) (T : Trace) (i : ℕ) (role : Role) : Type 0 where
   pub quiet : (job : Job) → slice_get plan i ≡ Some job → job.exclusive ≡ true → role ≡ Body → IsQuiet plan T
   pub own : (job : Job) (k : ℕ) → slice_get plan k ≡ Some job → job.exclusive ≡ true → is_active T job ≡ true → (k ≡ i) × (role ≡ Cleanup)
 
--- `KeepsExclusive plan T event`: if `event` is a start of a case of `plan`, exclusiveness allows it
--- after the events `T`.
+-- `KeepsExclusive plan T event`: if `event` is a start of a case of `plan`, the rule of exclusive
+-- cases allows this start after the events `T`.
 abbrev pub KeepsExclusive : List Job → Trace → Event → Type 0
 KeepsExclusive plan T (Start i role answer) = IsExclusiveAtStart plan T i role
 KeepsExclusive plan T (End ended) = ⊤
@@ -68,8 +69,8 @@ abbrev pub IsBusy : List Job → ℕ → Trace → Type 0
 IsBusy plan n T =
     (active plan T ≡ n) ⊎ MatchOption (next_to_start plan T) ⊤ (λ job. (job.exclusive ≡ true) × (0 < active plan T))
 
--- `WaitsWhenBusy plan n T event`: if `event` is an end, no body of `plan` may be started after the
--- events `T` with the width `n`. So the scheduler waits.
+-- `WaitsWhenBusy plan n T event`: if `event` is the end of a child, no body of `plan` may be
+-- started after the events `T` with the width `n`. So a run waits only when no body may start.
 abbrev pub WaitsWhenBusy : List Job → ℕ → Trace → Event → Type 0
 WaitsWhenBusy plan n T (Start i role answer) = ⊤
 WaitsWhenBusy plan n T (End ended) = IsBusy plan n T
@@ -85,8 +86,9 @@ pub record Legal (plan : List Job) (n : ℕ) (T : Trace) : Type 0 where
   pub busy : HoldsAtEachEvent (WaitsWhenBusy plan n) T
 
 -- `Stopped plan n T k`: `T` is the trace of a run of `plan` with the width `n`, in which a put
--- failed after `k` events. No body starts after these, each case that has an event has a whole
--- history, and the rules of `Legal` hold. The rule of waits holds for the first `k` events only.
+-- failed after `k` events. No body starts after these events, and each case that has an event has a
+-- whole history. The rules of order, width, exclusiveness and cleanups hold. The rule of waits
+-- holds for the first `k` events only.
 pub record Stopped (plan : List Job) (n : ℕ) (T : Trace) (k : ℕ) : Type 0 where
   pub starts : body_starts T ≡ body_starts (first k T)
   pub whole : (job : Job) (i : ℕ) → slice_get plan i ≡ Some job → (of i T ≡ []) ⊎ (has_whole_history T job ≡ true)

@@ -8,8 +8,8 @@ pub data Event : Type 0 where
   Start : (position : ℕ) (role : Role) (answer : StartAnswer) → Event
   End : (ended : Ended) → Event
 
--- `HasMoment answer`: if `answer` reports a start, the timestamp of the start is in the range of
--- timestamps.
+-- `HasMoment answer`: if `answer` reports a start, the timestamp of the start is before the year
+-- 10000.
 abbrev pub HasMoment : StartAnswer → Type 0
 HasMoment (Started moment) = IsMoment moment
 HasMoment (Refused cause) = ⊤
@@ -21,8 +21,9 @@ pub data Trace : Type 0 where
 
 -- For a launcher with the relations `starts` and `waits` of its calls, and the jobs of `plan`.
 module _ {L : Type 0} (starts : L → Job → Role → StartAnswer → L → Type 0) (waits : L → Ended → L → Type 0) (plan : List Job) where
-  -- `Leads T old new`: the responses `T` lead the launcher from the state `old` to the state `new`.
-  -- Each start was called with the job of `plan` at the position of the start.
+  -- `Leads T old new`: the responses `T` lead the launcher from the state `old` to the state `new`,
+  -- by its relations `starts` and `waits`. Each start was called with the job of `plan` at the
+  -- position of the start.
   abbrev pub Leads : Trace → L → L → Type 0
   Leads NoEvent old new = new ≡ old
   Leads (Then T (Start i role answer)) old new = (mid : L) × (job : Job) × Leads T old mid × (slice_get plan i ≡ Some job) × starts mid job role answer new

@@ -15,16 +15,17 @@ abbrev pub body_starts : Trace → List ℕ
 body_starts NoEvent = []
 body_starts (Then T e) = body_starts T ++ body_start_of e
 
--- `turns plan`: the jobs of `plan` in turn order: all ordinary cases, then all exclusive cases.
+-- `turns plan`: the jobs of `plan` in turn order: all jobs that are not exclusive, then all
+-- exclusive jobs.
 abbrev pub turns : List Job → List Job
 turns plan = filter (λ job. not job.exclusive) plan ++ filter (λ job. job.exclusive) plan
 
--- `undecided_turns plan`: the undecided jobs of `plan`, whose bodies are to be started, in turn
--- order.
+-- `undecided_turns plan`: the jobs of `plan` without a decided verdict, in turn order. Their bodies
+-- are to be started.
 abbrev pub undecided_turns : List Job → List Job
 undecided_turns plan = filter (λ job. is_none job.decided) (turns plan)
 
 -- `next_to_start plan T`: the job of `plan` whose body is to be started next after the events `T`,
--- or `None`.
+-- or `None` if no body is left to start.
 abbrev pub next_to_start : List Job → Trace → Option Job
 next_to_start plan T = slice_get (undecided_turns plan) (length (body_starts T))

@@ -6,9 +6,10 @@ use kt_base::{Entry, Text, Variables};
 use std::alloc::Global;
 use std::mem;
 
-/// Takes the entry of case `i`, which is over or decided, out of `cases`, and returns the entry.
+/// Returns the entry of case `i`, moved out of `cases`.
 ///
-/// Names, reason and outputs are moved, not copied.
+/// The case must be over or decided, and its stage is then `Taken`. Names, reason, outputs and
+/// properties are moved, not copied.
 pub fn take_entry(alloc: Global, cases: &mut Vec<Case>, i: u32) -> Entry
     requires { HasRecord cases.old.items i }
     ensures { TakesEntry cases.old.items cases.new.items i result }

@@ -1,8 +1,8 @@
 use kt_base::{Interface, Outcome, Output, Refused, Role, Text, Variables, Verdict};
 use kt_claim::Evidence;
 
-/// The greatest width of a run. The width is the maximum number of active cases at once (this
-/// profile).
+/// The greatest width of a run (this profile). The width is the greatest number of cases that may
+/// be active at once: started, and not over.
 pub const MAX_WIDTH: u32 = 256;
 
 /// The greatest timeout of a case, in seconds (this profile).
@@ -26,16 +26,16 @@ pub struct Job {
     pub exclusive: bool,
     /// `true` if the case declares a cleanup (`has.cleanup` of atf-test-case(4)).
     pub cleanup: bool,
-    /// The verdict of a case that is not started, since a requirement is not met or the list of its
-    /// program failed. `None` if the case is to be started.
+    /// The verdict of a case that must not be started, because a requirement is not met or its
+    /// program failed to list its cases. `None` if the case is to be started.
     pub decided: Option<Verdict>,
     /// The properties that the case or its program declares, as names with values. The entry of the
     /// case contains them, too.
     pub meta: Variables,
 }
 
-/// A manual `Drop`, for the prover: a drop is one call, and only this function takes the fields
-/// apart.
+/// A manual `Drop`, for the prover: for a caller's proof, a drop of a job is one call, not a drop
+/// of each field.
 impl Drop for Job {
     fn drop(self) {
         let Job {
@@ -53,7 +53,7 @@ impl Drop for Job {
     }
 }
 
-/// A response of a launcher to a start.
+/// A response of a launcher to the request to start a child.
 #[derive(Clone, Copy)]
 pub enum StartAnswer {
     /// The launcher started the child at this timestamp, in milliseconds since 1970 in UTC.
@@ -71,11 +71,12 @@ pub struct Ended {
     pub role: Role,
     /// The outcome of the child, such as its exit status.
     pub outcome: Outcome,
-    /// The evidence of the body, of the kind that the interface of its program selects. For a
-    /// cleanup, it is `Plain`, and is not used.
+    /// The evidence by which the body is judged: the claim of its result file, the summary of its
+    /// TAP output, or `Plain`, as its interface selects. For a cleanup, it is `Plain`, and is not
+    /// used.
     pub evidence: Evidence,
     /// The standard output and the standard error of the child.
     pub output: Output,
-    /// The timestamp of the end, in milliseconds since 1970 in UTC.
+    /// The timestamp of the child's end, in milliseconds since 1970 in UTC.
     pub moment: u64,
 }

@@ -3,8 +3,8 @@ use kt_base::Role;
 
 /// An interface to start children and to wait for them.
 ///
-/// The ghost relations describe each call by the launcher's states before and after it, and by its
-/// response. A launcher has no history of calls in its contract.
+/// The ghost relations describe one call: the launcher's states before and after the call, and its
+/// response. The contract doesn't mention earlier calls.
 pub trait Launcher {
     ghost use Rattle.std.specs.Prelude.{ℕ, Bool, ◌≡◌, Option, Some};
     ghost use Rattle.kt_base.specs.declared.child.Role.{Role};
@@ -16,18 +16,20 @@ pub trait Launcher {
     ghost use Rattle.kt_sched.specs.Trace.{HasMoment};
     ghost use Rattle.kt_sched.specs.Plan.{IsFit};
 
-    /// The child that runs for the case at a position, in a role: the case's interface, and whether
-    /// the case declares a cleanup. `None` if no such child runs.
+    /// The running child of the case at a position, in a role, or `None` if no such child runs. A
+    /// child is described by the interface of its case, and by whether the case declares a cleanup.
     ghost running: { Self → ℕ → Role → Option Child };
 
     /// `true` if the body of the case at a position ended, and the start of its declared cleanup
     /// was not requested yet.
     ghost pending: { Self → ℕ → Bool };
 
-    /// The relation of the states before and after the start of a job in a role, with its response.
+    /// The relation of the launcher's states before and after the start of a job's body or cleanup,
+    /// and of the response to the start.
     ghost starts: { Self → Job → Role → StartAnswer → Self → Type 0 };
 
-    /// The relation of the states before and after a wait, with the end that it returns.
+    /// The relation of the launcher's states before and after a wait, and of the end that the wait
+    /// returns.
     ghost waits: { Self → Ended → Self → Type 0 };
 
     /// Starts the body or the cleanup of the case of `job`, as `role` selects.

@@ -9,7 +9,8 @@ use kt_base::Role;
 use kt_status::{CleanupEnd, body_verdict, refused_verdict, with_cleanup};
 use std::alloc::Global;
 
-/// Returns the stage of a case after the response `answer` to a start in the role `role`.
+/// Returns the stage of a case after the launcher's response `answer` to the start of its body or
+/// its cleanup, as `role` selects.
 ///
 /// `was` is the stage before the start.
 pub fn stage_after_start(alloc: Global, was: Stage, role: Role, answer: StartAnswer) -> Stage
@@ -38,7 +39,7 @@ pub fn stage_after_start(alloc: Global, was: Stage, role: Role, answer: StartAns
     }
 }
 
-/// Returns the stage of a case after the end `ended` of its child.
+/// Returns the stage of a case after its running child ended with `ended`.
 ///
 /// `was` is the stage before the end. `cleanup` is `true` if the case declares a cleanup.
 ///
@@ -72,11 +73,11 @@ pub fn stage_after_end(alloc: Global, was: Stage, cleanup: bool, ended: Ended) -
     }
 }
 
-/// Returns the number of active cases after an event.
+/// Returns the number of active cases after an event: a response to a start, or the end of a child.
 ///
 /// `active` is the number of active cases before the event, and `width` is the greatest number of
-/// them. `before` is `true` if the case of the event was active before it. `stage` is the new stage
-/// of that case.
+/// active cases. `before` is `true` if the case of the event was active before the event. `stage`
+/// is the new stage of that case.
 pub fn count_active(active: u32, width: u32, before: bool, stage: &Stage) -> u32
     requires less { before ≡ true → 0 < active }
     requires more { before ≡ false → active < width }
@@ -90,10 +91,11 @@ pub fn count_active(active: u32, width: u32, before: bool, stage: &Stage) -> u32
     }
 }
 
-/// Returns the index of the next case in turn order after a start in `role`.
+/// Returns the index in turn order of the next case to start, after a body or a cleanup was
+/// requested to start, as `role` selects.
 ///
-/// `turn` is the index before the start. A start of a body adds 1 to it, and a start of a cleanup
-/// keeps it. `cases` is the number of cases.
+/// `turn` is the index before the start. The start of a body adds 1 to it, even if the launcher
+/// refused the start. The start of a cleanup keeps it. `cases` is the number of cases.
 pub fn turn_after_start(turn: usize, cases: usize, role: Role) -> usize
     requires { role ≡ TheBody → turn < cases }
     ensures { result ≡ turn + cond (is_same_role role TheBody) 1 0 }
@@ -108,11 +110,11 @@ pub fn turn_after_start(turn: usize, cases: usize, role: Role) -> usize
 /// `i`.
 ///
 /// `stage` is the new stage of the case, and `failed` is `true` if a put failed. The first result
-/// is `i` if the cleanup of the case is to be started next. The second result is `i` if the entry
-/// of the case is to be put.
+/// is `i` if the cleanup of the case is to be started next, else `None`. The second result is `i`
+/// if the case is over and no put failed, else `None`: the entry of the case is to be put.
 ///
-/// The entry is to be put if the case is over and no put failed. An event leaves no case in the
-/// stage `Decided` or `Taken`.
+/// No event leads a case to the stage `Decided` or `Taken`. The match lists them, because a case in
+/// these stages is over, too.
 pub fn pending_and_ready_cases(stage: &Stage, failed: bool, i: u32) -> (Option<u32>, Option<u32>)
     ensures owing { result.0 ≡ pending_at stage.now i }
     ensures ready { result.1 ≡ ready_at stage.now failed i }

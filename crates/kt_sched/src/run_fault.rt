@@ -11,8 +11,8 @@ use thiserror::Error;
 pub enum RunFault {
     /// An allocation failed before the first launcher call.
     NoMemory(NoMemory),
-    /// An entry could not be put into the sink. Each running child was waited for, and the declared
-    /// cleanup of each body that ended was requested.
+    /// The put of an entry into the sink failed. The run still waited for each running child, and
+    /// requested the start of the declared cleanup of each body that ended.
     SinkFailed(SinkFault),
 }
 

@@ -10,19 +10,21 @@ use std::alloc::Global;
 use std::marker::Model;
 use std::mem;
 
-/// A scheduler of a plan. Its state represents the plan, the width and the responses so far.
+/// A scheduler of a plan, which selects each next step of a run. Its state represents the plan, the
+/// width and the responses so far.
 #[derive(Drop)]
 pub struct Sched {
     /// The allocator for empty texts and outputs.
     alloc: Global,
     /// The cases of the plan, by position.
     cases: Vec<Case>,
-    /// The positions of all cases in turn order.
+    /// The positions of all cases in turn order: exclusive cases come after all others.
     order: Vec<u32>,
     /// The index in `order` of the next case to be started, or to be put if its verdict is decided.
     /// It is the length of `order` if no such case is left.
     turn: usize,
-    /// The number of active cases, at most `width`.
+    /// The number of active cases, at most `width`. A case is active from the start of its body
+    /// until it is over.
     active: u32,
     /// The greatest number of active cases, 1 to 256.
     width: u32,
@@ -32,7 +34,7 @@ pub struct Sched {
     ready: Option<u32>,
     /// The step that `next` returned last, or `Done` once the response to that step was recorded.
     asked: Next,
-    /// `true` if a put failed.
+    /// `true` if the put of an entry into the sink failed.
     failed: bool,
 }
 
@@ -107,7 +109,7 @@ impl Sched {
 
     /// Returns the job at `position` in the plan.
     ///
-    /// The entry of the job's case must not be taken yet.
+    /// The entry of the job's case must not have been moved out by `take` before.
     pub fn job(&self, position: u32) -> &Job
         requires { IsNotTaken self.now.cases position }
         ensures { HoldsForEachRun self.now (λ plan _ _. slice_get plan position ≡ Some result.now) }
@@ -115,9 +117,10 @@ impl Sched {
         &self.cases[position as usize].job
     }
 
-    /// Takes the entry of the case at `position` out of the scheduler, and returns the entry.
+    /// Returns the entry of the case at `position`, moved out of the scheduler.
     ///
-    /// The step that `next` returned last must be the put of this entry.
+    /// The step that `next` returned last must be the put of this entry. The entry must not have
+    /// been moved out before.
     pub fn take(&mut self, position: u32) -> Entry
         requires asked { self.old.asked ≡ Next.Put position }
         requires has_record { HasRecord self.old.cases position }
@@ -157,8 +160,10 @@ impl Sched {
         }
     }
 
-    /// Records the response `answer` to the start of case `i` in `role`, which `next` returned
-    /// last.
+    /// Records `answer`, the launcher's response to the start of the body or cleanup of case `i`,
+    /// as `role` selects.
+    ///
+    /// `next` must have returned this start last.
     pub(crate) fn started(&mut self, i: u32, role: Role, answer: StartAnswer)
         requires { self.old.asked ≡ Next.Start i role }
         ensures { RecordsEvent self.old (Start i role answer) self.new }
@@ -188,7 +193,7 @@ impl Sched {
         self.asked = Next::Done;
     }
 
-    /// Returns the next step, or `Done` if no step is left.
+    /// Returns the next step of the run, or `Done` if no step is left.
     ///
     /// If several steps apply, the order is: a put, the start of a cleanup, the start of a body, a
     /// wait.
@@ -214,8 +219,8 @@ impl Sched {
     /// Makes the next case in turn order ready to be put, if its verdict was decided before the
     /// run.
     ///
-    /// Does nothing if another case is ready, if the next case is not decided, or if there is no
-    /// free slot for it.
+    /// Does nothing if a put failed, another case is ready, the next case is not decided, or there
+    /// is no free slot for it.
     fn mark_decided_ready(&mut self)
         ensures stands { HoldsForEachRun self.old (λ plan n fed. RepresentsRun plan n fed self.new) }
         ensures same { self.new.cases ≡ self.old.cases }
@@ -255,11 +260,11 @@ impl Sched {
     }
 
     /// Returns the position of the next case in turn order, if no put failed and there is a free
-    /// slot for the case.
+    /// slot for the case, else `None`.
     ///
     /// There is a free slot if fewer than `width` cases are active. For an exclusive case, no case
     /// may be active. A case is active until its cleanup is over. Exclusive cases are last in turn
-    /// order, so none of them is active if the next case is ordinary.
+    /// order, so none of them is active if the next case is not exclusive.
     fn startable_case(&self) -> Option<u32>
         ensures { IsStartableCase self.now result }
     {
@@ -276,7 +281,8 @@ impl Sched {
         }
     }
 
-    /// Records the response to the put of case `i`, where `failed` is `true` if the put failed.
+    /// Records the response to the put of the entry of case `i`, where `failed` is `true` if the
+    /// put failed.
     ///
     /// After a failed put, nothing is put and no body is started.
     pub(crate) fn put(&mut self, i: u32, failed: bool)

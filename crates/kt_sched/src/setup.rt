@@ -6,7 +6,7 @@ use crate::stage::{Case, Stage};
 use kt_base::NoMemory;
 use std::alloc::Global;
 
-/// Creates the case of `job` in its first stage: `Decided` if its verdict is decided, else
+/// Creates the case of `job` in its first stage: `Decided` if the job has a verdict already, else
 /// `Waiting`.
 fn initial_case(job: Job) -> Case
     ensures { result ≡ initial_case job }
@@ -33,8 +33,8 @@ pub fn create_cases(alloc: Global, plan: Vec<Job>) -> Result<Vec<Case>, NoMemory
     Ok(cases)
 }
 
-/// Returns the positions of the cases of `plan` in turn order: ordinary cases, then exclusive
-/// cases.
+/// Returns the positions of the cases of `plan` in turn order: the cases that are not exclusive,
+/// then the exclusive cases.
 ///
 /// # Errors
 ///
@@ -49,7 +49,7 @@ pub fn turn_order(alloc: Global, plan: &[Job]) -> Result<Vec<u32>, NoMemory>
 }
 
 /// Appends the positions of the exclusive jobs of `plan` to `order` if `exclusive` is `true`, else
-/// the positions of the ordinary jobs.
+/// the positions of the other jobs.
 fn push_positions(plan: &[Job], exclusive: bool, order: &mut Vec<u32>) -> Result<(), NoMemory>
     ensures { OnOk result (order.new.items ≡ order.old.items
         ++ positions_where exclusive plan.now) }

@@ -7,7 +7,7 @@ use thiserror::Error;
 pub enum SinkFault {
     /// An allocation failed.
     Memory,
-    /// The results store failed.
+    /// The results store failed for another cause than an allocation.
     Other,
 }
 
@@ -38,12 +38,14 @@ pub trait Sink {
     /// The relation of a sink to the entries that were put into it, in the order of the puts.
     ghost entries: { Self → List Entry → Type 0 };
 
-    /// The relation of the states before and after a put of an entry, with its result.
+    /// The relation of the sink's states before and after a put of an entry, and of the result of
+    /// the put.
     ghost puts: { Self → Entry → Result (Unit {0}) SinkFault → Self → Type 0 };
 
     /// Records `entry` after the entries that were put before.
     ///
-    /// The timestamps of the entry must be in the range that can be recorded.
+    /// The start time and the duration of the entry, in milliseconds, must be at most
+    /// 253,402,300,799,999. As a start time, this is the last millisecond of the year 9999.
     ///
     /// # Errors
     ///

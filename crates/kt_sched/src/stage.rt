@@ -4,9 +4,10 @@ use kt_base::{Output, Verdict};
 /// A stage of a case during a run.
 #[derive(Drop)]
 pub enum Stage {
-    /// The body was not started yet, and is to be started in turn order.
+    /// The body was not started yet, and is to be started in turn order: exclusive cases come last.
     Waiting,
-    /// The verdict was decided before the run, and the entry is to be recorded in turn order.
+    /// The verdict was decided before the run, and the entry is to be recorded when the case comes
+    /// next in turn order.
     Decided,
     /// The body runs. It was started at this timestamp, in milliseconds since 1970 in UTC.
     Running(u64),
@@ -16,7 +17,8 @@ pub enum Stage {
     Cleaning(EndedBody),
     /// The case is over, with this record, and its entry is to be recorded.
     Finished(CaseRecord),
-    /// The entry of the case was taken, or a function is replacing the stage.
+    /// The entry of the case was moved out to be put into the sink, or a function is replacing the
+    /// stage.
     Taken,
 }
 
@@ -25,10 +27,11 @@ pub enum Stage {
 pub struct CaseRecord {
     /// The verdict on the case.
     pub verdict: Verdict,
-    /// The timestamp of the start in milliseconds since 1970 in UTC, or 0 if the body was not
-    /// started.
+    /// The timestamp of the body's start, in milliseconds since 1970 in UTC, or 0 if the body was
+    /// not started.
     pub started: u64,
-    /// The duration of the case in milliseconds, or 0 if the body was not started.
+    /// The duration of the case in milliseconds. It is 0 if the body was not started, or if the
+    /// clock was set back.
     pub millis: u64,
     /// The output of the body.
     pub body: Output,
@@ -43,17 +46,18 @@ pub struct EndedBody {
     pub started: u64,
     /// The timestamp of the body's end, in milliseconds since 1970 in UTC.
     pub ended: u64,
-    /// The verdict on the body.
+    /// The verdict on the case by its body alone. The cleanup can change it.
     pub verdict: Verdict,
     /// The output of the body.
     pub output: Output,
 }
 
-/// A test case of the plan: a job and its stage.
+/// A test case during a run: its job, and the stage that the case has reached.
 #[derive(Drop)]
 pub struct Case {
-    /// The job. Its names, properties and decided verdict are empty once the entry was taken.
+    /// The job of the case. Once the entry was moved out, the program path, the case name and the
+    /// properties are empty, and `decided` is `None`.
     pub job: Job,
-    /// The stage of the case.
+    /// The stage that the case has reached in the run.
     pub stage: Stage,
 }

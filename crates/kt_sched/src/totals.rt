@@ -3,7 +3,7 @@ ghost use Rattle.std.specs.Prelude.{◌≡◌};
 /// A set of counts of the entries that were put into a sink: all, good and bad.
 #[derive(Clone, Copy)]
 pub struct Totals {
-    /// The number of all entries.
+    /// The number of all entries that were put into the sink.
     pub total: u64,
     /// The number of entries whose verdict is passed, skipped or expected_failure.
     pub good: u64,

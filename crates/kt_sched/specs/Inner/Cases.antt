@@ -31,7 +31,7 @@ pub record ReplacesStage (old new : List Case) (i : ℕ) (stage was : Stage) : T
   pub changed : new ≡ slice_set old i (record { job = job; stage = stage })
 
 -- `TakesEntry old new i entry`: `entry` is the entry of case `i` of the cases `old`. `new` are the
--- cases `old`, but the entry of case `i` is taken.
+-- cases `old`, but case `i` has the stage `Taken`. Its job in `new` is not specified.
 pub record TakesEntry (old new : List Case) (i : ℕ) (entry : Entry) : Type 0 where
   pub had : Job
   pub was : Stage
@@ -55,7 +55,8 @@ abbrev pub record_without_cleanup : VerdictValue → ℕ → Ended → CaseRecor
 record_without_cleanup verdict started e =
     record { verdict = verdict; started = started; millis = e.moment - started; body = e.output; cleanup = empty_output }
 
--- `can_start role stage`: a case in the stage `stage` can be started in the role `role`.
+-- `can_start role stage`: the child of a case in the role `role` can be started in the stage
+-- `stage`: a body in `Waiting`, and a cleanup in `PendingCleanup`.
 abbrev pub can_start : Role → Stage → Bool
 can_start Body Waiting = true
 can_start Cleanup (PendingCleanup b) = true
@@ -83,7 +84,8 @@ abbrev pub pending_at : Stage → ℕ → Option ℕ
 pending_at (PendingCleanup b) i = Some i
 pending_at _ i = None
 
--- `is_over stage`: a case in the stage `stage` has a whole history.
+-- `is_over stage`: a case in the stage `stage` has a whole history: the stage is `Decided`,
+-- `Finished` or `Taken`.
 abbrev pub is_over : Stage → Bool
 is_over Decided = true
 is_over (Finished t) = true
@@ -101,6 +103,6 @@ is_same_flag true b = b
 is_same_flag false b = not b
 
 -- `positions_where flag jobs`: the positions of the exclusive jobs among `jobs` if `flag` is true,
--- else of the ordinary jobs.
+-- else of the other jobs.
 abbrev pub positions_where : Bool → List Job → List ℕ
 positions_where flag jobs = map (λ (job : Job). job.position) (filter (λ (job : Job). is_same_flag flag job.exclusive) jobs)

@@ -17,7 +17,8 @@ abbrev pub IsStartableCase : SchedState → Option ℕ → Type 0
 IsStartableCase b None = HasNoTurn b
 IsStartableCase b (Some i) = HasTurn b i
 
--- `IsChosen b next`: the scheduler chooses the step `next` in the state `b`.
+-- `IsChosen b next`: the scheduler chooses the step `next` in the state `b`: a put first, then a
+-- cleanup, then a body, then a wait, else `Done`.
 abbrev pub IsChosen : SchedState → Next → Type 0
 IsChosen b (next.Put i) = b.ready ≡ Some i
 IsChosen b (next.Start i Cleanup) = (b.ready ≡ None) × (b.pending ≡ Some i)
