@@ -42,9 +42,9 @@ driver_state_of b next = record { alive = polled_children b.children; owed = b.p
 abbrev pub driver_state : {O : Type 0} → Driver O → DriverState
 driver_state d = driver_state_of d.running d.next
 
--- `TakesAttemptNumber old number new`: the attempt number `number` is taken, and the counter goes
--- from `old` to `new`. If `old` is 2^64 - 1, `number` is `None` and the counter is unchanged.
--- Otherwise `number` is `old`, and `new` is `old + 1`.
+-- `TakesAttemptNumber old number new`: an attempt gets the number `number`, and the counter of
+-- attempts goes from `old` to `new`. If `old` is 2^64 - 1, `number` is `None` and the counter is
+-- unchanged. Otherwise `number` is `old`, and `new` is `old + 1`.
 abbrev pub TakesAttemptNumber : ℕ → Option ℕ → ℕ → Type 0
 TakesAttemptNumber old None new = (old ≡ 2 ^ 64 - 1) × (new ≡ old)
 TakesAttemptNumber old (Some number) new = (old < 2 ^ 64 - 1) × (number ≡ old) × (new ≡ old + 1)

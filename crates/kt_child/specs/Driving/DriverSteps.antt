@@ -1,4 +1,4 @@
--- The steps of a driver as a launcher: starts, waits and lists.
+-- The steps of a driver: starts, waits and listings of test cases.
 use Rattle.std.specs.Prelude.{◌≡◌, ℕ, List}
 use Rattle.kt_child.specs.Types.{Chain, Ended, Job, Listing, Role, StartAnswer, Variable}
 use Rattle.kt_child.specs.declared.driving.driver.Driver.{Driver}

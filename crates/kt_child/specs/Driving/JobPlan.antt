@@ -43,7 +43,7 @@ job_purpose job role =
     record { want = want_of role; program = job.program; variables = job.vars; case_name = job.case_name; limit = limit_of job role }
 
 -- `list_purpose program variables`: the purpose of a child that lists the cases of `program`, with
--- the suite's `variables`.
+-- the suite's `variables` and a timeout of 300 seconds.
 abbrev pub list_purpose : List ℕ → List Variable → ChildPurpose
 list_purpose program variables = record { want = Listing; program = program; variables = variables; case_name = []; limit = 300 }
 

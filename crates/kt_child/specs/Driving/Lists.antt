@@ -35,9 +35,9 @@ RunsList plan c calls (Ended outcome bytes) =
 -- `leads` is the relation of the system's calls.
 module _ {O : Type 0} (leads : O → Call → O → Type 0) where
   -- `ListsProgram old program variables answer new`: `new` is the driver `old` after it listed the
-  -- test cases of `program`, with the suite's `variables` and the result `answer`. Each list uses
-  -- an attempt number, if one is left. No call is made if none is left or an allocation of the
-  -- driver fails.
+  -- test cases of `program`, with the suite's `variables` and the result `answer`. Each listing
+  -- uses an attempt number, if a number is left. No call is made if no number is left or an
+  -- allocation of the driver fails.
   abbrev pub ListsProgram : Driver O → List ℕ → List Variable → Listing → Driver O → Type 0
   ListsProgram old program variables answer new =
       ((old.next ≡ 2 ^ 64 - 1) × (answer ≡ RefusedFor Directory) × (new.os ≡ old.os) × (new.next ≡ old.next))

@@ -1,4 +1,5 @@
--- The numbers of a driver's attempts. A start of a body and a list of test cases are attempts.
+-- The numbers of a driver's attempts. A start of a body is an attempt, and so is a listing of test
+-- cases.
 use Rattle.std.specs.Prelude.{◌≡◌, ℕ, Bool, true, false, ◌<◌, ◌≤◌, ◌-◌, ◌^◌, List, [], ◌∷◌, ◌++◌, map}
 use Rattle.kt_child.specs.Types.{Body, Ended, Job, Listing, Role, StartAnswer, Trace, Variable}
 use Rattle.kt_child.specs.declared.driving.driver.Driver.{Driver}
@@ -9,14 +10,14 @@ use Rattle.kt_child.specs.Driving.ChildrenState.{idle_state}
 use Rattle.kt_child.specs.Driving.DriverSteps.{DriverLists, DriverStarts, DriverWaits}
 use Rattle.kt_child.specs.Driving.Runs.{Runs}
 
--- `Request`: a start, a wait or a list of test cases that a driver performs, with its result.
+-- `Request`: a start, a wait or a listing of test cases that a driver performs, with its result.
 pub data Request : Type 0 where
   Start : (job : Job) (role : Role) (answer : StartAnswer) → Request
   Wait : (ended : Ended) → Request
   ListOf : (program : List ℕ) (variables : List Variable) (answer : Listing) → Request
 
--- `is_attempt request`: `request` is the start of a body, or a list of test cases. Such a request
--- uses an attempt number.
+-- `is_attempt request`: `request` is the start of a body, or a listing of test cases. Such a
+-- request uses an attempt number.
 abbrev pub is_attempt : Request → Bool
 is_attempt (Start job Body answer) = true
 is_attempt (ListOf program variables answer) = true
@@ -35,9 +36,10 @@ abbrev pub ServesAll : {O : Type 0} → (O → Call → O → Type 0) → Driver
 ServesAll leads d [] e = e ≡ d
 ServesAll {O} leads d (request ∷ requests) e = (mid : Driver O) × Serves leads d request mid × ServesAll leads mid requests e
 
--- `AttemptsDiffer leads`: after an attempt and any requests that follow it, the next number is
--- higher than the number of that attempt. So no two attempts have the same number. `leads` is the
--- relation of the system's calls.
+-- `AttemptsDiffer leads`: no two attempts of a driver have the same number. After an attempt, and
+-- any requests that follow it, the next number is higher than the number of that attempt. The
+-- premise is that a number is left for that attempt: its number is less than 2^64 - 1. `leads` is
+-- the relation of the system's calls.
 abbrev pub AttemptsDiffer : {O : Type 0} → (O → Call → O → Type 0) → Type 0
 AttemptsDiffer {O} leads =
     (attempt : Request) (requests : List Request) (d e f : Driver O)
@@ -48,13 +50,14 @@ AttemptsDiffer {O} leads =
 abbrev pub numbers : DriverState → List ℕ
 numbers b = map (λ a. a.case.attempt) b.alive ++ map (λ c. c.attempt) b.owed
 
--- `HasUniqueNumbers b`: each attempt number occurs at most once in the driver state `b` and is
--- lower than the next number. So no two children of `b` have the same name.
+-- `HasUniqueNumbers b`: each attempt number occurs at most once among the cases with a running
+-- child or a pending cleanup in the driver state `b`. Each is lower than the next number. So no two
+-- children of `b` have the same name.
 abbrev pub HasUniqueNumbers : DriverState → Type 0
 HasUniqueNumbers b = (n : ℕ) → (occurrences n (numbers b) ≤ 1) × (b.next ≤ n → occurrences n (numbers b) ≡ 0)
 
--- `NumbersDiffer`: `HasUniqueNumbers` is true of each driver state that a trace reaches from a
--- state without children and pending cleanups.
+-- `NumbersDiffer`: the attempt numbers are unique (`HasUniqueNumbers`) in each driver state that a
+-- trace reaches from a state without children and without pending cleanups.
 abbrev pub NumbersDiffer : Type 0
 NumbersDiffer =
     (plan : List Job) (source root : List ℕ) (next : ℕ) (T : Trace) (calls : List Call) (b : DriverState)

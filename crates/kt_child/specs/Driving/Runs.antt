@@ -25,14 +25,14 @@ module _ (plan : List Job) (source root : List ℕ) where
 
 -- `leads` is the relation of the system's calls.
 module _ {O : Type 0} (leads : O → Call → O → Type 0) where
-  -- `RunsFrom plan T b old new`: all calls between the drivers `old` and `new` are those of the
-  -- trace `T` of `plan` (`Runs`). The trace begins with the driver state `b`.
+  -- `RunsFrom plan T b old new`: all calls that lead the driver from the state `old` to `new` are
+  -- those of the trace `T` of `plan` (`Runs`). The trace begins with the driver state `b`.
   abbrev pub RunsFrom : List Job → Trace → DriverState → Driver O → Driver O → Type 0
   RunsFrom plan T b old new = (calls : List Call) × Chain leads old.os calls new.os × Runs plan old.source old.root b T calls (driver_state new)
 
-  -- `CallsMatchTraces`: for each trace of a driver, its calls to the system are exactly those that
-  -- `RunsFrom` states for the events of the trace. So the results of the calls determine each end
-  -- in the trace.
+  -- `CallsMatchTraces`: for each trace of a driver, the driver's calls to the system are exactly
+  -- those that `RunsFrom` states for the events of the trace. So the results of the calls determine
+  -- each end in the trace.
   abbrev pub CallsMatchTraces : Type 0
   CallsMatchTraces =
       (plan : List Job) (T : Trace) (d e : Driver O) → Leads (DriverStarts leads) (DriverWaits leads) plan T d e → RunsFrom plan T (driver_state d) d e

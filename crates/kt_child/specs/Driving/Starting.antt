@@ -11,7 +11,7 @@ use Rattle.kt_os.specs.System.Calls.{Call, SetLimit, MakeDir, OpenOutput, Spawn,
 use Rattle.kt_sched.specs.Children.{is_same_role}
 
 -- `StartCall`: one call to the system for a start. `call` is the call as a function of its result.
--- `cause` is the cause with which the start is refused if the call fails.
+-- `cause` is the cause of the refusal if the call fails for another reason than memory.
 pub record StartCall : Type 0 where
   pub call : Result (Unit {0}) OsFault → Call
   pub cause : Refused
@@ -22,8 +22,9 @@ abbrev pub refusal_cause : Refused → OsFault → Refused
 refusal_cause cause Failed = cause
 refusal_cause cause (Memory refusal) = NoMemory
 
--- `MakesCalls asks calls result`: `calls` are the calls of `asks`, the calls for a start, in order,
--- up to the first that fails. `result` is the cause of the refusal, or `Ok` if no call fails.
+-- `MakesCalls asks calls result`: `asks` are the calls that a start makes, in order, and `calls`
+-- are these calls up to the first that fails. `result` is the cause of the refusal, or `Ok` if no
+-- call fails.
 abbrev pub MakesCalls : List StartCall → List Call → Result (Unit {0}) Refused → Type 0
 MakesCalls [] [] (Ok done) = Unit {0}
 MakesCalls (ask ∷ asks) (call ∷ calls) (Err cause) =
@@ -32,49 +33,51 @@ MakesCalls (ask ∷ asks) (call ∷ calls) (Err cause) =
 MakesCalls (ask ∷ asks) (call ∷ calls) (Ok done) = (call ≡ ask.call (Ok tt)) × MakesCalls asks calls (Ok done)
 MakesCalls asks calls result = ⊥
 
--- `spawn_call p`: the call that spawns the child of the `SpawnPlan` `p`. If it fails, the cause of
--- the refusal is `Spawn`.
+-- `spawn_call p`: the call that spawns the child of the `SpawnPlan` `p`. If it fails for another
+-- reason than memory, the cause of the refusal is `Spawn`.
 abbrev pub spawn_call : SpawnPlan → StartCall
 spawn_call p = record { call = Spawn p.child p.program p.words p.env p.work; cause = NotSpawned }
 
 -- `open_call p path`: the call that creates `path`, an output file for the child of the `SpawnPlan`
--- `p`. If it fails, the cause of the refusal is `Output`.
+-- `p`. If it fails for another reason than memory, the cause of the refusal is `Output`.
 abbrev pub open_call : SpawnPlan → List ℕ → StartCall
 open_call p path = record { call = OpenOutput p.child path; cause = Output }
 
--- `work_dir_call p`: the call that creates the work directory in the `SpawnPlan` `p`. If it fails,
--- the cause of the refusal is `Directory`.
+-- `work_dir_call p`: the call that creates the work directory of the `SpawnPlan` `p`. If it fails
+-- for another reason than memory, the cause of the refusal is `Directory`.
 abbrev pub work_dir_call : SpawnPlan → StartCall
 work_dir_call p = record { call = MakeDir p.work; cause = Directory }
 
--- `spawn_calls p`: the calls that create the two output files in the `SpawnPlan` `p` and spawn its
+-- `spawn_calls p`: the calls that create the two output files of the `SpawnPlan` `p` and spawn its
 -- child.
 abbrev pub spawn_calls : SpawnPlan → List StartCall
 spawn_calls p = open_call p p.out ∷ open_call p p.err ∷ spawn_call p ∷ []
 
--- `new_attempt_calls p`: the calls that create the work directory and the two output files in the
+-- `new_attempt_calls p`: the calls that create the work directory and the two output files of the
 -- `SpawnPlan` `p` and spawn its child.
 abbrev pub new_attempt_calls : SpawnPlan → List StartCall
 new_attempt_calls p = work_dir_call p ∷ spawn_calls p
 
--- `SpawnsInExistingDir asks dir calls result`: `calls` are the calls of `asks`, the calls for a
--- start, up to the first that fails (`MakesCalls`). If one fails, a last call removes the existing
--- directory `dir`. `result` is the cause of the refusal, or `Ok` if no call fails.
+-- `SpawnsInExistingDir asks dir calls result`: `asks` are the calls that a start makes, in order,
+-- and `calls` are these calls up to the first that fails (`MakesCalls`). If one fails, a last call
+-- removes the existing directory `dir`. `result` is the cause of the refusal, or `Ok` if no call
+-- fails.
 abbrev pub SpawnsInExistingDir : List StartCall → List ℕ → List Call → Result (Unit {0}) Refused → Type 0
 SpawnsInExistingDir asks dir calls result =
     (tried : List Call) × (last : List Call) × (calls ≡ tried ++ last) × MakesCalls asks tried result × Removes (is_err result) dir last
 
 -- `SpawnsInNewDir asks dir calls result`: `calls` create the directory `dir` and continue with
--- `asks`, the calls for a start (`SpawnsInExistingDir`). If the directory can't be created, no
--- other call is made. `result` is `Ok` or the cause of the refusal.
+-- `asks`, the calls that a start makes (`SpawnsInExistingDir`). If the directory can't be created,
+-- no other call is made. If a later call fails, a last call removes the directory. `result` is `Ok`
+-- or the cause of the refusal.
 abbrev pub SpawnsInNewDir : List StartCall → List ℕ → List Call → Result (Unit {0}) Refused → Type 0
 SpawnsInNewDir asks dir calls result =
     ((fault : OsFault) × (calls ≡ MakeDir dir (Err fault) ∷ []) × (result ≡ Err (refusal_cause Directory fault)))
     ⊎ ((more : List Call) × (calls ≡ MakeDir dir (Ok tt) ∷ more) × SpawnsInExistingDir asks dir more result)
 
 -- `SpawnsInRole role p calls result`: `calls` start the child of the `SpawnPlan` `p` in `role`,
--- after its timeout was set. A body or a list creates its directories, and a cleanup uses those of
--- its body. `result` is `Ok` or the cause of the refusal.
+-- after its timeout was set. A body, or a program that lists its test cases, gets new directories.
+-- A cleanup uses the directories of its body. `result` is `Ok` or the cause of the refusal.
 abbrev pub SpawnsInRole : Role → SpawnPlan → List Call → Result (Unit {0}) Refused → Type 0
 SpawnsInRole Body p calls result = SpawnsInNewDir (new_attempt_calls p) p.dir calls result
 SpawnsInRole Cleanup p calls result = SpawnsInExistingDir (spawn_calls p) p.dir calls result
@@ -106,6 +109,6 @@ FailsBeforeStart role dir calls answer = Removes (is_same_role role Cleanup) dir
 
 -- `StartsByPlan plan calls answer`: `calls` are all calls for a start by the `SpawnPlan` `plan`,
 -- and `answer` is the result of the start. Either an allocation failed before the start
--- (`FailsBeforeStart`), or the calls start the child (`Started`).
+-- (`FailsBeforeStart`), or `calls` try to start the child (`Started`).
 abbrev pub StartsByPlan : SpawnPlan → List Call → StartAnswer → Type 0
 StartsByPlan plan calls answer = FailsBeforeStart plan.child.role plan.dir calls answer ⊎ Started plan calls answer

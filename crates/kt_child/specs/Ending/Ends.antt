@@ -27,10 +27,10 @@ abbrev pub Removes : Bool → List ℕ → List Call → Type 0
 Removes true dir calls = (done : Bool) × (calls ≡ RemoveTree dir done ∷ [])
 Removes false dir calls = calls ≡ []
 
--- `FinishesChild c calls outcome e`: `e` is the end of a child of `c` with `outcome`, as the reads
--- of `calls` determine it. `calls` read the clock, the evidence, standard output and standard
--- error, in that order. They then remove the directory if no cleanup follows. At most 1,048,576
--- bytes of each output are read.
+-- `FinishesChild c calls outcome e`: `e` is the end of a child of `c` with `outcome`. `calls` read
+-- the clock, the evidence, standard output and standard error, in that order, and `e` has the
+-- results. They then remove the directory if no cleanup follows. At most 1,048,576 bytes of each
+-- output are read.
 abbrev pub FinishesChild : CaseAttempt → List Call → Outcome → Ended → Type 0
 FinishesChild c calls outcome e =
     (now : Result ℕ OsFault) × (reads : List Call) × (out : Result FileRead OsFault) × (err : Result FileRead OsFault) × (last : List Call)

@@ -9,9 +9,9 @@ use Rattle.kt_sched.specs.Children.{pending_after_start, running_after_start}
 use Rattle.kt_sched.specs.Trace.{HasMoment}
 
 -- `IsStart leads old job role answer new`: `new` is the driver `old` after a start of `job`'s child
--- in `role` with the result `answer`. `moment` is about the timestamp, and `running` and `pending`
--- are about the children and pending cleanups of `new`. `leads` is the relation of the system's
--- calls.
+-- in `role` with the result `answer`. A timestamp in `answer` is before the year 10000. The running
+-- children and pending cleanups of `new` are those of `old`, changed by this start. `leads` is the
+-- relation of the system's calls.
 pub record IsStart {O : Type 0} (leads : O → Call → O → Type 0) (old : Driver O) (job : Job) (role : Role) (answer : StartAnswer) (new : Driver O) : Type 0 where
   pub starts : DriverStarts leads old job role answer new
   pub moment : HasMoment answer

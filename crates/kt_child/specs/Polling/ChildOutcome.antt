@@ -46,11 +46,11 @@ YieldsWithin left heard outcome =
     × (heard ≡ replicate k running ++ PollResponse (Err f) ∷ KillResponse done ∷ []) × (outcome ≡ WaitFailed))
 
 -- `Yields limit heard outcome`: the responses `heard` of a child with the timeout `limit`, in
--- seconds, give `outcome`.
+-- seconds, give `outcome` (`YieldsWithin`). The timeout is reached after 100 polls for each second.
 abbrev pub Yields : ℕ → List ChildResponse → Outcome → Type 0
 Yields limit heard outcome = YieldsWithin (100 * limit) heard outcome
 
--- `initial_counts`: the poll counts of a child that has just started.
+-- `initial_counts`: the poll counts of a child that has just started and was not polled yet.
 abbrev pub initial_counts : PollCounts
 initial_counts = record { before = 0; killed = false; after = 0 }
 

@@ -12,8 +12,9 @@ use Rattle.kt_child.specs.Polling.ChildOutcome.{ChildResponse, KillResponse, Pol
 abbrev pub is_due : ℕ → PollCounts → Bool
 is_due limit w = not w.killed && (w.before + 1 == 100 * limit)
 
--- `is_followed_by_kill limit w result`: a kill follows a poll with the result `result`. The child
--- has the timeout `limit`, in seconds, and before the poll it had the poll counts `w`.
+-- `is_followed_by_kill limit w result`: a kill follows a poll with the result `result`: the poll
+-- failed, or the child reached its timeout (`is_due`). The child has the timeout `limit`, in
+-- seconds, and before the poll it had the poll counts `w`.
 abbrev pub is_followed_by_kill : ℕ → PollCounts → Result Polled OsFault → Bool
 is_followed_by_kill limit w (Err _) = true
 is_followed_by_kill limit w (Ok Running) = is_due limit w

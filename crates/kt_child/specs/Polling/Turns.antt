@@ -28,9 +28,9 @@ PollsAll (k ∷ children) calls =
     × (progress_after_poll k.limit k.watch answer done ≡ StillRunning)
     × PollsAll children more
 
--- `EndsAtPoll k calls outcome`: `calls` are one poll of the child `k`, and the kill that may follow
--- it. The child has then finished with `outcome`, which follows from all responses about it
--- (`Yields`).
+-- `EndsAtPoll k calls outcome`: `k` is a child, and `calls` are one poll of it and the kill that
+-- may follow the poll. The child has then finished with `outcome`, which follows from all responses
+-- about it (`Yields`).
 abbrev pub EndsAtPoll : Option RunningChild → List Call → Outcome → Type 0
 EndsAtPoll None calls outcome = ⊥
 EndsAtPoll (Some k) calls outcome =

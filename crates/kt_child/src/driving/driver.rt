@@ -23,7 +23,7 @@ use thiserror::Error;
 pub enum DriverFault {
     /// An allocation failed.
     NoMemory(NoMemory),
-    /// None of the 1,000 root directories could be created.
+    /// None of the 1,000 root directories, `kyua.0` to `kyua.999`, could be created.
     NoWorkDirectory,
 }
 
@@ -90,11 +90,12 @@ impl<O: Os + Drop> Launcher for Driver<O> {
 
     ghost waits = { DriverWaits O.leads };
 
-    /// Starts the body or the cleanup of a case.
+    /// Starts the body or the cleanup of the case of `job`, as `role` selects.
     ///
     /// The driver allocates before its first call to the system. If its allocation fails, it makes
-    /// no call, except that it removes the directory of a refused cleanup. No two bodies or lists
-    /// of a driver have the same attempt number.
+    /// no call, except that it removes the directory of a refused cleanup. No two attempts of a
+    /// driver have the same number. The start of a body is an attempt, and so is a listing of test
+    /// cases.
     ///
     /// # Errors
     ///
@@ -128,7 +129,7 @@ impl<O: Os + Drop> Driver<O> {
     ghost use Rattle.kt_child.specs.Common.{Chain, Call, RemoveTree, CreatesRoot, idle_state, MayStart, running_after_start, HasMoment, IsFit, count_in, StartsByPlan, case_of, limit_of, new_running_child, state_after_start, is_among, launcher_child_in, job_spawn_plan, IsStart};
     ghost use Rattle.kt_base.specs.declared.child.Role.{Role as Part};
 
-    /// Creates a driver with a new root directory below `base` (this profile).
+    /// Creates a driver with a new root directory below the directory `base` (this profile).
     ///
     /// The root directory is the first of `kyua.0` to `kyua.999` that can be created. An existing
     /// directory, such as that of a killed runner, is never used. `source` is the absolute path of
@@ -256,8 +257,12 @@ pub(crate) fn root_path(alloc: Global, base: &Text, number: u64) -> Result<Text,
 /// Creates the root directory of a driver below `base`, and returns its path (this profile).
 ///
 /// The directory is the first of `kyua.0` to `kyua.999` that can be created. An existing directory,
-/// such as that of a killed runner, is never used. Fails with `NoWorkDirectory` if none of the
-/// 1,000 directories can be created.
+/// such as that of a killed runner, is never used.
+///
+/// # Errors
+///
+/// - `NoMemory`: the allocation of a path fails.
+/// - `NoWorkDirectory`: none of the 1,000 directories can be created.
 fn create_driver_root<O: Os>(alloc: Global, os: &mut O, base: &Text) -> Result<Text, DriverFault>
     ensures { (calls : List Call) × Chain O.leads os.old calls os.new
         × CreatesRoot base.now calls result }

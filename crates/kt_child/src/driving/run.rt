@@ -38,13 +38,15 @@ pub fn run_driver<O: Os + Drop, S: Sink>(
 }
 
 /// Theorem: no two attempts of a driver have the same number. An attempt is the start of a body, or
-/// of a program that lists its test cases.
+/// of a program that lists its test cases. The premise is that a number is left for the earlier
+/// attempt: its number is less than 2^64 - 1.
 pub fn theorem_of_numbers<O: Os + Drop>()
     ensures { AttemptsDiffer O.leads }
 {}
 
-/// Theorem: no two children of a driver have the same name, if the driver began without children
-/// and without pending cleanups.
+/// Theorem: at no time do two cases of a driver with a running child or a pending cleanup have the
+/// same attempt number. The premise is that the driver began without children and without pending
+/// cleanups.
 pub fn theorem_of_names()
     ensures { NumbersDiffer }
 {}

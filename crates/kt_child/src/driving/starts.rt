@@ -180,8 +180,10 @@ fn spawn_in_work_dir<O: Os>(os: &mut O, plan: &SpawnPlan) -> Result<(), Refused>
     open_and_spawn(os, plan)
 }
 
-/// Starts a body, or a program that lists its test cases, in a new directory. If a later call of
-/// the start fails, removes the directory and returns the cause of the refusal.
+/// Starts a body, or a program that lists its test cases, in a new directory.
+///
+/// Stops at the first call that fails, removes the directory if it was created, and returns the
+/// cause of the refusal.
 fn spawn_in_new_dir<O: Os>(os: &mut O, plan: &SpawnPlan) -> Result<(), Refused>
     ensures { (calls : List Call) × Chain O.leads os.old calls os.new
         × SpawnsInNewDir (new_attempt_calls plan.now) plan.now.dir calls result }

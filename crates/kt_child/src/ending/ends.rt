@@ -73,8 +73,9 @@ pub(crate) fn remove_dir_if<O: Os>(os: &mut O, removed: bool, dir: &Text)
     }
 }
 
-/// Reads the clock, and then the evidence and outputs of a finished child. Returns them with the
-/// child's outcome. Removes the directory of the attempt if no cleanup follows.
+/// Reads the clock, and then the evidence and outputs of a finished child. Returns the end of the
+/// child: `outcome`, the time, the evidence and the outputs. Removes the directory of the attempt
+/// if no cleanup follows.
 pub(crate) fn finish_child<O: Os>(
     alloc: Global,
     os: &mut O,

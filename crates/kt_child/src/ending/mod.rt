@@ -12,7 +12,7 @@ pub(crate) enum ReadEnd {
     /// A read or an allocation failed, the file vanished after its first part, or a read before the
     /// end of the file returned no bytes.
     Unreadable,
-    /// The file has more bytes than the limit.
+    /// The file has more bytes than the limit of the read, so it was not read to its end.
     TooLong,
     /// The whole file was read.
     Complete,

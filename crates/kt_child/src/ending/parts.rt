@@ -45,9 +45,9 @@ impl PartReader for TapReader {
 
 /// Reads the next part of the file `path`, at most `part` bytes, and feeds the part to `reader`.
 ///
-/// Returns the result of the whole read if it ends with this part. Otherwise, adds the part's
-/// length to `got` and returns `None`. `got` is the number of bytes that were read before, and
-/// `limit` the greatest size of the file in bytes.
+/// Returns the result of reading the whole file if no other part must be read. Otherwise, adds the
+/// part's length to `got` and returns `None`. `got` is the number of bytes that were read before,
+/// and `limit` the greatest size of the file in bytes.
 fn read_next_part<O: Os, R: PartReader>(
     os: &mut O,
     path: &Text,
@@ -93,7 +93,7 @@ fn read_next_part<O: Os, R: PartReader>(
 }
 
 /// Reads the file `path` in parts of at most `part` bytes, and feeds the parts to the new reader
-/// `reader`. Returns the result of the whole read. At most `limit` bytes are read.
+/// `reader`. Returns the result of reading the whole file. At most `limit` bytes are read.
 pub(crate) fn read_in_parts<O: Os, R: PartReader>(
     os: &mut O,
     path: &Text,

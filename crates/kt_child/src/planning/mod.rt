@@ -26,15 +26,15 @@ pub(crate) struct ChildPurpose<'a> {
     pub want: Want,
     /// The path of the program, relative to the root Kyuafile's directory.
     pub program: &'a Text,
-    /// The variables of the suite.
+    /// The configuration variables of the program's test suite.
     pub variables: &'a Variables,
-    /// The name of the case, empty for a list.
+    /// The name of the test case. It is empty if the program lists its cases.
     pub case_name: &'a Text,
     /// The timeout of the child, in seconds.
     pub limit: u64,
 }
 
-/// A case with a running child or a pending cleanup, with the number and the paths of its attempt.
+/// An attempt of a case that has a running child or a pending cleanup, with the data of the case.
 ///
 /// It also represents a running program that lists its test cases.
 #[derive(Drop)]
@@ -50,7 +50,7 @@ pub(crate) struct CaseAttempt {
     pub interface: Interface,
     /// `true` if the case declares a cleanup.
     pub cleanup: bool,
-    /// The paths of the attempt. A cleanup uses those of its body.
+    /// The paths of the attempt. A cleanup uses the paths of its body.
     pub paths: Paths,
 }
 
@@ -58,7 +58,8 @@ impl CaseAttempt {
     ghost use Rattle.std.specs.Prelude.{◌≡◌};
     ghost use Rattle.kt_child.specs.Common.{child_of};
 
-    /// Returns the name of the child that runs or ran last: its attempt number and its role.
+    /// Returns the name of the child of this attempt that runs or ran last: its attempt number and
+    /// its role.
     pub(crate) fn child(&self) -> Child
         ensures { result ≡ child_of self.now }
     {
@@ -72,22 +73,22 @@ impl CaseAttempt {
 /// A set of the values for the system calls that start a child.
 #[derive(Drop)]
 pub(crate) struct SpawnPlan {
-    /// The name of the child.
+    /// The name of the child: its attempt number and its role.
     pub child: Child,
     /// The timeout of the child, in seconds.
     pub limit: u64,
     /// The absolute path of the program.
     pub program: Text,
-    /// The arguments of the program, without its name.
+    /// The arguments of the program, without the program's own name.
     pub words: Items<Text>,
-    /// The changes to the runner's environment.
+    /// The changes that turn the runner's environment into the child's.
     pub env: EnvPlan,
     /// The path of the directory of the attempt, which contains `work`, `out` and `err`.
     pub dir: Text,
     /// The path of the working directory of the child.
     pub work: Text,
-    /// The path of the file for standard output.
+    /// The path of the file for the child's standard output.
     pub out: Text,
-    /// The path of the file for standard error.
+    /// The path of the file for the child's standard error.
     pub err: Text,
 }

@@ -58,7 +58,7 @@ fn push_concat(
     texts.push(text)
 }
 
-/// Returns the argument `-vNAME=VALUE`, which passes a variable to an ATF program.
+/// Returns the argument `-vNAME=VALUE`, which passes `variable` to an ATF program.
 fn atf_variable_arg(alloc: Global, variable: &Variable) -> Result<Text, NoMemory>
     ensures { IfOk result (λ word. word ≡ variable_argument variable.now) }
 {

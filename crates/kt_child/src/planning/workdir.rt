@@ -13,13 +13,13 @@ use std::alloc::Global;
 pub struct Paths {
     /// The directory of the attempt, which contains the other paths.
     pub dir: Text,
-    /// The working directory of the child.
+    /// The working directory of each child of the attempt.
     pub work: Text,
     /// The result file of an ATF program.
     pub result: Text,
-    /// The file for the standard output of the body or the list.
+    /// The file for the standard output of the body, or of a program that lists its test cases.
     pub out: Text,
-    /// The file for the standard error of the body or the list.
+    /// The file for the standard error of the body, or of a program that lists its test cases.
     pub err: Text,
     /// The file for the standard output of the cleanup.
     pub cleanup_out: Text,
@@ -27,7 +27,8 @@ pub struct Paths {
     pub cleanup_err: Text,
 }
 
-/// A manual implementation, so that a drop of `Paths` is one call for the prover.
+/// A manual `Drop`, for the prover: for a caller's proof, a drop of `Paths` is one call, not a drop
+/// of each field.
 impl Drop for Paths {
     fn drop(self) {
         let Paths {

@@ -5,8 +5,8 @@ pub(crate) mod polls;
 use crate::planning::CaseAttempt;
 use kt_base::Outcome;
 
-/// A pair of counts of a child's polls, before and after a kill. The driver measures a timeout in
-/// polls, 100 for each second.
+/// A pair of counts of the polls that reported a child as running: before and after its kill. The
+/// driver measures a timeout in polls, 100 for each second.
 #[derive(Clone, Copy)]
 pub(crate) struct PollCounts {
     /// The number of polls that reported the child as running before a kill.
@@ -20,11 +20,11 @@ pub(crate) struct PollCounts {
 /// A running child with its case, its timeout and the counts of its polls.
 #[derive(Drop)]
 pub(crate) struct RunningChild {
-    /// The case of the child.
+    /// The attempt of the child, with the data of its case.
     pub case: CaseAttempt,
     /// The timeout of the child, in seconds, from 1 to 1,000,000.
     pub limit: u64,
-    /// The counts of the child's polls.
+    /// The numbers of polls that reported the child as running.
     pub watch: PollCounts,
 }
 
