@@ -23,12 +23,13 @@ results_of (command.Report options kinds verbose) = Some options.results
 results_of (command.ReportJunit options) = Some options.results
 results_of other = None
 
--- `adds_run c`: the command `c` adds a run to its results file.
+-- `adds_run c`: the command `c` is `test`, which adds a run to its results file.
 abbrev pub adds_run : Command → Bool
 adds_run (command.Test options file) = true
 adds_run other = false
 
--- `filter_rule_of c`: the filters that the command `c` accepts, if it is `list`, `test` or `debug`.
+-- `filter_rule_of c`: the rule on the number of filters that the command `c` accepts, if it is
+-- `list`, `test` or `debug`: exactly one for `debug`, and any number for the others.
 abbrev pub filter_rule_of : Command → FilterRule
 filter_rule_of (command.Debug options) = OneCase
 filter_rule_of other = AnyFilters

@@ -1,5 +1,5 @@
--- Commands, by the values that `clap` finds on a command line. A row is an option or an argument on
--- the command line: its name and its values.
+-- Commands, by the options and arguments that `clap` finds on a command line. A row is an option or
+-- an argument: its name and its values.
 use Rattle.std.specs.Prelude.{◌≡◌, ◌≢◌, ⊤, ℕ, Bool, false, List, [], Option, Some, None, Result, Ok, Err, map, unwrap_or, option_map, bytes_eq, codes, if◌then◌else◌}
 use Rattle.std.specs.Str.{chars}
 use Rattle.clap.specs.Words.{Row, Text, all_of, fault_of, first_of, matches_of, subcommand_of}
@@ -15,17 +15,19 @@ use Rattle.kt_args.specs.Grammar.{kyua_app}
 
 -- ---- values by the names of their options
 
--- `option_text id rows`: the first value of the option `id` in the rows `rows`, or `None` if they
--- have no value of it.
+-- `option_text id rows`: the first value of the option `id`, or `None` if it has no value. `rows`
+-- are the options and arguments of a command line, with their values.
 abbrev pub option_text : Text → List Row → Option (List ℕ)
 option_text id rows = option_map chars (first_of id rows)
 
--- `option_text_or_default instead id rows`: the first value of the option `id` in the rows `rows`,
--- or the default `instead` if they have no value of it.
+-- `option_text_or_default instead id rows`: the first value of the option `id`, or the default
+-- `instead` if the option has no value. `rows` are the options and arguments of a command line,
+-- with their values.
 abbrev pub option_text_or_default : Text → Text → List Row → List ℕ
 option_text_or_default instead id rows = chars (unwrap_or (first_of id rows) instead)
 
--- `option_texts id rows`: all values of the option or argument `id` in the rows `rows`, in order.
+-- `option_texts id rows`: all values of the option or argument `id`, in order. `rows` are the
+-- options and arguments of a command line, with their values.
 abbrev pub option_texts : Text → List Row → List (List ℕ)
 option_texts id rows = map chars (unwrap_or (all_of id rows) [])
 
@@ -34,8 +36,8 @@ abbrev pub is_true : Option Text → Bool
 is_true None = false
 is_true (Some word) = bytes_eq word (codes "true")
 
--- `results_path rows`: the path of the results file in the rows `rows`, or the default `kyua.db` if
--- they have no such path.
+-- `results_path rows`: the path of the results file (`-r`), or the default `kyua.db` if the option
+-- is not given. `rows` are the options and arguments of a command line, with their values.
 abbrev pub results_path : List Row → List ℕ
 results_path rows = option_text_or_default (codes "kyua.db") (codes "results") rows
 
@@ -54,8 +56,9 @@ kinds_option (Some word) = kinds_of_elements (comma_elements word)
 
 -- ---- commands
 
--- `options_in before own`: the options and arguments of `list`, `test` or `debug`. The rows
--- `before` have the values before the command's name, and the rows `own` have the values after it.
+-- `options_in before own`: the options and arguments of `list`, `test` or `debug`. `before` are the
+-- options before the command's name, and `own` are the options and arguments after it, with their
+-- values.
 abbrev pub options_in : List Row → List Row → CaseOptions
 options_in before own = record {
   config = option_text (codes "config") before;
@@ -66,8 +69,8 @@ options_in before own = record {
 }
 
 -- `report_options before own run'`: the options of a report on the run with the number `run'`, or
--- on the last run if `run'` is `None`. The rows `before` have the values before the command's name,
--- and the rows `own` have the values after it.
+-- on the last run if `run'` is `None`. `before` are the options before the command's name, and
+-- `own` are the options and arguments after it, with their values.
 abbrev pub report_options : List Row → List Row → Option ℕ → ReportOptions
 report_options before own run' = record {
   config = option_text (codes "config") before;
@@ -76,36 +79,38 @@ report_options before own run' = record {
   run = run';
 }
 
--- `report_or_error before own kinds run'`: the command `report`, or its error. The rows `before` have
--- the values before the command's name, and the rows `own` have the values after it. If `kinds`,
--- the kinds of verdicts, is `None`, the error is `BadKind`. Otherwise, if `run'`, the optional run
--- number, is `None`, the error is `BadRun`.
+-- `report_or_error before own kinds run'`: the command `report`, or the error of its options. If
+-- `kinds`, the kinds of verdicts, is `None`, the error is `BadKind`. Otherwise, if `run'`, the
+-- optional run number, is `None`, the error is `BadRun`. `before` are the options before the
+-- command's name, and `own` are the options and arguments after it, with their values.
 abbrev pub report_or_error : List Row → List Row → Option (List Kind) → Option (Option ℕ) → Result Command CommandFault
 report_or_error before own None run' = Err fault.BadKind
 report_or_error before own (Some kinds) None = Err fault.BadRun
 report_or_error before own (Some kinds) (Some run') =
     Ok (command.Report (report_options before own run') kinds (is_true (first_of (codes "verbose") own)))
 
--- `junit_or_error before own run'`: the command `report-junit`, or its error. The rows `before` have
--- the values before the command's name, and the rows `own` have the values after it. If `run'`, the
--- optional run number, is `None`, the error is `BadRun`.
+-- `junit_or_error before own run'`: the command `report-junit`, or the error of its options. If
+-- `run'`, the optional run number, is `None`, the error is `BadRun`. `before` are the options
+-- before the command's name, and `own` are the options and arguments after it, with their values.
 abbrev pub junit_or_error : List Row → List Row → Option (Option ℕ) → Result Command CommandFault
 junit_or_error before own None = Err fault.BadRun
 junit_or_error before own (Some run') = Ok (command.ReportJunit (report_options before own run'))
 
--- `report_in before own`: the command `report`, or its error. The rows `before` have the values
--- before the command's name, and the rows `own` have the values after it.
+-- `report_in before own`: the command `report`, or the error of its options: `BadKind` for a wrong
+-- results filter, and otherwise `BadRun` for a wrong run number. `before` are the options before
+-- the command's name, and `own` are the options and arguments after it, with their values.
 abbrev pub report_in : List Row → List Row → Result Command CommandFault
 report_in before own = report_or_error before own (kinds_option (first_of (codes "kinds") own)) (run_option (first_of (codes "run") own))
 
--- `junit_in before own`: the command `report-junit`, or its error. The rows `before` have the
--- values before the command's name, and the rows `own` have the values after it.
+-- `junit_in before own`: the command `report-junit`, or the error `BadRun` for a wrong run number.
+-- `before` are the options before the command's name, and `own` are the options and arguments after
+-- it, with their values.
 abbrev pub junit_in : List Row → List Row → Result Command CommandFault
 junit_in before own = junit_or_error before own (run_option (first_of (codes "run") own))
 
--- `command_named before name own`: the command with the name `name`, or its error. The rows
--- `before` have the values before the name, and the rows `own` have the values after it. If no
--- command has the name, the error is `Usage`.
+-- `command_named before name own`: the command with the name `name`, or the error of its options.
+-- If no command has the name, the error is `Usage`. `before` are the options before the name, and
+-- `own` are the options and arguments after it, with their values.
 abbrev pub command_named : List Row → Text → List Row → Result Command CommandFault
 command_named before name own =
     if bytes_eq name (codes "list") then Ok (command.List (options_in before own))
@@ -115,9 +120,9 @@ command_named before name own =
     else if bytes_eq name (codes "report-junit") then junit_in before own
     else Err (fault.Usage [])
 
--- `command_in before entered`: the command on a command line, or its error. The rows `before` have
--- the values before the command's name, and `entered` has that name and the values after it. If
--- `entered` is `None`, the error is `Usage`.
+-- `command_in before entered`: the command on a command line, or the error of its options. `before`
+-- are the options before the command's name, with their values. `entered` has that name and the
+-- options and arguments after it. If `entered` is `None`, the error is `Usage`.
 abbrev pub command_in : List Row → Option (Text × List Row) → Result Command CommandFault
 command_in before None = Err (fault.Usage [])
 command_in before (Some entered) = command_named before entered.0 entered.1
@@ -134,7 +139,7 @@ Reads words result =
     (fault_of kyua_app words ≡ []) × (result ≡ command_in (matches_of kyua_app words) (subcommand_of kyua_app words))
 
 -- `IsArgsFault short fault`: `fault`, an error of a command line, is `Usage` or `NoMemory`. It is
--- `NoMemory` if the condition `short` is true.
+-- `NoMemory` if `short`, the condition that memory ran short, is true.
 abbrev pub IsArgsFault : Type 0 → CommandFault → Type 0
 IsArgsFault short (fault.NoMemory shortage) = ⊤
 IsArgsFault short (fault.Usage message) = short → ⊥

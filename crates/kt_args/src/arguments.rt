@@ -16,7 +16,7 @@ pub const DEFAULT_WORK_DIR: &str = "/tmp";
 /// The default path of the results file (`-r`, this profile).
 pub const DEFAULT_RESULTS_FILE: &str = "kyua.db";
 
-/// The text at the end of the help of each command.
+/// The last line of the help of each command: the options `-c` and `-v` come before the command.
 const OPTIONS_HINT: &str =
     "The options -c FILE and -v NAME=VALUE stand before the command; see 'kyua --help'.";
 
@@ -203,7 +203,7 @@ fn new_command<'a>(alloc: Global, name: &'a str, about: &'a str) -> ClapCommand<
 
 /// Creates the command `list [-k FILE] [--work=DIR] [FILTER..]` of kyua-list(1).
 ///
-/// The option `--work` is this profile's.
+/// The option `--work` is an extension of this profile.
 fn list_command<'a>(alloc: Global) -> ClapCommand<'a>
     ensures app { IfOk result (λ c. app_of c ≡ list_app) }
     ensures own { IfOk result (λ c. (fields_of c).has_globals ≡ false) }
@@ -216,7 +216,7 @@ fn list_command<'a>(alloc: Global) -> ClapCommand<'a>
 
 /// Creates the command `test [-k FILE] [-r FILE] [--work=DIR] [FILTER..]` of kyua-test(1).
 ///
-/// The option `--work` is this profile's.
+/// The option `--work` is an extension of this profile.
 fn test_command<'a>(alloc: Global) -> ClapCommand<'a>
     ensures app { IfOk result (λ c. app_of c ≡ test_app) }
     ensures own { IfOk result (λ c. (fields_of c).has_globals ≡ false) }
@@ -230,7 +230,7 @@ fn test_command<'a>(alloc: Global) -> ClapCommand<'a>
 
 /// Creates the command `debug [-k FILE] [--work=DIR] PROGRAM:CASE` of kyua-debug(1).
 ///
-/// The option `--work` is this profile's.
+/// The option `--work` is an extension of this profile.
 fn debug_command<'a>(alloc: Global) -> ClapCommand<'a>
     ensures app { IfOk result (λ c. app_of c ≡ debug_app) }
     ensures own { IfOk result (λ c. (fields_of c).has_globals ≡ false) }
@@ -248,7 +248,7 @@ fn debug_command<'a>(alloc: Global) -> ClapCommand<'a>
 /// Creates the command `report` of kyua-report(1).
 ///
 /// Its options are `[-r FILE] [--run=N] [--results-filter=K,..] [--verbose]`. The option `--run` is
-/// this profile's.
+/// an extension of this profile.
 fn report_command<'a>(alloc: Global) -> ClapCommand<'a>
     ensures app { IfOk result (λ c. app_of c ≡ report_app) }
     ensures own { IfOk result (λ c. (fields_of c).has_globals ≡ false) }
@@ -262,7 +262,7 @@ fn report_command<'a>(alloc: Global) -> ClapCommand<'a>
 
 /// Creates the command `report-junit [-r FILE] [--run=N]` of kyua-report-junit(1).
 ///
-/// The option `--run` is this profile's.
+/// The option `--run` is an extension of this profile.
 fn junit_command<'a>(alloc: Global) -> ClapCommand<'a>
     ensures app { IfOk result (λ c. app_of c ≡ junit_app) }
     ensures own { IfOk result (λ c. (fields_of c).has_globals ≡ false) }

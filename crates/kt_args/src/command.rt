@@ -20,14 +20,16 @@ pub enum Command {
         options: ReportOptions,
         /// The kinds of verdicts whose cases are printed (`--results-filter`).
         kinds: Items<Kind>,
-        /// `true` if the properties of each case follow its line (`--verbose`).
+        /// `true` if the report prints the properties of each case after the line of the case
+        /// (`--verbose`).
         verbose: bool,
     },
     /// `report-junit`: shows a recorded run as a JUnit report.
     ReportJunit(ReportOptions),
 }
 
-/// A manual impl, so that the prover handles each drop as one call.
+/// A manual `Drop`, for the prover: for a caller's proof, a drop of a command is one call, not a
+/// drop of each field.
 impl Drop for Command {
     fn drop(self) {
         match self {
@@ -63,7 +65,7 @@ impl Command {
         }
     }
 
-    /// Returns `true` if the command adds a run to its results file: `test`.
+    /// Returns `true` if the command is `test`, which adds a run to its results file.
     pub fn adds_run(&self) -> bool
         ensures { result ≡ adds_run self.now }
     {

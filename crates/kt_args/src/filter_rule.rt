@@ -1,4 +1,4 @@
-/// The filters that a command accepts as arguments.
+/// A rule on the number of filters that a command accepts as arguments.
 #[derive(Clone, Copy)]
 pub enum FilterRule {
     /// Any number of filters: `list` and `test`. Without a filter, every case is selected.

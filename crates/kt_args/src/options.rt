@@ -2,20 +2,22 @@ use kt_base::{Items, Text};
 
 /// The values of the options and arguments that `list`, `test` and `debug` share (kyua(1)).
 pub struct CaseOptions {
-    /// The path of the configuration file (`-c`), if it is given.
+    /// The path of the configuration file (`-c`), or `None` if the option is not given.
     pub config: Option<Text>,
     /// The arguments `NAME=VALUE` of `-v`, in order.
     pub variables: Items<Text>,
-    /// The path of the Kyuafile (`-k`). The directory of this file is the root of the tree.
+    /// The path of the root Kyuafile (`-k`). Its directory is the root of the tree of test
+    /// programs.
     pub kyuafile: Text,
     /// The path of the directory in which the runner creates its work directories (`--work`).
     pub work: Text,
-    /// The arguments `FILTER` in order, or the argument `PROGRAM:CASE` of `debug`. They are not
-    /// parsed.
+    /// The arguments `FILTER` in order, or the argument `PROGRAM:CASE` of `debug`. They are copied
+    /// from the command line and not parsed yet.
     pub filters: Items<Text>,
 }
 
-/// A manual impl, so that the prover handles each drop as one call.
+/// A manual `Drop`, for the prover: for a caller's proof, a drop of these options is one call, not
+/// a drop of each field.
 impl Drop for CaseOptions {
     fn drop(self) {
         let CaseOptions {
@@ -30,7 +32,8 @@ impl Drop for CaseOptions {
 
 /// The values of the options that `report` and `report-junit` share (kyua(1)).
 pub struct ReportOptions {
-    /// The path of the configuration file (`-c`), if it is given. Reports ignore the file.
+    /// The path of the configuration file (`-c`), or `None` if the option is not given. Reports
+    /// ignore the file.
     pub config: Option<Text>,
     /// The arguments `NAME=VALUE` of `-v`, in order. Reports ignore them.
     pub variables: Items<Text>,
@@ -40,7 +43,8 @@ pub struct ReportOptions {
     pub run: Option<u64>,
 }
 
-/// A manual impl, so that the prover handles each drop as one call.
+/// A manual `Drop`, for the prover: for a caller's proof, a drop of these options is one call, not
+/// a drop of each field.
 impl Drop for ReportOptions {
     fn drop(self) {
         let ReportOptions {

@@ -38,8 +38,9 @@ fn option_values<'b, 'a>(matches: &'b ArgMatches<'a>, name: &str) -> Option<&'b 
 /// Returns a copy of the first value of the option `name` in `matches`, or of the default `instead`
 /// if the option has no value.
 ///
-/// `clap` prints the same default in its help and fills it in. That `clap` fills it in for each
-/// option is not proved, so this function applies the default too.
+/// `clap` has the same default: it prints the default in its help, and uses it as the value of a
+/// missing option. That `clap` uses it for each option is not proved, so this function applies the
+/// default, too.
 fn option_text_or_default<'a>(
     alloc: Global,
     matches: &ArgMatches<'a>,
@@ -81,7 +82,8 @@ fn texts(alloc: Global, words: &[&str]) -> Result<Items<Text>, NoMemory>
     Ok(texts)
 }
 
-/// Returns copies of all values of the option or argument `name` in `matches`, in order.
+/// Returns copies of all values of the option or argument `name` in `matches`, in order. The result
+/// is empty if there is no value.
 fn option_texts<'a>(
     alloc: Global,
     matches: &ArgMatches<'a>,
@@ -241,7 +243,8 @@ fn parse_junit_command<'a>(
 ///
 /// `before` has the values before the command's name, and `own` has the values after this name.
 /// Fails with `BadKind` or `BadRun` if the value of an option is wrong. Fails with `Usage` and an
-/// empty text if `name` is not a command, but `clap` accepts no such name.
+/// empty text if `name` is not a command. This does not happen, because `clap` rejects such a name
+/// first.
 fn parse_subcommand<'a>(
     alloc: Global,
     before: &ArgMatches<'a>,
@@ -287,7 +290,8 @@ fn get_subcommand<'b, 'a>(matches: &'b ArgMatches<'a>) -> Option<(&'a str, &'b A
 /// Returns the command in `matches`, with the values of its options and arguments.
 ///
 /// Fails with `BadKind` or `BadRun` if the value of an option is wrong. Fails with `Usage` and an
-/// empty text if there is no command, but `clap` accepts no such command line.
+/// empty text if there is no command. This does not happen, because `clap` rejects such a command
+/// line first.
 fn parse_matches<'a>(alloc: Global, matches: &ArgMatches<'a>) -> Result<Command, CommandFault>
     ensures { Answers (command_in (rows_of (found_of matches.now))
         (subcommand_rows_of matches.now)) result }
