@@ -5,8 +5,8 @@ use Rattle.kt_cli.specs.Command.{ExecutesAllCommands, none_left, one_and}
 use Rattle.kt_store.specs.declared.result_store.StoreSpec as keeping
 
 module _ {W R : Type 0} (w : World W) (keep : keeping.Ghosts R) where
-  -- `GoesOn commands rest old mid done`: from scene `old`, some of `commands` were executed up to
-  -- scene `mid` with the statuses `done`, and executing `rest` from `mid` completes them
+  -- `GoesOn commands rest old mid done`: from state `old`, some of `commands` were executed up to
+  -- state `mid` with the statuses `done`, and executing `rest` from `mid` completes them
   pub record GoesOn (commands rest : List Command) (old mid : CommandState W R) (done : List Exit) : Type 0 where
     pub then_all : (new : CommandState W R) (exits : List Exit) → ExecutesAllCommands w keep rest mid new exits → ExecutesAllCommands w keep commands old new (done ++ exits)
 

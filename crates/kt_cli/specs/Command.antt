@@ -25,11 +25,12 @@ use Rattle.kt_cli.specs.Warnings.{warnings}
 
 -- ---- one run
 
--- `RunResult planned T calls bytes exit`: `test` executes the run `planned`, whose children have the
--- trace `T`, with the calls `calls` to the store. It begins the run, puts each entry and finishes
--- the run. `bytes` is its output: the entries' lines, then the totals and warnings. `exit` is its
--- exit status. The first call that fails is the last one, and its error line follows the lines of
--- the entries that were put.
+-- `RunResult planned T calls bytes exit`: `test` executes the run `planned`, whose children have
+-- the trace `T`, with the calls `calls` to the store. It begins the run, puts each entry and
+-- finishes the run. `bytes` is its output: the entries' lines, then the totals and warnings. `exit`
+-- is its exit status. The first call that fails is the last one, and its error line follows the
+-- lines of the entries that were put. If an allocation fails before the first case, no entry is
+-- put, and only the out-of-memory line is printed.
 pub data RunResult (planned : PlannedRun) (T : Trace) : List StoreCall → List ℕ → ℕ → Type 0 where
   recorded : (number : ℕ) (entries : List Entry) → AllRecorded planned.plan planned.width T entries
       → RunResult planned T (begin_call planned (Ok number) ∷ (puts number entries ++ Finished number (Ok tt) ∷ [])) (results entries planned.words planned.unmatched) (results_exit entries planned.unmatched)
@@ -72,8 +73,9 @@ module _ {W R : Type 0} (w : World W) (r : keeping.Ghosts R) where
   -- `CommandResult w r c old new exit`: `execute` ran the command `c` from state `old` to `new`
   -- with the exit status `exit`. `course` are its calls of the world, in order. `stored` states the
   -- effect of its calls on the runs, and no other field depends on what the store contains. `bytes`
-  -- were printed: if a write failed, a proper prefix of them, and `exit` is 2. `w` has the relations
-  -- of the world, and `r` is the specification of the store.
+  -- were printed, and `exit` is `due`. If a write failed, only a proper prefix of `bytes` was
+  -- printed, and `exit` is 2. `w` has the relations of the world, and `r` is the specification of
+  -- the store.
   pub record CommandResult (c : Command) (old new : CommandState W R) (exit : ℕ) : Type 0 where
     pub seen : CommandCalls
     pub course : CallsWorld w seen old.world new.world

@@ -22,8 +22,9 @@ command_state world store held = record { world = world; store = store; held = h
 abbrev pub with_world : {V W R : Type 0} → W → CommandState V R → CommandState W R
 with_world world s = command_state world s.store s.held
 
--- `World W`: the relations of a world with states `W`. The first four are those of its launcher,
--- and `asks` is that of its file tree. `replies` is that of its other calls.
+-- `World W`: the relations of a world with states `W`. `running`, `pending`, `starts` and `waits`
+-- are those of its launcher, and `asks` is that of its file tree. `replies` is that of its other
+-- calls.
 abbrev pub World : Type 0 → Type 1
 World W = record {
   running : W → ℕ → Role → Option Child;

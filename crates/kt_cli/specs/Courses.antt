@@ -17,8 +17,8 @@ pub record CommandCalls : Type 0 where
   pub trace : Trace
   pub calls : List StoreCall
 
--- `CallsWorld w seen old new`: the calls `seen` lead the world from state `old` to `new`: first the
--- questions, then the events of the launcher. `w` has the relations of the world.
+-- `CallsWorld w seen old new`: the calls `seen` lead the world from state `old` to `new`: first its
+-- calls in `seen.questions`, then the events of its launcher. `w` has the relations of the world.
 pub record CallsWorld {W : Type 0} (w : World W) (seen : CommandCalls) (old new : W) : Type 0 where
   pub begun : W
   pub asked : Chain (WorldLeads w.asks w.replies) old seen.questions begun
@@ -36,9 +36,9 @@ pub record OnlyCallsStore (seen : CommandCalls) : Type 0 where
   pub questions : seen.questions ≡ []
   pub trace : seen.trace ≡ NoEvent
 
--- `IsPrepared rule options seen picked cases last`: the questions in `seen` are those of the
--- selection `picked` by `options`, then those for the requirements of `cases`, then `last`. The
--- plan in `seen` is that of `cases`. `rule` states which filters the command accepts.
+-- `IsPrepared rule options seen picked cases last`: the calls of the world in `seen` are those that
+-- select `picked` by `options`, then those for the requirements of `cases`, then `last`. The plan
+-- in `seen` is that of `cases`. `rule` states which filters the command accepts.
 pub record IsPrepared (rule : FilterRule) (options : CaseOptions) (seen : CommandCalls) (picked : CommandSelection) (cases : List Candidate) (last : List Reply) : Type 0 where
   pub before : List WorldCall
   pub selects : Selects rule options before (Ok picked)

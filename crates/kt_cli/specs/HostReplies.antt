@@ -41,15 +41,16 @@ module _ {M O : Type 0} where
   abbrev pub with_machine : HostWorld M O → M → HostWorld M O
   with_machine world machine = record { machine = machine; directory = world.directory; driver = world.driver; around = world.around }
 
-  -- `CallsMachine old LeadsByCalls new`: from the world `old` to `new`, only the machine changed. The relation
-  -- `LeadsByCalls` holds between its state in `old` and in `new`.
+  -- `CallsMachine old LeadsByCalls new`: from the world `old` to `new`, only the machine changed.
+  -- The relation `LeadsByCalls` holds between the machine's states in `old` and in `new`.
   abbrev pub CallsMachine : HostWorld M O → (M → M → Type 0) → HostWorld M O → Type 0
   CallsMachine old LeadsByCalls new = (new ≡ with_machine old new.machine) × LeadsByCalls old.machine new.machine
 
 module _ {M O : Type 0} (answers : M → HostResponse → M → Type 0) where
   -- `IsFileCall answers old asked new`: `asked`, a call for a file below the Kyuafile's directory,
   -- leads the world from `old` to `new`. The world makes the call of the machine for the joined
-  -- path. `answers` is the relation of the machine.
+  -- path. If this path is too long, no call is made: a read fails, and the file doesn't exist. A
+  -- content that was read has at most `read_limit` bytes. `answers` is the relation of the machine.
   abbrev pub IsFileCall : HostWorld M O → Asked → HostWorld M O → Type 0
   IsFileCall old (Read path answer) new =
       CallsMachine old (CallsAtPath answers (path_below old.directory path) (ReadsFile (path_below old.directory path) (file_answer answer)) (answer ≡ Err Failed)) new × IsWithinReadLimit answer
@@ -59,8 +60,9 @@ module _ {M O : Type 0} (answers : M → HostResponse → M → Type 0) where
   -- `IsHostReply answers leads old reply new`: the world's call `reply` with its result leads the
   -- world from `old` to `new`. Listing the cases of a program changes only the driver.
   -- Configuration files and required files are looked up at their own paths, and required programs
-  -- by `IsFoundByPath`. The results for memory and disk space are always `None`. `answers` and
-  -- `leads` are the relations of the machine and the system.
+  -- by `IsFoundByPath`. Whether the user is root follows from the process environment. The results
+  -- for memory and disk space are always `None`, and the timestamp is that of the machine.
+  -- `answers` and `leads` are the relations of the machine and the system.
   abbrev pub IsHostReply : (O → Call → O → Type 0) → HostWorld M O → Reply → HostWorld M O → Type 0
   IsHostReply leads old (ReadConfig path answer) new = CallsMachine old (λ m n. answers m (ReadsFile (utf8 path) (file_answer answer)) n) new × IsWithinReadLimit answer
   IsHostReply leads old (Lists program variables answer) new =
@@ -104,15 +106,16 @@ module _ {M O : Type 0} where
   machine_keeps_children : (old new : HostWorld M O) → new ≡ with_machine old new.machine → new.driver.running ≡ old.driver.running
   machine_keeps_children old new h = ap (λ (w : HostWorld M O). w.driver.running) h
 
-  -- `file_call_keeps_children answers old new asked`: theorem: the same children run in the worlds `old` and `new`
-  -- before and after the call `asked` for a file. `answers` is the relation of the machine.
+  -- `file_call_keeps_children answers old new asked`: theorem: if the call `asked` for a file leads
+  -- the world from `old` to `new`, the same children run in both. `answers` is the relation of the
+  -- machine.
   pub file_call_keeps_children : (answers : M → HostResponse → M → Type 0) (old new : HostWorld M O) (asked : Asked) → IsFileCall answers old asked new → new.driver.running ≡ old.driver.running
   file_call_keeps_children answers old new (Read path answer) h = machine_keeps_children old new h.0.0
   file_call_keeps_children answers old new (Exists path answer) h = machine_keeps_children old new h.0
 
-  -- `call_keeps_children answers leads old new answer`: theorem: the same children run in the worlds `old`
-  -- and `new` before and after the world's call `answer`. `answers` and `leads` are the relations
-  -- of the machine and the system.
+  -- `call_keeps_children answers leads old new answer`: theorem: if the world's call `answer` leads
+  -- the world from `old` to `new`, the same children run in both. `answers` and `leads` are the
+  -- relations of the machine and the system.
   pub call_keeps_children : (answers : M → HostResponse → M → Type 0) (leads : O → Call → O → Type 0) (old new : HostWorld M O) (answer : Reply) → IsHostReply answers leads old answer new
       → new.driver.running ≡ old.driver.running
   call_keeps_children answers leads old new (ReadConfig path answer) h = machine_keeps_children old new h.0.0

@@ -5,7 +5,7 @@ use Rattle.kt_store.specs.declared.result_store.StoreSpec as keeping
 use Rattle.kt_store.specs.Runs.{AreOrdered}
 
 -- `AnswersNothing s call t`: `call` may lead the store from `s` to `t`. The relation always holds:
--- the store has one state, and the clauses of a command state which calls it makes.
+-- the store has one state, and the clauses of a command state which calls the command makes.
 abbrev pub AnswersNothing : Unit {0} → StoreCall → Unit {0} → Type 0
 AnswersNothing s call t = Unit {0}
 

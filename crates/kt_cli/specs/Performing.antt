@@ -92,7 +92,7 @@ module _ {M O : Type 0} (o : system.Ghosts O) (before : HostHandles M O) (around
     pub directory : world.directory ≡ directory_of options.kyuafile
     pub around_it : world.around ≡ around
 
--- The relations of a world that can't be called.
+-- The relations of a world that can't be called: no child runs, and no call leads to any state.
 abbrev pub no_world : World (Unit {0})
 no_world = record { running = λ w k role. None; pending = λ w k. false; starts = λ w job role answer v. ⊥; waits = λ w ended v. ⊥; asks = λ w asked v. ⊥; replies = λ w answer v. ⊥ }
 

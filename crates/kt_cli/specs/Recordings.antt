@@ -6,9 +6,9 @@ use Rattle.kt_sched.specs.RecordOrder.{ScheduledPut, scheduled_puts, recorded}
 use Rattle.kt_sched.specs.Run.{NamesEachOnce}
 use Rattle.kt_sched.specs.ScheduleRules.{Legal, Stopped}
 
--- `AllRecorded plan n T entries`: the trace `T` of `plan` is legal at width `n`. `entries` has one
--- entry for each case of `plan`, in record order, with the verdict that follows from the case's
--- events.
+-- `AllRecorded plan n T entries`: the trace `T` of `plan` meets the schedule rules at width `n`.
+-- `entries` has one entry for each case of `plan`, in record order, with the verdict that follows
+-- from the case's events.
 pub record AllRecorded (plan : List Job) (n : ℕ) (T : Trace) (entries : List Entry) : Type 0 where
   pub legal : Legal plan n T
   pub once : NamesEachOnce plan (recorded plan n T)

@@ -52,9 +52,10 @@ asked_outputs number entries = map (λ (e : Entry). Outputs number e.position (O
 -- `ReportCompletes number kinds failed verbose calls bytes exit`: by the store calls `calls`,
 -- `report` prints `bytes` and has the exit status `exit`. It shows run `number`, or the last run if
 -- `number` is `None`, with the entries whose verdicts are of the kinds `kinds`. No outputs are
--- read. Properties are read only if `verbose` is true, those of an entry before its line is
--- written. If a call for properties fails, its error line follows the lines of the entries before,
--- and the title if a section begins. If a write failed (`failed`), no further properties are read.
+-- read. If `verbose` is true, the properties of each entry are read before its line is written, and
+-- else no properties are read. If a call for properties fails, its error line follows the lines of
+-- the entries before, and the title if a section begins. If a write failed (`failed`), no further
+-- properties are read.
 pub data ReportCompletes (number : Option ℕ) (kinds : List Kind) (failed : Bool) : Bool → List StoreCall → List ℕ → ℕ → Type 0 where
   run_shown : (head : RunHead) (outline : List Entry) (date : Date) → IsNumbered number head → IsDateOf head.started date
       → ReportCompletes number kinds failed false (Head number (Ok (Some head)) ∷ Outline head.number (Ok outline) ∷ []) (text_bytes date kinds false (run_of head outline)) 0

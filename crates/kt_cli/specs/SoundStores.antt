@@ -31,8 +31,8 @@ call_fault (Pairs number position (Err fault)) = Some fault
 call_fault (Outputs number position (Err fault)) = Some fault
 call_fault done = None
 
--- `HasAllowedFault call`: if `call` failed, memory ran out, the database failed, or the store has the
--- maximum number of runs.
+-- `HasAllowedFault call`: if `call` failed, the cause is that memory ran out, that the database
+-- failed, or that the store has the maximum number of runs.
 abbrev pub HasAllowedFault : StoreCall → Type 0
 HasAllowedFault call = IfSome (call_fault call) (λ fault. IsDatabaseFault fault ⊎ (fault ≡ StoreFull))
 

@@ -48,8 +48,8 @@ abbrev pub crash_runs_after_calls : List StoreCall → List Run → List (List R
 crash_runs_after_calls [] runs may = may
 crash_runs_after_calls (call ∷ calls) runs may = crash_runs_after_calls calls (runs_after call runs) (crash_runs_after call runs may)
 
--- `Agree runs calls`: on a store with `runs`, the result of each of `calls` is correct for the runs
--- after the calls before it.
+-- `Agree runs calls`: on a store with `runs`, `calls` are made in order, and the result of each
+-- call is correct for the runs before this call.
 abbrev pub Agree : List Run → List StoreCall → Type 0
 Agree runs [] = ⊤
 Agree runs (call ∷ calls) = Agrees runs call × Agree (runs_after call runs) calls

@@ -10,8 +10,9 @@ abbrev pub all_matched : List ℕ → Bool
 all_matched [] = true
 all_matched (position ∷ unmatched) = false
 
--- `ending good total bad words unmatched`: the totals, followed by a warning for each of the
--- filters `words` at an index in `unmatched`. `good` of `total` cases are good, and `bad` are bad.
+-- `ending good total bad words unmatched`: the end of the output of `test`: the totals of the run,
+-- and a warning for each of the filters `words` at an index in `unmatched`. `good` of `total` cases
+-- are good, and `bad` are bad.
 abbrev pub ending : ℕ → ℕ → ℕ → List (List ℕ) → List ℕ → List ℕ
 ending good total bad words unmatched = utf8 (totals_text good total bad) ++ utf8 (warnings words unmatched)
 
@@ -31,8 +32,8 @@ abbrev pub results_exit : List Entry → List ℕ → ℕ
 results_exit entries unmatched = exit_of (bad_count entries) unmatched
 
 -- A plan before its run begins, with its jobs and its width. `words` are the filters as given, and
--- `unmatched` are the indexes of the filters that select no case. `moment` is the start, in
--- milliseconds since 1970-01-01 UTC.
+-- `unmatched` are the indexes of the filters that select no case. `moment` is the start of the run,
+-- in milliseconds since 1970-01-01 UTC.
 pub record PlannedRun : Type 0 where
   pub plan : List Job
   pub width : ℕ

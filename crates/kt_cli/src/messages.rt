@@ -91,8 +91,8 @@ fn selection_error_status(stop: &SelectionError) -> u8
     }
 }
 
-/// Prints the fault that stopped a command, and returns the exit status: 3 if the arguments are
-/// wrong, else 2. The status is also 2 if the write fails.
+/// Prints the error line of the fault that stopped a command, and returns the exit status: 3 if the
+/// arguments are wrong, else 2. The status is also 2 if the write fails.
 pub fn print_selection_error<O: Write>(fault: SelectionError, out: &mut O) -> Exit
     ensures { Printed (O.contents out.old) (O.contents out.new) result.status
         (utf8 (stop_line fault)) (stop_exit fault) }
@@ -123,8 +123,7 @@ pub fn print_store_fault<O: Write>(fault: StoreFault, out: &mut O) -> Exit
 /// command.
 ///
 /// `exit` is the exit status before the close, and `closed` is the result of the close. The result
-/// is 2 if the close failed, and otherwise `exit`. Nothing is printed if `exit` is already 2. After
-/// a failed close, the runs are in the file and its log.
+/// is 2 if the close failed, and otherwise `exit`. Nothing is printed if `exit` is already 2.
 pub fn print_close_fault<O: Write>(exit: Exit, closed: Result<(), StoreFault>, out: &mut O) -> Exit
     ensures { ClosesResults closed (O.contents out.old) (O.contents out.new) exit.status
         result.status }
@@ -135,7 +134,8 @@ pub fn print_close_fault<O: Write>(exit: Exit, closed: Result<(), StoreFault>, o
     }
 }
 
-/// Writes the reason why the arguments are rejected: the message of `clap`, or an error line.
+/// Writes the text of `fault`, the fault of rejected arguments: the message of `clap`, or an error
+/// line.
 fn write_command_fault<O: Write>(fault: &CommandFault, out: &mut O) -> Result<(), OutputFault>
     ensures { Emits (O.contents out.old) (O.contents out.new) (is_err result)
         (utf8 (command_text fault.now)) }
@@ -156,8 +156,8 @@ fn status_of(fault: &CommandFault) -> u8
     }
 }
 
-/// Prints the reason why the arguments are rejected, and returns exit status 3, or 2 if memory ran
-/// out.
+/// Prints the text of `fault`, the fault of rejected arguments, and returns exit status 3, or 2 if
+/// memory ran out.
 ///
 /// A failed write does not change the status.
 pub fn print_command_fault<O: Write>(fault: &CommandFault, out: &mut O) -> Exit

@@ -9,7 +9,8 @@ use Rattle.kt_cli.specs.Courses.{CommandCalls, CallsWorld}
 use Rattle.kt_cli.specs.CommandStates.{World}
 use Rattle.kt_cli.specs.Stores.{CallsStore}
 
--- `world_calls_only questions`: the calls of a command that called only its world, by `questions`.
+-- `world_calls_only questions`: the calls of a command that made only the calls `questions` of its
+-- world, and no store call.
 abbrev pub world_calls_only : List WorldCall → CommandCalls
 world_calls_only questions = record { questions = questions; plan = []; trace = NoEvent; calls = [] }
 
@@ -26,7 +27,8 @@ module _ {W : Type 0} (w : World W) where
     pub printed : Printed was now exit bytes due
     pub is : Means seen printed.failed c bytes due
 
--- `called_only calls`: the calls of a command that called only its store, by `calls`.
+-- `called_only calls`: the calls of a command that made only the store calls `calls`, and no call
+-- of a world.
 abbrev pub called_only : List StoreCall → CommandCalls
 called_only calls = record { questions = []; plan = []; trace = NoEvent; calls = calls }
 

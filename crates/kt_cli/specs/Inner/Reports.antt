@@ -7,10 +7,11 @@ use Rattle.kt_cli.specs.Stores.{CallsStore}
 
 module _ {R : Type 0} (r : keeping.Ghosts R) where
   module _ (store after : R) (was now : Option (List ℕ)) where
-    -- `WritesReport exit Means`: a report made `calls` of the store, from state `store` to `after`.
-    -- It printed `bytes`, which led the writer's content from `was` to `now`, and has the exit
-    -- status `exit`. `Means` relates whether a write failed, the calls, the output, and the status
-    -- without a failed write (`due`).
+    -- `WritesReport r store after was now exit Means`: a report made `calls` of the store, from
+    -- state `store` to `after`, and printed `bytes`. From content `was` to content `now` of the
+    -- writer, `bytes` were written, or a proper prefix if a write failed. `exit` is the exit
+    -- status: `due`, or 2 if a write failed. `Means` relates whether a write failed, the calls,
+    -- `bytes` and `due`. `r` is the specification of the store.
     pub record WritesReport (exit : ℕ) (Means : Bool → List StoreCall → List ℕ → ℕ → Type 0) : Type 0 where
       pub calls : List StoreCall
       pub stored : CallsStore r calls store after

@@ -29,8 +29,8 @@ module _ {R : Type 0} (r : keeping.Ghosts R) where
     pub stored : CallsStore r calls old new
     pub finds : FindsRun number calls answer
 
-  -- `IsMissing r number old new why`: the lookup of run `number` returned none. The calls after it
-  -- led the store from `old` to `new`, and `why` is the error of the lookup. `r` is the
+  -- `IsMissing r number old new why`: the lookup of run `number` returned no run. The calls after
+  -- it led the store from `old` to `new`, and `why` is the error of the lookup. `r` is the
   -- specification of the store.
   pub record IsMissing (number : Option ℕ) (old new : R) (why : ReportError) : Type 0 where
     pub calls : List StoreCall

@@ -8,41 +8,43 @@ use Rattle.kt_store.specs.Heads.{outputs_of, without_outputs, without_pairs}
 use Rattle.kt_store.specs.declared.result_store.StoreSpec as keeping
 use Rattle.kt_cli.specs.Stores.{CallsStore}
 
--- The reads of one part of each entry, such as its outputs. `without e` is the entry `e` without
--- the part. `call number e` is the call that returns the part of the entry `e` of run `number`.
--- `failed number e fault` is the call that fails with `fault`.
+-- One part of an entry, its properties or its outputs, and the store calls that read the part.
+-- `without e` is the entry `e` without the part. `call number e` is the successful call for the
+-- entry `e` of run `number`. `failed number e fault` is this call if it fails with `fault`.
 pub record Reading : Type 0 where
   pub without : Entry → Entry
   pub call : ℕ → Entry → StoreCall
   pub failed : ℕ → Entry → StoreFault → StoreCall
 
--- The reads of the properties of each entry.
+-- The `Reading` whose part is the properties of an entry.
 abbrev pub pairs_reading : Reading
 pairs_reading = record { without = without_pairs; call = λ number e. Pairs number e.position (Ok e.meta); failed = λ number e fault. Pairs number e.position (Err fault) }
 
--- The reads of the outputs of each entry.
+-- The `Reading` whose part is the outputs of an entry.
 abbrev pub outputs_reading : Reading
 outputs_reading = record { without = without_outputs; call = λ number e. Outputs number e.position (Ok (outputs_of e)); failed = λ number e fault. Outputs number e.position (Err fault) }
 
 module _ {R : Type 0} (r : keeping.Ghosts R) (reading : Reading) (number : ℕ) where
-  -- `EndsRead r reading number e old answer new`: the read of the part in `reading` of the entry
-  -- `e` of run `number` led a store from `old` to `new`. `answer` is the entry with the part, or
-  -- the error. `r` is the specification of the store.
+  -- `EndsRead r reading number e old answer new`: one part of the entry `e` of run `number` was
+  -- read, and the call led a store from `old` to `new`. `reading` describes the part: properties or
+  -- outputs. `answer` is the entry with the part, or the error. `r` is the specification of the
+  -- store.
   abbrev pub EndsRead : Entry → R → Result Entry StoreFault → R → Type 0
   EndsRead e old (Ok full) new = (reading.without full ≡ reading.without e) × CallsStore r (reading.call number full ∷ []) old new
   EndsRead e old (Err fault) new = CallsStore r (reading.failed number e fault ∷ []) old new
 
-  -- `ReadsEntry r reading number e old answer new`: `EndsRead` as a record. The read of the part in
-  -- `reading` of the entry `e` of run `number` led a store from `old` to `new`, with the result
-  -- `answer`. `r` is the specification of the store.
+  -- `ReadsEntry r reading number e old answer new`: `EndsRead` as a record. One part of the entry
+  -- `e` of run `number` was read with the result `answer`, and the call led a store from `old` to
+  -- `new`. `reading` describes the part: properties or outputs. `r` is the specification of the
+  -- store.
   pub record ReadsEntry (e : Entry) (old : R) (answer : Result Entry StoreFault) (new : R) : Type 0 where
     pub ends : EndsRead e old answer new
 
   module _ {E : Type 0} (layout : Layout) (due : List Entry) (store after : R) (was now : Option (List ℕ)) where
     -- `EndsStored r reading number layout due store after was now answer`: the report on the
-    -- entries `due` of run `number` was written by `layout`, and `answer` is a success, or the
-    -- error that ended the report. The part in `reading` of each entry was read before the entry
-    -- was written. The reads led the store from `store` to `after`. `was` and `now` are the
+    -- entries `due` of run `number` was written by `layout`. `answer` is a success, or the error
+    -- that ended the report. One part of each entry, which `reading` describes, was read before the
+    -- entry was written. The reads led the store from `store` to `after`. `was` and `now` are the
     -- contents of the writer before and after, and `r` is the specification of the store.
     abbrev pub EndsStored : Result (Unit {0}) (WriteReportError StoreFault E) → Type 0
     EndsStored (Ok done) =
@@ -57,8 +59,8 @@ module _ {R : Type 0} (r : keeping.Ghosts R) (reading : Reading) (number : ℕ) 
 
     -- `WritesStored r reading number layout due store after was now answer`: `EndsStored` as a
     -- record. The report on the entries `due` of run `number` was written by `layout`, with the
-    -- result `answer`. The reads of the part in `reading` led the store from `store` to `after`.
-    -- `was` and `now` are the contents of the writer before and after, and `r` is the specification
-    -- of the store.
+    -- result `answer`. One part of each entry, which `reading` describes, was read before the entry
+    -- was written. The reads led the store from `store` to `after`. `was` and `now` are the
+    -- contents of the writer before and after, and `r` is the specification of the store.
     pub record WritesStored (answer : Result (Unit {0}) (WriteReportError StoreFault E)) : Type 0 where
       pub ends : EndsStored answer

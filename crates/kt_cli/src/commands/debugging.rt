@@ -15,7 +15,7 @@ use std::io::Write;
 
 /// Executes a plan one case at a time, and prints the outputs and the result line of each case.
 ///
-/// Returns the totals or the fault of the run, and the result of writing the output.
+/// Returns the totals of the run or the fault that ended it, and the result of writing the output.
 fn print_cases<L: Launcher, O: Write>(
     alloc: Global,
     plan: Items<Job>,

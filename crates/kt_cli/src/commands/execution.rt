@@ -16,13 +16,14 @@ use std::io::Write;
 /// Executes a command over a world and a results store, writes its output, and returns its exit
 /// status.
 ///
-/// `test` reads the configuration and the Kyuafiles before it begins a run, so their faults add no
-/// run. `test` puts an entry before it writes the entry's line. After a failed write, `test` still
-/// records entries. After a failed put, `test` only starts pending cleanups.
+/// `test` reads the configuration and the Kyuafiles before it begins a run. After a fault in one of
+/// these files, the store has no new run. `test` puts an entry before it writes the entry's line.
+/// After a failed write, `test` still records entries. After a failed put, `test` only starts
+/// pending cleanups.
 ///
-/// The contract derives the calls, the output and the exit status from the results of earlier
-/// calls, even if the store loses entries. `theorem_of_sound_stores` states which runs a store has
-/// afterwards if it loses nothing.
+/// The contract derives the calls, the output and the exit status from the results that the world
+/// and the store returned. It holds even if the store loses entries. `theorem_of_sound_stores`
+/// states which runs a store has afterwards if it loses nothing.
 pub fn execute<W: World, R: ResultStore, O: Write>(
     alloc: Global,
     command: &Command,
@@ -82,7 +83,8 @@ pub fn execute_all<W: World, R: ResultStore, O: Write>(
     Ok(exits)
 }
 
-/// Theorem: `execute` adds at most one run to a sound store, and changes no other run.
+/// Theorem: if the store is sound after `execute`, then `execute` added at most one run to it, and
+/// changed no other run.
 ///
 /// A store is sound if it returns exactly what was written. The new run has exactly the entries
 /// that were put, and is finished only if it has an entry for each of its cases. A call of the

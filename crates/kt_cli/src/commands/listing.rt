@@ -11,7 +11,8 @@ use kt_plan::{CaseSelection, World, select_cases};
 use std::alloc::Global;
 use std::io::Write;
 
-/// Writes a line for each selected case, and a warning for each filter that selects no case.
+/// Writes the line `PROGRAM:CASE` for each selected case, and then a warning for each filter that
+/// selects no case.
 fn write_listing<O: Write>(
     options: &CaseOptions,
     chosen: &CaseSelection,

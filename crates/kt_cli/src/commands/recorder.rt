@@ -8,17 +8,17 @@ use kt_store::{ResultStore, StoreFault};
 use std::io::Write;
 
 /// A `Sink` that puts each entry into run `number` of a results store, and then writes the entry's
-/// line.
+/// result line.
 #[derive(Drop)]
 pub struct Recorder<'a, R, O> {
-    /// The results store.
+    /// The results store that gets the entries.
     pub results: &'a mut R,
     /// The writer of the command's output.
     pub out: &'a mut O,
     /// The number of the run into which entries are put.
     pub number: u64,
-    /// The result of the writes so far. After an error nothing more is written, but entries are
-    /// still put.
+    /// The result of the writes to `out` so far. After an error nothing more is written, but
+    /// entries are still put.
     pub written: Result<(), OutputFault>,
 }
 
@@ -61,7 +61,7 @@ impl<R: ResultStore, O: Write> Sink for Recorder<'_, R, O> {
 pub struct Printer<'a, O> {
     /// The writer of the command's output.
     pub out: &'a mut O,
-    /// The result of the writes so far. After an error nothing more is written.
+    /// The result of the writes to `out` so far. After an error nothing more is written.
     pub written: Result<(), OutputFault>,
 }
 

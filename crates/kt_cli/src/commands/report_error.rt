@@ -7,6 +7,6 @@ pub enum ReportError {
     NoRuns,
     /// The store has runs, but none with this number.
     NoRun(u64),
-    /// A call of the store failed.
+    /// A call of the store failed with this fault.
     Refused(StoreFault),
 }

@@ -31,6 +31,8 @@ fn find_missing_cause<R: ResultStore>(number: Option<u64>, results: &mut R) -> R
 }
 
 /// Reads run `number`, or the last run if `number` is `None`, without properties and outputs.
+///
+/// Fails if there is no such run, or if a call of the store fails.
 fn read_run<R: ResultStore>(number: Option<u64>, results: &mut R) -> Result<Run, ReportError>
     ensures { ReadsRun R.StoreSpec number results.old results.new result }
 {
@@ -53,7 +55,7 @@ fn read_run<R: ResultStore>(number: Option<u64>, results: &mut R) -> Result<Run,
     }
 }
 
-/// Writes the error line of a run that can't be shown.
+/// Writes the error line of a run that can't be shown because of the error `why`.
 fn write_report_error<O: Write>(why: ReportError, out: &mut O) -> Result<(), OutputFault>
     ensures { Emits (O.contents out.old) (O.contents out.new) (is_err result)
         (utf8 (not_shown_line why)) }
@@ -71,7 +73,8 @@ fn write_report_error<O: Write>(why: ReportError, out: &mut O) -> Result<(), Out
 /// Writes the text report of a run, with the properties of each case. Only cases with a verdict of
 /// one of `kinds` are listed.
 ///
-/// The properties are read entry by entry, so that they are held for one entry at a time.
+/// The properties are read entry by entry, so that they are held for one entry at a time. Fails if
+/// the properties of an entry can't be read, or if a write fails.
 fn write_text<R: ResultStore, O: Write>(
     run: &Run,
     kinds: &[Kind],
@@ -95,7 +98,7 @@ fn write_text<R: ResultStore, O: Write>(
 ///
 /// Shows run `number`, or the last run if `number` is `None`. Only cases with a verdict of one of
 /// `kinds` are listed. If `verbose` is set, the properties of each case follow its line. The exit
-/// status is 0, or 2 if the run is missing, or can't be read or written.
+/// status is 0, or 2 if the run is missing or can't be read, or if a write fails.
 pub fn report<R: ResultStore, O: Write>(
     number: Option<u64>,
     kinds: &[Kind],
@@ -123,7 +126,8 @@ pub fn report<R: ResultStore, O: Write>(
 
 /// Writes the JUnit report of a run.
 ///
-/// The outputs are read entry by entry, so that they are held for one entry at a time.
+/// The outputs are read entry by entry, so that they are held for one entry at a time. Fails if the
+/// outputs of an entry can't be read, if a write fails, or if an allocation fails.
 fn write_junit<R: ResultStore, O: Write>(
     alloc: Global,
     run: &Run,
@@ -144,7 +148,7 @@ fn write_junit<R: ResultStore, O: Write>(
 /// Executes `report-junit`: prints a run as a JUnit report, and returns the exit status.
 ///
 /// Shows run `number`, or the last run if `number` is `None`. The exit status is 0, or 2 if the run
-/// is missing, if it can't be read or written, or if memory runs out.
+/// is missing or can't be read, if a write fails, or if memory runs out.
 pub fn report_junit<R: ResultStore, O: Write>(
     alloc: Global,
     number: Option<u64>,

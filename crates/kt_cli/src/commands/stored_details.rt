@@ -5,9 +5,9 @@ use kt_store::{ResultStore, StoreFault};
 /// A `Details` that reads the properties and the outputs of a run's entries from a results store.
 #[derive(Drop)]
 pub struct StoredDetails<'a, R> {
-    /// The results store.
+    /// The results store from which the properties and outputs are read.
     pub results: &'a mut R,
-    /// The number of the run.
+    /// The number of the run whose entries are read.
     pub number: u64,
 }
 

@@ -16,8 +16,8 @@ use kt_store::ResultStore;
 use std::alloc::Global;
 use std::io::Write;
 
-/// A plan with the number of its run and its width, the maximum number of cases that are active at
-/// once.
+/// A plan with the number of its run, and with its width: the maximum number of cases that are
+/// active at once.
 #[derive(Drop)]
 struct NumberedPlan {
     plan: Items<Job>,
@@ -25,9 +25,10 @@ struct NumberedPlan {
     number: u64,
 }
 
-/// Executes a plan, puts each entry into the plan's run, and then prints the entry's line.
+/// Executes a plan, puts each entry into the plan's run of the results store, and then prints the
+/// entry's result line.
 ///
-/// Returns the totals or the fault of the run, and the result of writing the lines.
+/// Returns the totals of the run or the fault that ended it, and the result of writing the lines.
 fn record_cases<L: Launcher, R: ResultStore, O: Write>(
     alloc: Global,
     numbered: NumberedPlan,
@@ -102,7 +103,7 @@ fn write_ending<O: Write>(
     write_warnings(options, chosen, out)
 }
 
-/// A plan before its run begins, with the options and the selection that the jobs come from.
+/// A plan before its run begins, with the options of the command and the selection of its cases.
 /// `moment` is the start of the run, in milliseconds since 1970-01-01 UTC.
 #[derive(Drop)]
 struct PlannedRun<'a> {

@@ -64,7 +64,7 @@ fn create_driver<O: Os + Drop>(
 /// # Errors
 ///
 /// The driver can't be created. `outside`, the handles of the host, is returned with the error, in
-/// its state after the calls.
+/// its state after the failure.
 ///
 /// - `NoWorkDirectory`: `options.work` is not absolute, or no root directory can be created in it.
 /// - `NoMemory`: an allocation fails.

@@ -18,8 +18,8 @@ use kt_suite::{Program, ReadFault, Tree};
 pub struct HostWorld<M: Drop, O: Os + Drop> {
     /// The files and the clock of the host.
     pub(crate) machine: M,
-    /// The directory of the command's Kyuafile, with a slash at its end, or empty for the working
-    /// directory.
+    /// The path of the directory of the command's Kyuafile, with a slash at its end, or empty for
+    /// the working directory.
     pub(crate) directory: Text,
     /// The driver, which starts test programs and lists their cases.
     pub(crate) driver: Driver<O>,
@@ -132,7 +132,9 @@ fn read_fault(fault: FileFault) -> ReadFault
     }
 }
 
-/// Reads a regular file of the host, at most its first 1,048,577 bytes.
+/// Reads the first 1,048,577 bytes of the regular file at `path`, or all bytes if they are fewer.
+///
+/// Fails if the file is missing or can't be read, or if an allocation fails.
 fn read_and_peek<M: HostFiles>(machine: &mut M, path: &str) -> Result<Bytes, ReadFault>
     ensures answered { M.answers machine.old (ReadsFile path.now (file_answer result)) machine.new }
     ensures short { IsWithinReadLimit result }

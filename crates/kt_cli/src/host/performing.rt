@@ -60,9 +60,10 @@ fn perform_over<M: HostFiles + Drop, O: Os + Drop, P: ResultsHost, S: ResultStor
     (exit, HostHandles { alloc, machine, os })
 }
 
-/// Returns the access with which a command opens its results file.
+/// Returns the access with which a command opens its results file: `Record` for `test`, else
+/// `Read`.
 ///
-/// `test` adds a run, and a report reads runs. The other commands have no results file.
+/// Only `test` and the reports have a results file.
 fn access_of(command: &Command) -> Access
     ensures { result ≡ access_of command.now }
 {
@@ -100,11 +101,11 @@ fn perform_in_file<M: HostFiles + Drop, O: Os + Drop, P: ResultsHost, W: Write>(
     (print_close_fault(exit, closed, out), outside)
 }
 
-/// Prints the message of `fault`, for which the arguments are rejected, to `errors`, the standard
-/// error, and returns the exit status.
+/// Prints the message of `fault`, the fault of rejected arguments, to `errors`, and returns the
+/// exit status.
 ///
-/// An out-of-memory message is printed to `out`, the standard output, where the messages of
-/// commands are printed.
+/// `errors` is standard error. An out-of-memory message is printed to `out`, standard output, like
+/// the messages of commands.
 fn reject<W: Write, E: Write>(fault: &CommandFault, out: &mut LineOutput<W>, errors: &mut E) -> Exit
     ensures { RejectsArguments fault.now
         (record { out = line_state W.contents out.old; errors = E.contents errors.old })
@@ -124,8 +125,9 @@ fn reject<W: Write, E: Write>(fault: &CommandFault, out: &mut LineOutput<W>, err
 ///
 /// The command uses the files, the clock and the system of `outside`, and the results file that
 /// `platform` opens and closes. `list` and `debug` use no results file: they get a store without
-/// runs, which they never call. At the end all output is written. `outside` has the handles of the
-/// host, and is returned in its state after the command.
+/// runs, which they never call. After a command the output is flushed, and the exit status is 2 if
+/// the flush fails. `outside` has the handles of the host, and is returned in its state after the
+/// command.
 pub fn run_command<M: HostFiles + Drop, O: Os + Drop, P: ResultsHost, W: Write, E: Write>(
     outside: HostHandles<M, O>,
     platform: &mut P,

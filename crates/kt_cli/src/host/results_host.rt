@@ -4,15 +4,16 @@ use kt_store::{Access, ResultStore, StoreFault};
 
 /// An interface to the results files and the environment of the process.
 ///
-/// An implementation may return any result that the contracts allow. The contracts of commands are
-/// about the results that were returned.
+/// An implementation may return any result that the contracts allow. The contracts of commands hold
+/// for each such result.
 pub trait ResultsHost {
     ghost use Rattle.kt_cli.specs.Platforms.{HostCall, Opened, Closed, Found};
 
     /// A store of the runs in an open results file.
     type Results: ResultStore + Drop;
 
-    /// `provides old call new`: `call` with its result leads the host from state `old` to `new`.
+    /// `provides old call new`: `call` with its result leads the results host from state `old` to
+    /// `new`.
     ghost provides: { Self → HostCall Self.Results → Self → Type 0 };
 
     /// Opens the results file with the path `file`, to add a run or only to read runs.
@@ -30,7 +31,8 @@ pub trait ResultsHost {
     ///
     /// # Errors
     ///
-    /// After an error the runs are in the file and its log.
+    /// After an error, `RunsFile` leaves the runs in the file and its log. Only the clause `left`
+    /// of its `close` states this.
     ///
     /// - `Store`: the log can't be copied into the file.
     /// - `NoMemory`: an allocation fails.

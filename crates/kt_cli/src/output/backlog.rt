@@ -4,16 +4,17 @@ use std::marker::Model;
 
 /// A queue of bytes that are still to be written.
 ///
-/// In contracts its value is the remaining bytes, in order.
+/// In contracts its value is these bytes, in order.
 pub struct Backlog {
-    /// The written bytes that are not removed yet, followed by the remaining bytes.
+    /// The bytes that were written and are not removed yet, followed by the bytes that are still to
+    /// be written.
     bytes: Vec<u8>,
-    /// The index of the first remaining byte, at most the length of `bytes`.
+    /// The index in `bytes` of the first byte that is still to be written, at most the length of
+    /// `bytes`.
     start: usize,
 }
 
-/// A manual `Drop`, for the prover: a drop is one call, and only this function takes the fields
-/// apart.
+/// Drops both fields. Separate for the prover: the proof of a caller then sees one call.
 impl Drop for Backlog {
     fn drop(self) {
         let Backlog { bytes: _, start: _ } = self;
@@ -43,14 +44,14 @@ impl Backlog {
         }
     }
 
-    /// Returns the remaining bytes.
+    /// Returns the bytes that are still to be written, in order.
     pub fn as_slice(&self) -> &[u8]
         ensures { result.now ≡ self.now }
     {
         &self.bytes[self.start..]
     }
 
-    /// Returns `true` if no bytes remain.
+    /// Returns `true` if no bytes are still to be written.
     pub fn is_empty(&self) -> bool
         ensures { IsTrue result ↔ (self.now ≡ []) }
     {
@@ -71,8 +72,8 @@ impl Backlog {
         Ok(())
     }
 
-    /// Moves the remaining bytes to the start of the buffer, unless they are more than the written
-    /// bytes before them.
+    /// Moves the bytes that are still to be written to the start of `bytes`, unless they are more
+    /// than the written bytes before them.
     fn compact(&mut self)
         ensures { self.new ≡ self.old }
     {
@@ -86,7 +87,7 @@ impl Backlog {
         self.start = 0;
     }
 
-    /// Removes all bytes.
+    /// Removes all bytes from the backlog.
     pub fn clear(&mut self)
         ensures { self.new ≡ [] }
     {
@@ -94,7 +95,7 @@ impl Backlog {
         self.start = 0;
     }
 
-    /// Removes the first `count` bytes, which were written.
+    /// Removes the first `count` bytes from the backlog, after they were written.
     pub fn advance(&mut self, count: usize)
         requires { count ≤ length self.old }
         ensures { self.new ≡ drop count self.old }

@@ -10,8 +10,8 @@ pub const FAILURE: u8 = 2;
 /// An exit status of a command (kyua(1)).
 #[derive(Clone, Copy)]
 pub struct Exit {
-    /// 0 for success, 1 if a case failed or is broken or a filter selects no case, 3 if the
-    /// arguments are wrong, 2 after any other error.
+    /// The exit status: 0 for success, and 1 if a case failed or is broken or a filter selects no
+    /// case. It is 3 if the arguments are wrong, and 2 after any other error.
     pub status: u8,
 }
 

@@ -2,10 +2,10 @@ ghost use Rattle.kt_cli.specs.Common.{Keeps};
 
 use std::io::Write;
 
-/// A witness that a flush of a writer failed. Only `flush_writer` creates witnesses.
+/// An error that exists only if a flush of a writer failed. Only `flush_writer` creates it.
 #[derive(Clone, Copy)]
 pub struct FlushFault {
-    /// A value that only this module can create.
+    /// A field whose value only this module can create.
     flush: FlushSeal,
 }
 

@@ -10,12 +10,12 @@ use std::io::{ErrorKind, Write};
 /// A buffered writer, which writes when its buffer of 64 KiB is full.
 ///
 /// If `by_line` is set, it also writes when a line is complete. An interrupted write counts as
-/// failed, and so does a write that takes no byte. After a failed write or flush of the inner
-/// writer, each later call fails, and nothing more is written. A drop writes nothing. The writer
-/// allocates nothing.
+/// failed, and so does a write of 0 bytes. After a failed write or flush of the inner writer, each
+/// later call fails, and nothing more is written. A drop writes nothing. The writer allocates
+/// nothing.
 #[derive(Drop)]
 pub struct LineOutput<W> {
-    /// The inner writer.
+    /// The inner writer, to which the buffered bytes are written.
     out: W,
     /// The bytes that are not written to the inner writer yet.
     held: FixedBuffer,

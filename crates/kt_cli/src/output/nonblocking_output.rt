@@ -15,16 +15,17 @@ const MAX_HELD_BYTES: usize = 1_048_576;
 ///
 /// Bytes that the reader does not take yet are held in memory, in order. Each later write and step
 /// offers them to the inner writer again. If more than 1 MiB is held and `step` was never called,
-/// the inner writer stores the bytes by `spool_bytes`. A flush writes all of them, and waits for
-/// the reader. So does a write whose bytes can't be held because the allocation fails. After a
-/// failed write each later write and flush fails, and nothing more is written.
+/// the inner writer stores the bytes by `spool_bytes`. A flush writes all held and stored bytes,
+/// and waits for the reader. So does a write whose bytes can't be held because the allocation
+/// fails. After a failed write each later write and flush fails, and nothing more is written.
 #[derive(Drop)]
 pub struct NonblockingOutput<W> {
-    /// The inner writer.
+    /// The inner writer, to which the bytes are written.
     out: W,
     /// The bytes in memory that the reader did not take yet.
     held: Backlog,
-    /// The maximum number of held bytes in memory.
+    /// The maximum number of held bytes in memory: 1 MiB before the first `step`, and then no
+    /// limit.
     most: usize,
     /// Whether a write of the inner writer has failed.
     failed: bool,
@@ -53,7 +54,8 @@ impl<W: NonblockingWriter> NonblockingOutput<W> {
         }
     }
 
-    /// Offers the held bytes to the inner writer once, and returns `true` if it took any.
+    /// Offers the held bytes to the inner writer once, and returns `true` if the writer took at
+    /// least one of them. An error of the writer is recorded in `failed`.
     fn offer_held(&mut self) -> bool
         ensures bytes { Keeps (accepted_bytes W.contents self.old) (accepted_bytes W.contents
             self.new) }
@@ -71,8 +73,8 @@ impl<W: NonblockingWriter> NonblockingOutput<W> {
         }
     }
 
-    /// Offers the held bytes to the inner writer, in order, at most 16 times and as long as it
-    /// takes some.
+    /// Offers the held bytes to the inner writer, in order, at most 16 times and as long as the
+    /// writer takes some of them.
     fn offer_all(&mut self)
         ensures bytes { Keeps (accepted_bytes W.contents self.old) (accepted_bytes W.contents
             self.new) }
@@ -85,8 +87,8 @@ impl<W: NonblockingWriter> NonblockingOutput<W> {
         }
     }
 
-    /// Offers the held bytes to the inner writer, at most 16 times and as long as it takes some,
-    /// without waiting.
+    /// Offers the held bytes to the inner writer, at most 16 times and as long as the writer takes
+    /// some of them, without waiting.
     ///
     /// After the first step, held bytes are never spooled: they stay in memory until they are
     /// written.
@@ -129,8 +131,8 @@ impl<W: NonblockingWriter> NonblockingOutput<W> {
         failed
     }
 
-    /// Writes some of `buf` to the inner writer directly, while no bytes are held. Returns the
-    /// number of written bytes. Fails if this write fails.
+    /// Writes some of `buf` directly to the inner writer, and returns the number of written bytes.
+    /// No bytes may be held. Fails if this write fails.
     fn write_through(&mut self, buf: &[u8]) -> io::Result<usize>
         requires { unsent_bytes self.old ≡ [] }
         ensures bound { WritesAtMost result buf.now }
@@ -165,9 +167,9 @@ impl<W: NonblockingWriter> NonblockingOutput<W> {
         self.write_through(buf)
     }
 
-    /// Offers `buf` to the inner writer, while no bytes are held. If the writer takes none of the
-    /// bytes, calls `hold`. Returns the number of bytes that were taken or held. Fails if the offer
-    /// or `hold` fails.
+    /// Offers `buf` to the inner writer, and calls `hold` if the writer takes none of the bytes. No
+    /// bytes may be held before. Returns the number of bytes that were taken or held. Fails if the
+    /// offer or `hold` fails.
     fn offer_or_hold(&mut self, buf: &[u8]) -> io::Result<usize>
         requires { unsent_bytes self.old ≡ [] }
         ensures bound { WritesAtMost result buf.now }

@@ -9,7 +9,7 @@ use std::io::{ErrorKind, Write};
 /// Commands write to it. While children run, the host offers the held bytes to the reader.
 #[derive(Drop)]
 pub struct SharedOutput<'a, W> {
-    /// The output that all handles of it share.
+    /// The output that this handle shares with the other handles.
     held: &'a RefCell<NonblockingOutput<W>>,
 }
 
@@ -20,7 +20,8 @@ impl<'a, W> SharedOutput<'a, W> {
     }
 }
 
-/// Creates the error of a call while another call uses the output. Such calls don't happen.
+/// Creates the error of a call during another call of the same output. The program makes no such
+/// call.
 fn borrow_error() -> io::Error {
     io::Error::from(ErrorKind::Other)
 }

@@ -7,13 +7,14 @@ use std::rt::Env;
 /// The length of the longest path that the host accepts, in bytes.
 const MAX_PATH_BYTES: usize = 4_095;
 
-/// The directory of a spool if the environment variable `TMPDIR` is unset, empty or too long.
+/// The directory of a spool's file if the environment variable `TMPDIR` is unset, empty or too
+/// long.
 const DIRECTORY: &[u8] = b"/tmp";
 
-/// The last part of a spool's path. mkstemp(3) replaces its six last characters.
+/// The last part of the path of a spool's file. mkstemp(3) replaces its six last characters.
 const NAME: &[u8] = b"/kyua.XXXXXX";
 
-/// The maximum length of the path of a spool's directory, in bytes.
+/// The maximum length of the path of the directory of a spool's file, in bytes.
 const MAX_DIRECTORY_BYTES: usize = MAX_PATH_BYTES - NAME.len();
 
 /// The maximum number of bytes that one read of a spool returns.
@@ -46,8 +47,8 @@ fn byte_count(answer: isize) -> io::Result<usize>
     }
 }
 
-/// Writes the template of a spool's path to `path`, and returns the length of the template in
-/// bytes.
+/// Writes the template of a spool's path, for mkstemp(3), to `path`, and returns the length of the
+/// template in bytes.
 fn write_template<R: Env>(rt: &R, path: &mut [u8; MAX_PATH_BYTES]) -> usize
     ensures { result ≤ 4095 }
 {

@@ -32,7 +32,7 @@ pub struct StandardOutput<'a, R> {
     spool: Option<Spool>,
 }
 
-/// Returns `true` if standard output can take bytes now, or if the poll fails.
+/// Returns `true` if standard output can take bytes now, or if poll(2) fails.
 fn is_ready() -> bool {
     let mut asked = [pollfd {
         fd: libc::STDOUT_FILENO,
