@@ -28,7 +28,7 @@ impl InitialContents for Unknown {
 pub(crate) struct KyuaHost<'a, S> {
     /// The runtime, through which files and the environment are read.
     pub(crate) rt: &'a HostRuntime,
-    /// The only value of `S`, which the first open of a results file consumes.
+    /// The value of `S` until the first open of a results file, which consumes it.
     pub(crate) start: Option<S>,
 }
 

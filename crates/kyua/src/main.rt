@@ -31,7 +31,7 @@ fn execute<P: ResultsHost>(rt: &HostRuntime, host: &mut P) -> ExitCode {
     ExitCode::from(status)
 }
 
-/// Executes the command in the arguments of the process, on the host.
+/// Executes the command in the arguments of the process on the host, and returns the exit status.
 ///
 /// Only contracts use `start`: it represents the initial contents of the results file.
 fn run<S: InitialContents>(rt: &HostRuntime, start: S) -> ExitCode {
@@ -46,7 +46,7 @@ fn run<S: InitialContents>(rt: &HostRuntime, start: S) -> ExitCode {
 /// greatest threshold for mapping that glibc sets by itself.
 const LARGE_BLOCK: usize = 16_777_216;
 
-/// Makes glibc serve large outputs from its heap, instead of mapping and unmapping each of them.
+/// Makes glibc allocate large blocks on its heap, instead of mapping and unmapping each of them.
 ///
 /// Freeing one mapped block raises glibc's threshold for mapping to the size of the block. Smaller
 /// blocks then come from the heap (mallopt(3), M_MMAP_THRESHOLD).
