@@ -16,16 +16,16 @@ use std::alloc::Global;
 /// The header of a list of ATF test cases, followed by an empty line.
 pub const CASE_LIST_HEADER: &str = "Content-Type: application/X-atf-tp; version=\"1\"\n\n";
 
-/// Returns the bytes of a list of ATF test cases: the header, and then `blocks` with its escapes
-/// decoded.
+/// Returns the bytes of a list of ATF test cases: the header, and then `blocks`, the text of the
+/// cases, with its escapes decoded.
 fn prepend_header(alloc: Global, blocks: &str) -> Result<Vec<u8>> {
     let mut text = CASE_LIST_HEADER.as_bytes().to_vec(alloc)?;
     append_unescaped(alloc, &mut text, blocks)?;
     Ok(text)
 }
 
-/// Creates the listing of a program that printed the list `text`. `ending` is the program's
-/// outcome, such as `exited 0`.
+/// Creates the `Listing` of a program that printed `text`, the list of its cases. `ending` is the
+/// program's outcome, such as `exited 0`.
 fn create_listing(ending: &str, text: Result<Vec<u8>>) -> Result<Listing> {
     let (text, ending) = zip_results(text, parse_outcome(ending))?;
     Ok(Listing::Ended(ending, ListBytes::Read(Bytes::from_vec(text))))
@@ -100,7 +100,8 @@ fn parse_interface(keyword: &str) -> Result<Interface> {
     }
 }
 
-/// Returns the cases of the program in an example, whose interface is `keyword`.
+/// Returns the cases of the program in an example. `keyword` is the program's interface: `atf`,
+/// `tap` or `plain`.
 ///
 /// The lines `set NAME=VALUE` of the example have the program's properties. The line `lists
 /// LISTING` has the result of listing the program's cases, by default an unreadable list.
@@ -122,8 +123,8 @@ fn list_program_cases(
     convert_error(cases(alloc, interface, &props, &Some(listing)))
 }
 
-/// Appends the cases of the program or of the list in an example. For an invalid list, appends the
-/// error's message.
+/// Appends the cases of an example: those of its program, or those of its list of cases. For an
+/// invalid list, appends the error's message.
 ///
 /// # Errors
 ///

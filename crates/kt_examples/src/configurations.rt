@@ -30,7 +30,7 @@ fn suite_value<'a>(config: &'a Config, suite: &Text, name: &Text) -> &'a str {
     }
 }
 
-/// Parses `text` as `SUITE NAME`, and appends the value of this suite's variable.
+/// Parses `text` as `SUITE NAME`, and appends the value of the variable NAME of this suite.
 fn push_value(out: &mut ExampleOutput, config: &Config, text: &str) -> Result<()> {
     let (suite, name) = split_once_or_fail(text, " ", "no suite and name")?;
     let (suite, name) = zip_results(
@@ -41,8 +41,8 @@ fn push_value(out: &mut ExampleOutput, config: &Config, text: &str) -> Result<()
     Ok(())
 }
 
-/// Parses `text` as `NAME=VALUE` and sets this variable. Appends `set`, or the error's message if
-/// the variable is rejected.
+/// Parses `text` as `NAME=VALUE` and sets this variable of `config`. Appends `set`, or the error's
+/// message if the variable is rejected.
 fn execute_set(out: &mut ExampleOutput, config: &mut Config, text: &str) -> Result<()> {
     let pair = parse_pair(out.alloc, text)?;
     match retry_once!(ConfigFault, config.set(&pair.name, &pair.value)) {
@@ -53,7 +53,7 @@ fn execute_set(out: &mut ExampleOutput, config: &mut Config, text: &str) -> Resu
 }
 
 /// Executes one line of an example on the configuration `config`, and appends the output of the
-/// line.
+/// line to `out`.
 fn push_line_output(
     out: &mut ExampleOutput,
     config: &mut Config,
@@ -72,7 +72,8 @@ fn push_line_output(
     Ok(())
 }
 
-/// Executes the lines of an example on the configuration `config`, and appends their outputs.
+/// Executes the lines of an example on the configuration `config`, and appends their outputs to
+/// `out`.
 fn push_line_outputs(
     out: &mut ExampleOutput,
     mut config: Config,

@@ -125,7 +125,7 @@ pub fn parse_storable_entry(
     Ok(entry)
 }
 
-/// Returns `true` if `line` describes an entry of an example, by a keyword such as `program` or
+/// Returns `true` if the keyword of `line` describes an entry of an example, such as `program` or
 /// `out`.
 pub fn is_entry_line(line: &ExampleLine<'_>) -> bool {
     match line.keyword {
@@ -135,7 +135,8 @@ pub fn is_entry_line(line: &ExampleLine<'_>) -> bool {
     }
 }
 
-/// Returns the lines directly after index `place` of `lines` that describe the entry at this index.
+/// Returns the lines that describe the entry at index `place` of `lines`: those directly after this
+/// index, up to the first other line.
 pub fn find_entry_lines<'a, 'b>(
     lines: &'b [ExampleLine<'a>],
     place: usize,
@@ -150,8 +151,8 @@ fn count_entries(entries: &Items<Entry>) -> Result<u32> {
     require_part(u32::try_from(entries.len()).ok(), "too many entries")
 }
 
-/// Appends the entry that `lines` describe, with the verdict `verdict`. Appends it N times if the
-/// lines contain `times N`, and once otherwise.
+/// Appends the entry that `lines` describe, with the verdict `verdict`, to `entries`. Appends it N
+/// times if the lines contain `times N`, and once otherwise.
 fn push_entry_copies(
     alloc: Global,
     entries: &mut Items<Entry>,
@@ -236,8 +237,11 @@ fn push_marks(out: &mut ExampleOutput, entry: &Entry) {
     }
 }
 
-/// Appends `entry` in the form that `keyword` selects: `cases`, `outputs` or `marks`. For any other
-/// keyword, appends the position and the verdict.
+/// Appends `entry` in the form that `keyword` selects.
+///
+/// `outputs` selects the four outputs. `cases` selects the position, the program, the case, the
+/// verdict and the times. `marks` selects the position, the verdict and the characters of
+/// `push_marks`. Any other keyword selects the position and the verdict.
 fn push_entry(out: &mut ExampleOutput, keyword: &str, entry: &Entry) {
     if keyword == "outputs" {
         return push_outputs(out, entry);
@@ -255,8 +259,8 @@ fn push_entry(out: &mut ExampleOutput, keyword: &str, entry: &Entry) {
     }
 }
 
-/// Appends the properties of all entries, one per line. The position of its entry precedes each
-/// property.
+/// Appends the properties of all entries to `out`, one per line. The position of its entry precedes
+/// each property.
 fn push_entry_properties(out: &mut ExampleOutput, entries: &[Entry]) {
     let mut separator = "";
     for entry in entries {
@@ -268,9 +272,12 @@ fn push_entry_properties(out: &mut ExampleOutput, entries: &[Entry]) {
     }
 }
 
-/// Appends each entry in the form that `keyword` selects, one entry per line. The forms are
-/// `cases`, `outputs` and `marks`. `pairs` selects the properties of all entries. For any other
-/// keyword, appends the position and the verdict of each entry.
+/// Appends each entry in the form that `keyword` selects, one entry per line.
+///
+/// `outputs` selects the four outputs. `cases` selects the position, the program, the case, the
+/// verdict and the times. `marks` selects the position, the verdict, and a character for each time
+/// and output. `pairs` selects the properties, one per line. Any other keyword selects the position
+/// and the verdict.
 pub fn push_entries(out: &mut ExampleOutput, keyword: &str, entries: &[Entry]) {
     if keyword == "pairs" {
         return push_entry_properties(out, entries);

@@ -2,7 +2,7 @@ use crate::example_fault::{ExampleFault, Result, convert_error, require_part};
 use kt_base::{Text, lossy};
 use std::alloc::Global;
 
-/// The maximum total length of the copies that a repetition `\*N{TEXT}` makes, in bytes.
+/// The maximum total length of the copies of one repetition `\*N{TEXT}`, in bytes.
 const MAX_REPETITION_BYTES: usize = 33_554_432;
 
 /// A decoder of the escapes in a text, with the bytes still to decode and the bytes decoded so far.
@@ -16,7 +16,7 @@ struct Unescaper<'a> {
     repetition: Option<(usize, usize)>,
 }
 
-/// Parses the byte `b` as a hexadecimal digit. Fails if `b` is `None` or another byte.
+/// Parses the byte `b` as a hexadecimal digit. Fails if `b` is `None` or isn't such a digit.
 fn parse_hex_digit(b: Option<u8>) -> Result<u32> {
     let digit = char::from(b.unwrap_or(b' ')).to_digit(16);
     require_part(digit, "\\x without two hexadecimal digits")
@@ -44,7 +44,7 @@ fn repeat(alloc: Global, text: &mut Vec<u8>, from: usize, times: usize) -> Resul
 }
 
 impl Unescaper<'_> {
-    /// Returns the next byte to decode, or `None` at the end.
+    /// Returns the next byte to decode, or `None` at the end of the text.
     fn next(&mut self) -> Option<u8> {
         let (b, rest) = self.rest.split_first()?;
         self.rest = rest;

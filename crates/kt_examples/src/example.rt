@@ -82,7 +82,7 @@ pub fn parse_pairs(alloc: Global, lines: &[ExampleLine<'_>], keyword: &str) -> R
 }
 
 impl<'a> Example<'a> {
-    /// Returns the first line of the input. Allocates nothing.
+    /// Returns the first line of the example's input. Allocates nothing.
     ///
     /// # Errors
     ///
@@ -91,14 +91,14 @@ impl<'a> Example<'a> {
         require_part(self.lines.first().copied(), "the row is empty")
     }
 
-    /// Returns the text of the first line with the keyword `keyword`, or `None` if there is no such
-    /// line. The escapes of the text are not decoded.
+    /// Returns the text of the first line of the input with the keyword `keyword`, or `None` if
+    /// there is no such line. The escapes of the text are not decoded.
     pub fn text(&self, keyword: &str) -> Option<&'a str> {
         find_text(self.lines.as_slice(), keyword)
     }
 
-    /// Returns the number in the first line with the keyword `keyword`, or `other` if there is no
-    /// such line. Allocates nothing.
+    /// Returns the number in the first line of the input with the keyword `keyword`, or `other` if
+    /// there is no such line. Allocates nothing.
     ///
     /// # Errors
     ///
@@ -107,8 +107,8 @@ impl<'a> Example<'a> {
         find_number(self.lines.as_slice(), keyword, other)
     }
 
-    /// Returns the text of the first line with the keyword `keyword`, with its escapes decoded to
-    /// bytes. Returns `None` if there is no such line.
+    /// Returns the text of the first line of the input with the keyword `keyword`, with its escapes
+    /// decoded to bytes. Returns `None` if there is no such line.
     ///
     /// # Errors
     ///
@@ -120,8 +120,8 @@ impl<'a> Example<'a> {
             .transpose()
     }
 
-    /// Returns the text of the first line with the keyword `keyword`, with its escapes decoded to
-    /// bytes. An example must have such a line.
+    /// Returns the text of the first line of the input with the keyword `keyword`, with its escapes
+    /// decoded to bytes. The example must have such a line.
     ///
     /// # Errors
     ///

@@ -9,7 +9,8 @@ pub type Result<T, E = ExampleFault> = std::result::Result<T, E>;
 pub enum ExampleFault {
     /// An allocation failed.
     NoMemory(NoMemory),
-    /// The example doesn't have the format of its subject. The field is the error's text.
+    /// A part of the example is missing or invalid, or the example can't be executed. The field is
+    /// the error's message.
     InvalidExample(&'static str),
 }
 

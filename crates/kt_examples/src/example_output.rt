@@ -16,7 +16,7 @@ pub struct ExampleOutput {
 }
 
 impl ExampleOutput {
-    /// Creates an empty text.
+    /// Creates an output without text. Allocates nothing.
     pub fn new(alloc: Global) -> ExampleOutput {
         ExampleOutput {
             alloc,
@@ -25,14 +25,14 @@ impl ExampleOutput {
         }
     }
 
-    /// Appends `text`. Does nothing if an earlier allocation failed.
+    /// Appends `text` to the output. Does nothing if an earlier allocation failed.
     pub fn push(&mut self, text: &str) {
         if self.refusal.is_none() {
             self.refusal = self.text.push_str(text).err().map(NoMemory::from);
         }
     }
 
-    /// Appends the text that `write!` formats.
+    /// Appends the text that `write!` formats to the output.
     pub fn write_fmt<D: Display + Drop>(&mut self, text: D) {
         self.push_or_record(text.to_string(self.alloc));
     }

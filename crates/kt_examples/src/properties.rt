@@ -12,7 +12,7 @@ use kt_metadata::{
 };
 use std::alloc::Global;
 
-/// A state of an example about properties: the properties of a program and of its case, a
+/// The state of an example about properties: the properties of a program and of its case, a
 /// configuration and a host.
 #[derive(Drop)]
 struct PropertyState {
@@ -22,8 +22,8 @@ struct PropertyState {
     host: Host,
 }
 
-/// Parses `raw` as `NAME=VALUE` and sets this property. Appends the error's message if the property
-/// is rejected.
+/// Parses `raw` as `NAME=VALUE` and sets this property in `props`. Appends the error's message to
+/// `out` if the property is rejected.
 fn set_property(out: &mut ExampleOutput, props: &mut Props, raw: &str) -> Result<()> {
     let pair = parse_pair(out.alloc, raw)?;
     if let Err(fault) = retry_once!(PropFault, props.set(&pair.name, &pair.value)) {
@@ -33,7 +33,7 @@ fn set_property(out: &mut ExampleOutput, props: &mut Props, raw: &str) -> Result
     Ok(())
 }
 
-/// Parses `raw` as `NAME=VALUE` and sets this property.
+/// Parses `raw` as `NAME=VALUE` and sets this property in `props`.
 ///
 /// # Errors
 ///
@@ -45,8 +45,8 @@ pub fn set_valid_property(alloc: Global, props: &mut Props, raw: &str) -> Result
     require_part(set, "there is no such property or value")
 }
 
-/// Parses `raw` as `COUNT NAME=VALUE` and sets COUNT properties. Each `#` is replaced by the number
-/// of the property, counted from 0. Fails if a property is rejected.
+/// Parses `raw` as `COUNT NAME=VALUE` and sets COUNT properties in `props`. Each `#` is replaced by
+/// the number of the property, counted from 0. Fails if a property is rejected.
 fn set_property_copies(alloc: Global, props: &mut Props, raw: &str) -> Result<()> {
     for text in expand_copies(alloc, raw)?.as_slice() {
         set_valid_property(alloc, props, text.as_str())?;
@@ -86,8 +86,8 @@ fn set_variable(alloc: Global, config: &mut Config, raw: &str) -> Result<()> {
 
 /// Executes the query `keyword` on `pairs`, the properties of an example, and appends its output.
 ///
-/// `show` prints the value of the property `name`, `count` the number of properties, and `listing`
-/// all of them.
+/// `show` prints the value of the property `name`, or `-` if there is no such property. `count`
+/// prints the number of properties, and `listing` prints all of them.
 fn execute_listing_query(
     out: &mut ExampleOutput,
     keyword: &str,
@@ -121,8 +121,8 @@ impl PropertyState {
         convert_error(self.host.record_found(need, &unescape_text(alloc, raw)?))
     }
 
-    /// Executes a line of an example, which changes the state or is a query, and appends its
-    /// output.
+    /// Executes a line of an example, which changes the state or is a query, and appends the output
+    /// of a query or the error's message.
     fn execute_line(&mut self, out: &mut ExampleOutput, line: &ExampleLine<'_>) -> Result<()> {
         let (alloc, text) = (out.alloc, line.text);
         match line.keyword {
@@ -152,7 +152,7 @@ impl PropertyState {
     }
 
     /// Executes the query `keyword` on the properties `props`, and appends its output. `name` is
-    /// the name or the key in the query, if the query has one.
+    /// the property or the key that the query names, if any.
     fn push_line_output(
         &self,
         out: &mut ExampleOutput,

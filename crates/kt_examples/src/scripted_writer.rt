@@ -30,12 +30,12 @@ pub struct ScriptedWriter {
     pub failing_write: u64,
     /// The way in which writes fail.
     pub fault: WriteFault,
-    /// `true` if a flush fails.
+    /// `true` if each flush fails with `BrokenPipe`.
     pub flush_fails: bool,
 }
 
 impl ScriptedWriter {
-    /// Creates a writer that accepts all bytes.
+    /// Creates a writer that accepts all bytes, and whose writes and flushes don't fail.
     pub fn new(alloc: Global) -> ScriptedWriter {
         ScriptedWriter {
             written: Vec::new(alloc),

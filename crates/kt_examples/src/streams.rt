@@ -9,7 +9,8 @@ use kt_base::NoMemory;
 use kt_claim::{Claim, ClaimReader, Tap, TapReader, read_claim, read_tap};
 use std::alloc::Global;
 
-/// The maximum length of an input that is split at each of its indexes, in bytes.
+/// The maximum length of a result file or TAP stream that is split at each of its indexes, in
+/// bytes.
 const MAX_SPLIT_BYTES: usize = 1_000;
 
 /// A reader of evidence in pieces: of a result file or of a TAP stream.
@@ -64,7 +65,7 @@ fn push_claim(out: &mut ExampleOutput, claim: Result<Claim, NoMemory>) {
     }
 }
 
-/// Appends the name of a claim, and its number and its reason if it has them.
+/// Appends the name of `claim`, and its exit status, signal, fault and reason, if it has them.
 fn push_claim_parts(out: &mut ExampleOutput, claim: &Claim) {
     out.push_name(claim);
     match claim {
@@ -94,7 +95,7 @@ fn push_tap(out: &mut ExampleOutput, tap: Result<Tap, NoMemory>) {
     }
 }
 
-/// Reads `bytes` at once, and returns their claim or their TAP result as text.
+/// Reads `bytes` in one piece, and returns their claim or their TAP result as text.
 ///
 /// `keyword` is `tap` for a TAP stream. Otherwise, `bytes` are a result file.
 fn read_at_once(alloc: Global, keyword: &str, bytes: &[u8]) -> Result<String> {
@@ -185,11 +186,11 @@ fn push_pieces(out: &mut ExampleOutput, example: &Example<'_>, keyword: &str) ->
     Ok(())
 }
 
-/// Appends the claim of a result file or the result of a TAP stream, which an example contains.
+/// Appends the claim of the result file or the result of the TAP stream in an example.
 ///
-/// `keyword` is the keyword of its line: `file` or `tap`. The input is also read in pieces, and the
-/// first text that differs is appended instead. Without this line, the input is in the lines `piece
-/// TEXT`.
+/// `keyword` is the keyword of the line with this input: `file` or `tap`. The input is also read in
+/// pieces, and the first text that differs is appended instead. Without this line, the input is in
+/// the lines `piece TEXT`.
 ///
 /// # Errors
 ///
