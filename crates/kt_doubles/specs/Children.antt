@@ -13,7 +13,7 @@ child_in (Running interface cleanup) Body = Some (record { interface = interface
 child_in (Cleaning interface cleanup) Cleanup = Some (record { interface = interface; cleanup = cleanup })
 child_in place role = None
 
--- `is_pending_slot place`: a case with the state `place` has a pending cleanup.
+-- `is_pending_slot place`: `true` if a case with the state `place` has a pending cleanup.
 abbrev pub is_pending_slot : ChildSlot → Bool
 is_pending_slot CleanupPending = true
 is_pending_slot place = false
@@ -23,6 +23,7 @@ is_pending_slot place = false
 abbrev pub running_child_at : List ChildSlot → ℕ → Role → Option Child
 running_child_at places k role = child_in (slice_index_or places k Free) role
 
--- `is_cleanup_pending places k`: the case at position `k` of `places` has a pending cleanup.
+-- `is_cleanup_pending places k`: `true` if the case at position `k` of `places` has a pending
+-- cleanup.
 abbrev pub is_cleanup_pending : List ChildSlot → ℕ → Bool
 is_cleanup_pending places k = is_pending_slot (slice_index_or places k Free)

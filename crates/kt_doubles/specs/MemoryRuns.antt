@@ -35,8 +35,8 @@ memory_runs = record { answers = AnswersInMemory; stands = RepresentsInMemory; s
 
 -- ---- the calls
 
--- `ServesInMemory old call new`: the result of `call` is correct for the runs `old`. If these are
--- numbered from 1, `new` are the runs after `call`.
+-- `ServesInMemory old call new`: the result of `call` is correct for the runs `old`. If the runs
+-- `old` are numbered from 1, `new` are the runs after `call`.
 abbrev pub ServesInMemory : List Run → StoreCall → List Run → Type 0
 ServesInMemory old call new = Agrees old call × (AreNumbered 1 old → new ≡ runs_after call old)
 
@@ -52,8 +52,8 @@ abbrev pub insert_index : ℕ → List Entry → ℕ
 insert_index position [] = 0
 insert_index position (x ∷ es) = if nat_lt position x.position then 0 else suc (insert_index position es)
 
--- `put_error run position`: the first error that applies to a put of an entry at `position` into
--- `run`, or `None` if `run` accepts the entry.
+-- `put_error run position`: the first of `RunClosed`, `BadPosition` and `RepeatedPosition` that
+-- applies to a put at `position` into `run`, or `None` if `run` accepts the entry.
 abbrev pub put_error : Run → ℕ → Option StoreFault
 put_error run position =
     if run.finished then Some RunClosed
@@ -61,7 +61,7 @@ put_error run position =
     else if has_position position run.entries then Some RepeatedPosition
     else None
 
--- `finish_error run`: the first error that applies to finishing `run`, or `None` if `run` can be
--- finished.
+-- `finish_error run`: the first of `RunClosed` and `Incomplete` that applies to finishing `run`, or
+-- `None` if `run` can be finished.
 abbrev pub finish_error : Run → Option StoreFault
 finish_error run = if run.finished then Some RunClosed else if nat_lt (length run.entries) run.total then Some Incomplete else None

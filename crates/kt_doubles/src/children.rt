@@ -15,7 +15,7 @@ pub const MAX_POSITIONS: u32 = 2_048;
 /// The state of a case in a scripted launcher.
 #[derive(Clone, Copy)]
 pub enum ChildSlot {
-    /// No child runs, and no cleanup is pending.
+    /// No child of the case runs, and no cleanup is pending.
     Free,
     /// The body runs. The fields are the interface of its program, and `true` if the case declares
     /// a cleanup.
@@ -27,7 +27,7 @@ pub enum ChildSlot {
     Cleaning(Interface, bool),
 }
 
-/// The states of all cases, by position.
+/// The states of the cases in a scripted launcher, by position.
 pub type ChildSlots = [ChildSlot; 2048];
 
 /// A running child: its role, its interface, and `true` if its case declares a cleanup.
@@ -64,8 +64,8 @@ fn child_at(places: &ChildSlots, at: u32) -> Option<SlotChild>
     }
 }
 
-/// Returns the running child at position `named` of `places`, or else the first running child, each
-/// with its position. The caller guarantees that a child is running.
+/// Returns a running child of `places` with its position: the child at position `named`, or else
+/// the first running child. The caller guarantees that a child is running.
 pub fn running_child(places: &ChildSlots, named: u32) -> (u32, SlotChild)
     requires { (i : ℕ) × (role : Role) × (child : Child)
         × (running_child_at places.now i role ≡ Some child) }

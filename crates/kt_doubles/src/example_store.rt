@@ -17,7 +17,7 @@ pub trait ExampleStore {
     fn begin(&mut self, total: u32, moment: u64) -> Result<u64, StoreFault>
         requires { IsMoment moment };
 
-    /// Adds an entry with its properties to the run number `run`.
+    /// Adds an entry, with its properties and outputs, to run number `run`.
     ///
     /// # Errors
     ///
@@ -39,14 +39,15 @@ pub trait ExampleStore {
     /// - `NoMemory`, `Store`: an allocation or the store failed.
     fn finish(&mut self, run: u64) -> Result<(), StoreFault>;
 
-    /// Returns all runs without their entries, by number.
+    /// Returns all runs without their entries, in the order of their numbers.
     ///
     /// # Errors
     ///
     /// - `NoMemory`, `Store`: an allocation or the store failed.
     fn runs(&mut self) -> Result<Vec<RunHead>, StoreFault>;
 
-    /// Returns the entries of a run by position, with their properties and outputs.
+    /// Returns the entries of run `run` with their properties and outputs, in the order of their
+    /// positions.
     ///
     /// # Errors
     ///
@@ -77,11 +78,11 @@ impl<S: Alter> ExampleStore for Results<S> {
     }
 }
 
-/// A results store that reads the entries of a run as reports do: first their outline, then the
-/// properties and outputs of one entry at a time.
+/// An `ExampleStore` over a results store. It reads the entries of a run as reports do: first their
+/// outline, then the properties and outputs of one entry at a time.
 #[derive(Drop)]
 pub struct SplitReadStore<'a, R: ResultStore> {
-    /// The store whose runs are read.
+    /// The results store that executes the calls.
     pub store: &'a mut R,
     /// The allocator of the returned lists of heads and of entries.
     pub alloc: Global,

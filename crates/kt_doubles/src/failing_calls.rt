@@ -7,7 +7,7 @@ use std::alloc::Global;
 /// A counter of the calls on a results store, which makes a range of the calls fail.
 #[derive(Drop)]
 pub struct FailingCalls {
-    /// The number of calls so far.
+    /// The number of calls of the store so far.
     calls: u64,
     /// The numbers of the first and the last call that fail, counted from 1, or 0 and 0 for none.
     failing_range: (u64, u64),

@@ -15,7 +15,8 @@ struct FilterState {
     filters: Vec<Filter>,
 }
 
-/// Parses a case from `raw`, which is `PATH CASE`, split at the first space.
+/// Parses `raw` as a case in the form `PATH CASE`, split at the first space, and decodes the
+/// escapes of both parts.
 fn parse_item(alloc: Global, raw: &str) -> Result<Item> {
     let (path, case_name) = split_once_or_fail(raw, " ", "a case stands after a path")?;
     let (path, case_name) = zip_results(
@@ -25,14 +26,15 @@ fn parse_item(alloc: Global, raw: &str) -> Result<Item> {
     Ok(Item { path, case_name })
 }
 
-/// Parses `raw` as a filter. Fails if `Filter::parse` rejects `raw`.
+/// Decodes the escapes of `raw`, and parses the text as a filter. Fails if an escape is invalid, or
+/// if `Filter::parse` rejects the text.
 fn parse_filter(alloc: Global, raw: &str) -> Result<Filter> {
     let filter = Filter::parse(alloc, &unescape_text(alloc, raw)?).ok();
     require_part(filter, "a filter that is refused is asked for by `read`")
 }
 
-/// Parses `raw` as a filter, and appends the parts of the filter, as `d/b, case main`, or the
-/// error's message.
+/// Decodes the escapes of `raw`, parses the text as a filter, and appends its parts, as `d/b, case
+/// main`. If the filter is rejected, appends the error's message.
 fn push_parsed_filter(out: &mut ExampleOutput, raw: &str) -> Result<()> {
     match Filter::parse(out.alloc, &unescape_text(out.alloc, raw)?) {
         Ok(filter) => {
@@ -58,7 +60,8 @@ fn push_position_list(out: &mut ExampleOutput, label: &str, positions: &[usize])
     }
 }
 
-/// Checks that `filters` are disjoint, and appends `disjoint` or the error with its position.
+/// Checks that `filters` are disjoint, and appends `disjoint`, or the error and the position of the
+/// filter that has it.
 fn push_disjoint(out: &mut ExampleOutput, filters: &[Filter]) {
     match check_disjoint(filters) {
         Ok(()) => out.push("disjoint"),
@@ -69,7 +72,8 @@ fn push_disjoint(out: &mut ExampleOutput, filters: &[Filter]) {
 }
 
 impl FilterState {
-    /// Adds the filter or the case in `raw` to the example, as the keyword `keyword` selects.
+    /// Parses `raw` as a filter or as a case, as the keyword `keyword` selects, and adds it to this
+    /// state.
     fn add(&mut self, alloc: Global, keyword: &str, raw: &str) -> Result<()> {
         match keyword {
             "filter" | "filters" => push_or_fail(&mut self.filters, parse_filter(alloc, raw)),
@@ -106,8 +110,9 @@ impl FilterState {
         }
     }
 
-    /// Appends the positions of the selected cases and of the filters that match no case. The
-    /// output is `cases 0 2, unmatched none`, or `2 cases, 0 unmatched` if `is_brief` is set.
+    /// Appends the positions of the selected cases and of the filters that match no case, or the
+    /// error's message. The output is `cases 0 2, unmatched none`, or `2 cases, 0 unmatched` if
+    /// `is_brief` is set.
     fn push_selection(&self, out: &mut ExampleOutput, is_brief: bool) {
         match select(out.alloc, &self.items, &self.filters) {
             Ok(found) if is_brief => {

@@ -1,6 +1,6 @@
 use kt_examples::ExampleOutput;
 
-/// The maximum number of lines of a folded block, plus 1.
+/// The maximum number of lines of a block whose copies are folded, plus 1.
 const BLOCK_LINES_END: usize = 12;
 
 /// Returns the number of consecutive copies of the block of `length` lines at index `at` of
@@ -13,9 +13,9 @@ fn count_copies(lines: &[&str], at: usize, length: usize) -> usize {
         .count()
 }
 
-/// Returns the length of the shortest block at index `at` of `lines` that repeats, and the number
-/// of its copies. A single line must occur at least twice, a longer block three times. Without such
-/// a block, the result is 1 line and 1 copy.
+/// Returns the length in lines of the shortest block at index `at` of `lines` that repeats, and the
+/// number of its copies. A single line must occur at least twice, a longer block three times.
+/// Without such a block, the result is 1 line and 1 copy.
 fn find_block(lines: &[&str], at: usize) -> (usize, usize) {
     for length in 1..BLOCK_LINES_END {
         let times = count_copies(lines, at, length);
@@ -26,7 +26,8 @@ fn find_block(lines: &[&str], at: usize) -> (usize, usize) {
     (1, 1)
 }
 
-/// Appends the lines `block` of a block, and the number `times` of its copies if there are several.
+/// Appends the lines of `block`, in parentheses if there are several. If `times`, the number of
+/// copies of the block, is above 1, then appends it, as ` x3`.
 fn push_block(out: &mut ExampleOutput, block: &[&str], times: usize) {
     let mut separator = if block.len() > 1 { "(" } else { "" };
     for line in block {

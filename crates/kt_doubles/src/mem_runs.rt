@@ -42,8 +42,8 @@ impl MemRuns {
         }
     }
 
-    /// Appends an unfinished run without entries, and returns its number. `moment` is its start, in
-    /// milliseconds since 1970-01-01 UTC.
+    /// Appends an unfinished run of `total` cases without entries, and returns its number. `moment`
+    /// is its start, in milliseconds since 1970-01-01 UTC.
     ///
     /// Fails with `StoreFull` if there are 1,000,000 runs, and with `NoMemory` if the allocation
     /// fails.
@@ -80,8 +80,10 @@ impl MemRuns {
         Ok((number - 1) as usize)
     }
 
-    /// Inserts a copy of an entry into run `number`, in the order of positions. Fails with `NoRun`,
-    /// or with the fault of [`put_fault`], or with `NoMemory`.
+    /// Inserts a copy of an entry into run `number`, in the order of positions.
+    ///
+    /// Fails with `NoRun` if there is no such run, and with the error of [`put_fault`] if the run
+    /// rejects the entry. Fails with `NoMemory` if an allocation fails.
     fn put_entry(&mut self, number: u64, entry: &Entry) -> Result<(), StoreFault>
         ensures { ServesInMemory self.old (Put number entry.now result) self.new }
     {
@@ -97,7 +99,10 @@ impl MemRuns {
         Ok(())
     }
 
-    /// Marks run `number` as finished. Fails with `NoRun`, or with the fault of [`finish_fault`].
+    /// Marks run `number` as finished.
+    ///
+    /// Fails with `NoRun` if there is no such run, and with the error of [`finish_fault`] if the
+    /// run can't be finished.
     fn finish_run(&mut self, number: u64) -> Result<(), StoreFault>
         ensures { ServesInMemory self.old (Finished number result) self.new }
     {
@@ -250,7 +255,7 @@ fn find_run(runs: &[Run], number: u64) -> Option<&Run>
     runs.iter().find(|run| run.number == number)
 }
 
-/// Returns the index of `entries` at which an entry with the position `position` is inserted.
+/// Returns the index in `entries` at which an entry with the position `position` is inserted.
 ///
 /// The index is the number of entries before the first entry with a greater position.
 fn insert_index(entries: &[Entry], position: u32) -> usize
@@ -306,8 +311,8 @@ fn has_position(entries: &[Entry], position: u32) -> bool
     entries.iter().any(|x| x.position == position)
 }
 
-/// Returns the first error that applies to a put of an entry with `position` into a run. Returns
-/// `None` if the run accepts the entry.
+/// Returns the first of `RunClosed`, `BadPosition` and `RepeatedPosition` that applies to a put of
+/// an entry with `position` into a run. Returns `None` if the run accepts the entry.
 fn put_fault(run: &Run, position: u32) -> Option<StoreFault>
     ensures { result ≡ put_error run.now position }
 {
@@ -323,8 +328,8 @@ fn put_fault(run: &Run, position: u32) -> Option<StoreFault>
     None
 }
 
-/// Returns the first error that applies to finishing a run. Returns `None` if the run can be
-/// finished.
+/// Returns the first of `RunClosed` and `Incomplete` that applies to finishing a run. Returns
+/// `None` if the run can be finished.
 fn finish_fault(run: &Run) -> Option<StoreFault>
     ensures { result ≡ finish_error run.now }
 {

@@ -25,7 +25,7 @@ pub enum PartFault {
 /// A file of a scripted system (`Os`) or of scripted host files (`HostFiles`).
 #[derive(Drop)]
 pub struct SceneFile {
-    /// The path, in which the first `*` represents any text without `/`.
+    /// The path of the file, in which the first `*` represents any text without `/`.
     pub path: String,
     /// The contents of the file.
     pub bytes: Vec<u8>,
@@ -47,9 +47,10 @@ pub struct Scene {
     /// The range of calls of the system that fail: the number of the first, counted from 0, and the
     /// number of the last plus 1.
     pub failing_calls: (u32, u32),
-    /// The failed allocation that these calls return as their error, or `None` for another error.
+    /// The failed allocation that the calls in `failing_calls` return as their error, or `None` if
+    /// they return another error.
     pub no_memory: Option<NoMemory>,
-    /// The fault of reading a file in parts.
+    /// The fault of reads that read a file in parts.
     pub part_fault: PartFault,
     /// The timestamps that the system returns, in milliseconds since 1970 in UTC.
     pub moments: Vec<u64>,
@@ -58,9 +59,9 @@ pub struct Scene {
     pub step: u64,
     /// The timestamps of the host's clock, in milliseconds since 1970 in UTC. The last is repeated.
     pub clock: Vec<u64>,
-    /// Keywords with paths. `program`: the test program exists. `locked`: the file can't be read.
-    /// `dear`: an allocation fails when the file is read. `found-file`, `found-program`: the
-    /// required file or program exists.
+    /// Paths, each with a keyword that states a fact about the path. `program`: the test program
+    /// exists. `locked`: the file can't be read. `dear`: an allocation fails when the file is read.
+    /// `found-file`, `found-program`: the required file or program exists.
     pub paths: Vec<(String, String)>,
 }
 

@@ -108,9 +108,9 @@ fn parse_line(scene: &mut Scene, line: &ExampleLine<'_>) -> Result<()> {
     }
 }
 
-/// Sets the timestamps, the failing calls or the fault of partial reads of `scene` to those in the
-/// line with the keyword `keyword` and the text `text`. Fails if the line `odd` has another fault.
-/// Other lines are ignored.
+/// Sets the timestamps, the failing calls or the fault of partial reads of `scene` to those in a
+/// line. `keyword` is the keyword of the line, and `text` is its text. Fails if a number or the
+/// fault in a line `odd` is invalid. Other lines are ignored.
 fn set_clock_or_faults(scene: &mut Scene, keyword: &str, text: &str) -> Result<()> {
     let alloc = scene.alloc;
     match keyword {

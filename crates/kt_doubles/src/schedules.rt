@@ -51,8 +51,8 @@ fn push_run_summary(out: &mut ExampleOutput, log: &str, entries: &[Entry]) {
     });
 }
 
-/// Appends `end`, the result of a run, as `: 3 good, 1 bad of 4`, or its error. The line `moments`
-/// of `example` adds `entries` with their times.
+/// Appends `end`, the result of a run, to `out`, as `: 3 good, 1 bad of 4`, or its error. The line
+/// `moments` of `example` adds `entries` with their times.
 fn push_run_result(
     out: &mut ExampleOutput,
     example: &Example<'_>,

@@ -20,8 +20,8 @@ pub struct ScriptedLauncher<'a> {
     /// The positions of the cases whose children end, in the order of their ends. At a position
     /// without a child, and after the last position, the first running child ends.
     pub ends: &'a [u64],
-    /// The timestamps of the calls, in milliseconds since 1970 in UTC. The last timestamp is
-    /// repeated.
+    /// The timestamps that the calls return, in milliseconds since 1970 in UTC. The last timestamp
+    /// is repeated.
     pub moments: &'a [u64],
     /// The calls, one per line: `start 1`, `start cleanup 1`, `end 1`.
     pub log: ExampleOutput,
@@ -59,7 +59,7 @@ fn next_moment(moments: &mut &[u64]) -> u64 {
 }
 
 /// Removes and returns the first position of `ends`, whose child ends next. Returns `MAX_POSITIONS`
-/// if no position remains or it exceeds 2^32 - 1.
+/// if no position remains, or if the position exceeds 2^32 - 1.
 fn next_end(ends: &mut &[u64]) -> u32 {
     match ends.split_first() {
         None => MAX_POSITIONS,
@@ -82,7 +82,7 @@ fn log_call(log: &mut ExampleOutput, name: &str, position: u32, role: Role) {
 
 impl<'a> ScriptedLauncher<'a> {
     /// Creates a launcher without running children and pending cleanups. `letters`, `ends` and
-    /// `moments` are its fields of the same names.
+    /// `moments` are the values of the fields with these names.
     #[tactic(auto, using(crate::proofs::EmptyPlaces::idle))]
     pub fn new(
         alloc: Global,

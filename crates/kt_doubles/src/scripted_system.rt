@@ -7,8 +7,8 @@ use kt_child::{Child, EnvPlan, FileRead, Os, OsFault, Polled};
 use kt_examples::ExampleOutput;
 
 /// An `Os` that follows a scene and logs each call in a line. The line of a failed call ends in
-/// `failed`. If the allocation for a line fails, the call is executed, and the log returns the
-/// error.
+/// `failed`. If the allocation for a line fails, the call is still executed, and reading the log
+/// returns the error.
 #[derive(Drop)]
 pub struct ScriptedSystem<'a> {
     /// The script that the system follows.
@@ -18,7 +18,7 @@ pub struct ScriptedSystem<'a> {
     /// The children in the order of their starts, each with the number of polls that found it
     /// running.
     children: Vec<(Child, u32)>,
-    /// The count of timestamps of the scene that `now` has returned so far.
+    /// The number of timestamps of the scene that `now` has returned so far.
     moment_count: usize,
     /// The last timestamp that was returned, in milliseconds since 1970 in UTC.
     moment: u64,
@@ -144,7 +144,8 @@ impl<'a> ScriptedSystem<'a> {
         self.log_call_end()
     }
 
-    /// Returns the scene's next timestamp, or the last one plus the scene's step if none remains.
+    /// Returns the scene's next timestamp. If none remains, returns the last timestamp plus the
+    /// scene's step.
     fn next_moment(&mut self) -> u64 {
         match self.scene.moments.get(self.moment_count) {
             Some(moment) => {

@@ -16,7 +16,7 @@ fn push_done_or_error(out: &mut ExampleOutput, done: Result<(), StoreFault>) {
     }
 }
 
-/// Begins `times` runs in `results`, and appends the number of the last run or the error.
+/// Begins `times` runs in `results`, and appends the number of the last run or the error to `out`.
 ///
 /// `text` is `TOTAL MOMENT`: the number of cases and the start of each run, in milliseconds since
 /// 1970 in UTC. The default of MOMENT is 0.
@@ -42,8 +42,8 @@ fn execute_begin<R: ExampleStore>(
     Ok(())
 }
 
-/// Puts `times` entries into `results`, and appends `done` or the error of the first put that
-/// fails.
+/// Puts `times` entries into `results`, and appends `done` or the error of the first put that fails
+/// to `out`.
 ///
 /// `text` is `RUN POSITION VERDICT`: the run, the position of the first entry and the verdict of
 /// each entry. The lines `content` describe the rest of the entries.
@@ -109,8 +109,8 @@ pub fn push_runs<R: ExampleStore>(out: &mut ExampleOutput, results: &mut R, is_b
     }
 }
 
-/// Appends the part of the entries of the run `run` that `keyword` selects, or their number if
-/// `keyword` is `count`. The entries are read from `results`.
+/// Appends the part of the entries of run `run` that `keyword` selects to `out`, or the number of
+/// the entries if `keyword` is `count`. The entries are read from `results`.
 fn push_run_entries<R: ExampleStore>(
     out: &mut ExampleOutput,
     results: &mut R,
@@ -124,9 +124,9 @@ fn push_run_entries<R: ExampleStore>(
     }
 }
 
-/// Executes the call in `line` on the store `results`, and appends its output. The lines `content`
-/// have the number of repetitions and describe the entry of a put. An error of the store is part of
-/// the output.
+/// Executes the call in `line` on the store `results`, and appends the output of the call to `out`.
+/// The lines `content` have the number of repetitions and describe the entry of a put. An error of
+/// the store is part of the output.
 ///
 /// # Errors
 ///

@@ -21,8 +21,8 @@ use kt_sched::{Job, MAX_TIMEOUT_SECONDS, MAX_WIDTH, RunFault, SinkFault};
 use kt_suite::Program;
 use std::alloc::Global;
 
-/// The maximum number of bytes that are read of a Kyuafile or a configuration: one more than either
-/// may have.
+/// The maximum number of bytes that are read of a Kyuafile or a configuration file: one more than
+/// such a file may have.
 const SCRIPT_READ_BYTES: usize = 1_048_577;
 
 /// The result of executing a plan by a driver over a system.
@@ -36,9 +36,9 @@ struct DriverRun<O: Drop> {
     fault: Option<&'static str>,
 }
 
-/// Returns the part of the log line `line` that `form` selects, or `None`. `words` selects the
-/// first word, `watching` the line of a poll, a kill or a pause, and any other value the whole
-/// line.
+/// Returns the part of the log line `line` that `form` selects, or `None` if `form` doesn't select
+/// this line. `words` selects the first word, `watching` the line of a poll, a kill or a pause, and
+/// any other value the whole line.
 fn select_call<'a>(form: &str, line: &'a str) -> Option<&'a str> {
     let (keyword, _) = line.split_once(' ').unwrap_or((line, ""));
     match form {
@@ -99,7 +99,7 @@ fn push_leftovers(out: &mut ExampleOutput, log: &str) {
     write!(out, "{killed} killed, {left} left");
 }
 
-/// Appends the part of `run` that the keyword `keyword` selects.
+/// Appends the part of `run` that the keyword `keyword` selects to `out`.
 ///
 /// `calls`, `words` and `watching` select calls, `spawns` the started programs, and `spawned` their
 /// number. `left` selects the numbers of kills and of remaining directories, and `totals` the
@@ -182,8 +182,9 @@ fn run_plan<'a>(example: &Example<'_>, scene: &'a Scene) -> Result<DriverRun<Scr
     Ok(execute_plan(alloc, os, plan, width, &base, source, sink))
 }
 
-/// Executes the plan of `example` once, over a system that follows `scene`. Appends the parts that
-/// `show WORDS` selects, by default the entries, and the error that ended the run early.
+/// Executes the plan of `example` once, over a system that follows `scene`. Appends the parts of
+/// the result that `show WORDS` selects, by default the entries, and the error that ended the run
+/// early.
 fn push_run(out: &mut ExampleOutput, example: &Example<'_>, scene: &Scene) -> Result<()> {
     let run = run_plan(example, scene)?;
     for keyword in example.text("show").unwrap_or("entries").split_whitespace() {
@@ -197,7 +198,7 @@ fn push_run(out: &mut ExampleOutput, example: &Example<'_>, scene: &Scene) -> Re
 }
 
 /// Executes the plan of `example` once for each line `fails CALLS`, or once without such a line,
-/// and appends each result. The systems follow `scene`.
+/// and appends each result to `out`. The systems follow `scene`.
 fn push_plan_output(
     out: &mut ExampleOutput,
     example: &Example<'_>,
