@@ -6,7 +6,8 @@ use std::io::Eprint;
 use std::rt::{Files, Runtime};
 use std::{env, fs, io};
 
-/// The maximum number of bytes that are printed of an output, unless `--whole` precedes the file.
+/// The maximum number of bytes that a message prints of an output, unless `--whole` precedes the
+/// file's name in the arguments.
 const SHOWN_BYTES: usize = 1_000;
 
 /// Returns the index of the first byte of the first line in which the outputs `expected` and
@@ -25,7 +26,7 @@ fn find_difference(expected: &[u8], found: &[u8]) -> usize {
 }
 
 /// Returns at most `max_bytes` bytes of the output `output` as a text, from the byte at index
-/// `from` on.
+/// `from` on. Invalid UTF-8 is replaced by U+FFFD.
 fn cut_text(alloc: Global, output: &[u8], from: usize, max_bytes: usize) -> Result<String> {
     let rest = output.get(from..).unwrap_or(&[]);
     let part = rest.get(..max_bytes).unwrap_or(rest);
@@ -62,14 +63,14 @@ fn check_example(
     convert_error(text).map(Some)
 }
 
-/// Prints `fault`, the error of an example or of parsing the file `file`, with the file and the
-/// line.
+/// Prints `fault`, the error of an example or of parsing the file `file`, to standard error, with
+/// the file and the line.
 fn print_fault<R: Eprint>(rt: &R, file: &str, line: u64, fault: ExampleFault) -> io::Result<()> {
     let text = fault.text();
     eprintln!(rt; "{file}:{line}: {text}")
 }
 
-/// Checks the examples of the file `file`, prints a message for each one that fails, and then
+/// Checks the examples of the file `file`, prints a message for each example that fails, and then
 /// prints the number of examples. Returns `true` if each output is as expected. `max_bytes` is the
 /// maximum number of bytes of an output in a message.
 fn check_examples<R: Runtime + AllocGlobal>(

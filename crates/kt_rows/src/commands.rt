@@ -19,10 +19,11 @@ use kt_os::OsFault;
 use kt_store::StoreFault;
 use std::alloc::Global;
 
-/// The number of the first write that `writes each` doesn't make fail. Writes are counted from 1.
+/// The number of the first write that the line `writes each` of an example doesn't make fail.
+/// Writes are counted from 1.
 const MAX_TRIALS: u64 = 10_000;
 
-/// Parses the error of a results store: `no-memory`, `failed` or `unknown-schema`.
+/// Parses `fault` as the error of a results store: `no-memory`, `failed` or `unknown-schema`.
 fn parse_store_fault(alloc: Global, fault: &str) -> Result<StoreFault> {
     match fault {
         "no-memory" => Ok(StoreFault::from(provoke_no_memory(alloc)?)),
@@ -32,7 +33,8 @@ fn parse_store_fault(alloc: Global, fault: &str) -> Result<StoreFault> {
     }
 }
 
-/// Parses the error of reading the process environment: `no-memory` or `no-work-directory`.
+/// Parses `fault` as the error of reading the process environment: `no-memory` or
+/// `no-work-directory`.
 fn parse_env_fault(alloc: Global, fault: &str) -> Result<OsFault> {
     match fault {
         "no-memory" => Ok(OsFault::Memory(provoke_no_memory(alloc)?)),
@@ -41,8 +43,8 @@ fn parse_env_fault(alloc: Global, fault: &str) -> Result<OsFault> {
     }
 }
 
-/// Creates the results store of an example, in memory, and executes the lines `begin`, `put` and
-/// `finish`.
+/// Creates the results store of an example in memory, and executes the lines `begin`, `put` and
+/// `finish` of the example on the store.
 fn create_results(alloc: Global, example: &Example<'_>) -> Result<FailingStore> {
     let mut results = FailingStore::new(alloc, example)?;
     let mut unread = ExampleOutput::new(alloc);
@@ -83,7 +85,8 @@ fn set_host_option(
     Ok(())
 }
 
-/// Creates the results host of an example.
+/// Creates the scripted results host of an example, with its results store, its errors and its
+/// environment variables.
 fn create_host(alloc: Global, example: &Example<'_>) -> Result<ScriptedResultsHost<FailingStore>> {
     let mut host = ScriptedResultsHost::new(alloc, create_results(alloc, example)?);
     for line in example.lines.as_slice() {
@@ -93,9 +96,9 @@ fn create_host(alloc: Global, example: &Example<'_>) -> Result<ScriptedResultsHo
 }
 
 /// Executes the command lines of an example, and returns the state after them. Writes to standard
-/// output fail from number `failing_write` on, and its flushes fail for the line `flush fails`.
-/// Writes to standard error fail from number N on for the line `error N`. The line `takes BYTES`
-/// limits the bytes of a write to standard output.
+/// output fail from number `failing_write` on, or never if it is 0. Flushes of standard output fail
+/// for the line `flush fails`. Writes to standard error fail from number N on for the line `error
+/// N`. The line `takes BYTES` limits the bytes of a write to standard output.
 fn run_example(
     example: &Example<'_>,
     scene: &Scene,
@@ -122,8 +125,9 @@ fn push_store_state(out: &mut ExampleOutput, commands_run: &mut CommandsRun<Fail
     }
 }
 
-/// Appends the outputs and the exit statuses, and what the line `show WORDS` selects: `runs` are
-/// the runs of the store, and `system` are the calls on the system.
+/// Appends the outputs and the exit statuses of command lines to `out`, and then the parts of the
+/// state that the line `show WORDS` selects. `runs` are the runs of the store, and `system` are the
+/// calls on the system.
 fn push_result_and_state(
     out: &mut ExampleOutput,
     example: &Example<'_>,
@@ -140,8 +144,8 @@ fn push_result_and_state(
     Ok(())
 }
 
-/// Checks the effects of a failed write of a command, and returns a message for a violation, else
-/// `None`.
+/// Checks the output, the exit status and the runs after a failed write of a command. Returns a
+/// message if one of them is wrong, else `None`.
 ///
 /// In `cut`, the state after the failed write, the output must be a proper prefix of that of
 /// `whole`. The last exit status must be 2, and the runs must be those of `whole`.
@@ -167,8 +171,8 @@ fn find_violation(
 }
 
 /// Executes the command lines of `example` once without a failed write, and then with each write
-/// failing in turn. Appends the first output, and that of the first execution in which
-/// `find_violation` finds a violation.
+/// failing in turn. Appends the first output, and that of the first execution for which
+/// `find_violation` returns a message.
 fn push_each_failing(out: &mut ExampleOutput, example: &Example<'_>, scene: &Scene) -> Result<()> {
     let mut whole = run_example(example, scene, 0)?;
     push_result_and_state(out, example, &mut whole)?;
@@ -186,9 +190,9 @@ fn push_each_failing(out: &mut ExampleOutput, example: &Example<'_>, scene: &Sce
     Ok(())
 }
 
-/// Executes the command lines of an example, and appends the outputs and exit statuses. If
-/// `shows_calls` is set, first appends the calls on the results host. With `writes each`, each
-/// write fails in turn, and the calls aren't appended.
+/// Executes the command lines of an example, and appends the outputs and exit statuses to `out`. If
+/// `shows_calls` is set, first appends the calls on the results host. With the line `writes each`,
+/// each write fails in turn, and the calls aren't appended.
 fn execute_commands(
     out: &mut ExampleOutput,
     example: &Example<'_>,
@@ -208,8 +212,8 @@ fn execute_commands(
     push_result_and_state(out, example, &mut commands_run)
 }
 
-/// Parses `HERE KYUAFILE`, and appends the absolute path of the Kyuafile's directory. HERE is the
-/// working directory.
+/// Parses `text` as `HERE KYUAFILE`, and appends the absolute path of the Kyuafile's directory.
+/// HERE is the working directory.
 fn push_source(out: &mut ExampleOutput, text: &str) -> Result<()> {
     let (here, kyuafile) = split_once_or_fail(text, " ", "a directory and a Kyuafile are due")?;
     let kyuafile = Text::from_str(out.alloc, kyuafile)?;

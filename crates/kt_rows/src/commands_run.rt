@@ -18,9 +18,9 @@ use std::io::Write;
 pub struct CommandsRun<R: ResultStore + Drop> {
     /// The results host, which has the results store.
     pub host: ScriptedResultsHost<R>,
-    /// Standard output.
+    /// The standard output of the command lines.
     pub stdout: ScriptedWriter,
-    /// Standard error.
+    /// The standard error of the command lines.
     pub stderr: ScriptedWriter,
     /// The exit statuses of the command lines, in order.
     pub exit_statuses: Vec<u8>,
@@ -85,8 +85,8 @@ impl<R: ResultStore + Drop> CommandsRun<R> {
         }
     }
 
-    /// Executes the command lines among `lines`. `do WORDS` and `line WORDS` have the arguments.
-    /// For `words no-memory` the allocation of the arguments fails.
+    /// Executes the command lines among `lines`. The lines `do WORDS` and `line WORDS` have the
+    /// arguments. For the line `words no-memory`, the allocation of the arguments fails.
     ///
     /// # Errors
     ///

@@ -13,7 +13,7 @@ use kt_store::{ResultStore, Results, StoreFault};
 use sqlite::{Alter, Connection};
 use sqlite_disk::{Files, Fuse, Memory};
 
-/// The maximum number of executions with a disk that fails.
+/// The maximum number of executions of an example's command lines with a disk that fails.
 const MAX_TRIALS: u64 = 400;
 
 /// The last line of a command's output if its store failed.
@@ -22,29 +22,30 @@ const STORE_FAILED_LINE: &str = "kyua: E: results store failed\n";
 /// The last line of a command's output if an allocation failed.
 const NO_MEMORY_LINE: &str = "kyua: E: out of memory\n";
 
-/// The output if the runs that are left are neither those before nor those after the failed call.
+/// The output if the runs after a crash are neither those before nor those after the failed store
+/// call.
 const OTHER_RUNS_TEXT: &str =
     ", and then the runs are neither from before the call nor from after it";
 
-/// The outcome of an execution of the command `test`.
+/// The result of an execution of the command `test`.
 #[derive(Drop)]
 struct TestResult {
-    /// The text on standard output.
+    /// The text that the command wrote to standard output.
     stdout: String,
-    /// The exit status.
+    /// The exit status of the command.
     status: u8,
-    /// `true` if a child was started.
+    /// `true` if the command started a child.
     has_spawned: bool,
 }
 
 /// An execution of `test` on a disk that fails, and the content of the files after a crash.
 #[derive(Drop)]
 struct CrashRun {
-    /// The outcome, or `None` if the results tables couldn't be attached.
+    /// The result of the command, or `None` if the results tables couldn't be attached.
     test_result: Option<TestResult>,
-    /// The schema number after the crash, or 0 without one.
+    /// The schema number in the database after the crash, or 0 if there is none.
     schema: i64,
-    /// The runs after the crash.
+    /// The texts of the runs after the crash: for each run its head, its entries and its state.
     remaining_runs: Vec<String>,
 }
 
@@ -52,11 +53,13 @@ struct CrashRun {
 /// tables, 1 is `begin`, from 2 on each `put` adds an entry, and the last is `finish`.
 #[derive(Drop)]
 struct BaselineRun {
-    /// The outcome.
+    /// The result of the command.
     test_result: TestResult,
-    /// The runs before the execution.
+    /// The texts of the runs before the execution: for each run its head, its entries and its
+    /// state.
     initial_runs: Vec<String>,
-    /// The runs after the execution and a crash.
+    /// The texts of the runs after the execution and a crash: for each run its head, its entries
+    /// and its state.
     remaining_runs: Vec<String>,
 }
 
@@ -69,7 +72,7 @@ impl BaselineRun {
     }
 
     /// Returns the number of the last completed store call of a command that left the runs
-    /// `remaining_runs`. Returns `None` if no completed call leaves these runs.
+    /// `remaining_runs`. Returns `None` if these runs are not those after one of the calls.
     fn find_completed_call(&self, remaining_runs: &[String]) -> Option<usize> {
         let (before, whole) = (self.initial_runs.as_slice(), self.remaining_runs.as_slice());
         if remaining_runs == before {
@@ -86,10 +89,11 @@ impl BaselineRun {
         ))
     }
 
-    /// Returns the number of the store call that stopped the command with the outcome `cut`. It
-    /// follows from the output and from whether a child was started. The number after `finish`
-    /// means that no call stopped the command. The error describes an output that fits no call, or
-    /// a failed allocation.
+    /// Returns the number of the store call that stopped the command with the result `cut`.
+    ///
+    /// The number follows from the output and from whether a child was started. The number after
+    /// that of `finish` means that no call stopped the command. The error describes an output that
+    /// fits no call, or a failed allocation.
     fn find_stopping_call(&self, cut: &TestResult) -> Result<usize, &'static str> {
         let (page, whole) = (cut.stdout.as_str(), self.test_result.stdout.as_str());
         let memory = page.strip_suffix(NO_MEMORY_LINE);
@@ -119,8 +123,12 @@ impl BaselineRun {
     }
 
     /// Appends the store call that stopped the execution `cut`, as ` attach 1`, ` begin`, ` put 1`
-    /// or ` finish`. The runs that are left must be those before or after the call. A text that
-    /// begins with a comma ends the trial.
+    /// or ` finish`.
+    ///
+    /// The number after `attach` is the schema number after the crash. The runs after the crash
+    /// must be those before or after the call. If the runs or the output are wrong, if an
+    /// allocation failed, or if no call stopped the execution, appends a text that begins with a
+    /// comma.
     fn push_stop(&self, out: &mut ExampleOutput, cut: &CrashRun) {
         let stop = match &cut.test_result {
             None => Ok(0),
@@ -175,8 +183,8 @@ struct DiskTrial<'a> {
 }
 
 impl DiskTrial<'_> {
-    /// Executes the command lines over a store. Returns the outcome of the last of them, and the
-    /// store.
+    /// Executes the command lines over the store `results`. Returns the result of the last command
+    /// line, and the store.
     fn execute_test<R: ResultStore + Drop>(self, results: R) -> Result<(TestResult, R)> {
         let mut commands_run = CommandsRun::new(
             self.scene.alloc,
@@ -192,8 +200,9 @@ impl DiskTrial<'_> {
         Ok((test_result, commands_run.into_results()?))
     }
 
-    /// Executes the command lines on `files`, and returns the outcome and the content after a
-    /// crash. Returns `None` if the files can't be opened.
+    /// Executes the command lines on the database in `files`, and simulates a crash. Returns the
+    /// result of the last command line, with the schema number and the runs after the crash.
+    /// Returns `None` if the files can't be opened for the command lines.
     fn execute_and_crash(self, files: Files<Fuse<Memory>>) -> Result<Option<CrashRun>> {
         let (alloc, frames) = (self.scene.alloc, self.frames);
         let Some((test_result, files)) = run_on_files(alloc, files, frames, self)? else {
@@ -207,7 +216,8 @@ impl DiskTrial<'_> {
         }))
     }
 
-    /// Creates the files on which the command lines begin, and which fail after `calls` calls.
+    /// Creates the database files for the command lines. Their log or their database file fails
+    /// after `calls` calls.
     fn create_files(self, calls: u64) -> Result<Files<Fuse<Memory>>> {
         let files = match self.is_schema_1 {
             true => create_schema_1_files(self.scene.alloc, self.frames)?,
@@ -216,8 +226,8 @@ impl DiskTrial<'_> {
         Ok(add_fuse(files, self.log_fails, calls))
     }
 
-    /// Executes the command lines on a disk that doesn't fail. Returns the outcome, and the runs
-    /// before and after the execution.
+    /// Executes the command lines on a disk that doesn't fail. Returns the result of the last
+    /// command line, and the runs before and after the execution.
     fn run_baseline(self) -> Result<BaselineRun> {
         let (_, initial_runs) = crash_and_read(
             self.scene.alloc,
@@ -236,9 +246,11 @@ impl DiskTrial<'_> {
     }
 
     /// Executes the command lines with each call of the disk failing in turn, and appends the store
-    /// calls that stopped them. Consecutive executions that stop in the same call are appended
-    /// once. The trial ends if no call stopped a command, or if something is wrong. If the output
-    /// or the runs are wrong, appends them without and with the failure.
+    /// calls that stopped them.
+    ///
+    /// Consecutive executions that stop in the same call are appended once. The trial ends after an
+    /// execution that no call stopped, in which an allocation failed, or whose output or runs are
+    /// wrong. If the output or the runs are wrong, appends both without and with the failure.
     fn push_stops(self, out: &mut ExampleOutput, whole: &BaselineRun) -> Result<()> {
         out.push("stopped in");
         let mut last = String::new(self.scene.alloc);
@@ -274,8 +286,9 @@ impl DiskTrial<'_> {
         Ok(())
     }
 
-    /// Appends the output on a disk that doesn't fail if `is_sound` is set. Otherwise appends the
-    /// store calls at which a failing disk stops the command.
+    /// Appends the output, the exit status and the remaining runs of an execution on a disk that
+    /// doesn't fail, if `is_sound` is set. Otherwise appends the store calls at which a failing
+    /// disk stops the command.
     fn push_outcome(self, out: &mut ExampleOutput, is_sound: bool) -> Result<()> {
         let whole = self.run_baseline()?;
         if !is_sound {
@@ -290,7 +303,7 @@ impl DiskTrial<'_> {
     }
 }
 
-/// Executes the command lines over a database. The outcome is `None` if the results tables can't be
+/// Executes the command lines over a database. The result is `None` if the results tables can't be
 /// attached.
 impl DatabaseOperation for DiskTrial<'_> {
     type WorkResult = Option<TestResult>;

@@ -21,8 +21,8 @@ pub trait DatabaseOperation {
     /// The result of the operation.
     type WorkResult;
 
-    /// Executes the operation on the database of `conn`. Returns the result, and the store below
-    /// the connection.
+    /// Executes the operation on the database of `conn`. Returns the result of the operation, and
+    /// the store that the connection used.
     ///
     /// # Errors
     ///
@@ -121,8 +121,8 @@ pub fn add_fuse(files: Files<Memory>, log_fails: bool, calls: u64) -> Files<Fuse
     }
 }
 
-/// Returns a text with the line, the outputs and the properties of the only entry in the list
-/// `entry`.
+/// Returns a text with the verdict, the times, the outputs and the properties of an entry. `entry`
+/// is a list with only this entry.
 fn full_entry_text(alloc: Global, entry: &[Entry]) -> Result<String> {
     let mut out = ExampleOutput::new(alloc);
     for keyword in ["cases", "outputs", "pairs"] {
@@ -132,7 +132,8 @@ fn full_entry_text(alloc: Global, entry: &[Entry]) -> Result<String> {
     convert_error(out.into_string())
 }
 
-/// Appends texts with the head, the entries and the state of a run to `texts`.
+/// Appends texts with the head, the entries and the state (`finished` or `unfinished`) of a run to
+/// `texts`.
 fn push_run_texts<S: Alter>(
     alloc: Global,
     texts: &mut Vec<String>,
@@ -156,7 +157,8 @@ fn push_run_texts<S: Alter>(
     )
 }
 
-/// Returns texts with the head, the entries and the state of each run of the store `results`.
+/// Returns texts with the head, the entries and the state (`finished` or `unfinished`) of each run
+/// of the store `results`.
 fn run_texts<S: Alter>(alloc: Global, results: &mut Results<S>) -> Result<Vec<String>> {
     let Ok(heads) = results.runs() else {
         return Err(ExampleFault::InvalidExample("its runs can not be told"));
@@ -174,12 +176,12 @@ fn query_schema_number<S: Alter>(conn: &mut Connection<S>) -> Option<i64> {
     row.ok()?.get(0).ok()
 }
 
-/// A `DatabaseOperation` that returns the schema number of a database, or 0 without one, and all
-/// its runs. The query for the number is repeated once if it fails, because an allocation may fail
-/// once.
+/// A `DatabaseOperation` that returns the schema number of a database, or 0 if there is none, and
+/// the texts of all its runs. The query for the number is repeated once if it fails, because an
+/// allocation may fail once.
 #[derive(Clone, Copy)]
 struct ContentReader {
-    /// The allocator of the texts.
+    /// The allocator of the texts that describe the runs.
     alloc: Global,
 }
 
@@ -205,8 +207,8 @@ impl DatabaseOperation for ContentReader {
     }
 }
 
-/// Simulates a crash, and returns the schema number and the runs that are left in the files. The
-/// schema number is 0 if there is none.
+/// Simulates a crash, and returns the schema number and the texts of the runs that are left in the
+/// files. The schema number is 0 if there is none.
 ///
 /// # Errors
 ///

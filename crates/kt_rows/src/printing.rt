@@ -43,8 +43,8 @@ fn print_and_flush(pieces: &[Vec<u8>], to_lines: bool, out: &mut ScriptedWriter)
     }
 }
 
-/// Checks the effects of a failed write of the writer `cut`, and returns a message for a violation,
-/// else `None`.
+/// Checks the effects of a failed write of the writer `cut`. Returns a message if one of them is
+/// wrong, else `None`.
 ///
 /// The failure must be reported (`is_success` is `false`), and no write may follow it. The written
 /// bytes must be a proper prefix of `whole`.
@@ -98,7 +98,7 @@ fn push_violations(
     Ok(())
 }
 
-/// Prints `pieces` into several writers, and appends a line for each violation, and then the
+/// Prints `pieces` into several writers, and appends a line for each check that fails, and then the
 /// printed text. The writers accept all bytes, 7 bytes or 1 byte per write, and may fail at one of
 /// the first 100 writes. If `to_lines` is set, a line buffer precedes each writer.
 ///
@@ -121,8 +121,8 @@ pub fn push_printed_text(
 }
 
 /// Prints the pieces of an example, `piece TEXT` each, to a line buffer, and appends the written
-/// text. With `unflushed` the buffer isn't flushed, and with `held` it doesn't write complete lines
-/// either.
+/// text. With the line `unflushed` the buffer isn't flushed, and with the line `held` it doesn't
+/// write complete lines either.
 ///
 /// # Errors
 ///

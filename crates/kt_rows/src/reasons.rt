@@ -15,7 +15,8 @@ fn push_kind(out: &mut ExampleOutput, keyword: &str) -> Result<()> {
     Ok(())
 }
 
-/// Decodes bytes as text. The bytes are split, joined and copied before, to exercise these calls.
+/// Decodes bytes as text, with invalid UTF-8 replaced by U+FFFD. The bytes are split, joined and
+/// copied before, to exercise these calls.
 fn decode_text(alloc: Global, bytes: &[u8]) -> Result<Text, NoMemory> {
     let (front, back) = bytes.split_at(bytes.len() / 2);
     let mut joined = Bytes::from_slice(alloc, front)?;
@@ -24,7 +25,7 @@ fn decode_text(alloc: Global, bytes: &[u8]) -> Result<Text, NoMemory> {
     lossy(alloc, copied.as_slice())?.copy()
 }
 
-/// Appends a number of at most 128 bits, as kt_base prints it.
+/// Parses `text` as a number below 2^128, and appends it as kt_base prints it.
 fn push_number(out: &mut ExampleOutput, text: &str) -> Result<()> {
     let mut page = ScriptedWriter::new(out.alloc);
     if let Ok(n) = text.parse::<u64>() {
@@ -38,8 +39,9 @@ fn push_number(out: &mut ExampleOutput, text: &str) -> Result<()> {
     Ok(())
 }
 
-/// Sends bytes to a writer, and appends the numbers of sent bytes and of writes. The writer accepts
-/// `taking N` bytes per write, and fails from write number `failing WRITE` on.
+/// Sends `bytes` to a writer, and appends the numbers of sent bytes and of writes, and `done` or
+/// `failed`. The writer accepts `taking N` bytes per write, and fails from write number `failing
+/// WRITE` on.
 fn push_send_output(out: &mut ExampleOutput, example: &Example<'_>, bytes: &[u8]) -> Result<()> {
     let at_most = example.number("taking", 1)? as usize;
     let failing = example.number("failing", 0)?;

@@ -14,11 +14,12 @@ const READ_LIMIT_BYTES: usize = 1_048_577;
 pub struct ScriptedFiles<'a> {
     /// The scene whose files, programs and clock are used.
     pub scene: &'a Scene,
-    /// The count of timestamps that `moment` has returned so far.
+    /// The number of timestamps that `moment` has returned so far.
     pub moment_count: usize,
 }
 
-/// Returns a copy of the first `READ_LIMIT_BYTES` bytes, or of all bytes if they are fewer.
+/// Returns a copy of the first `READ_LIMIT_BYTES` bytes of `bytes`, or of all bytes if they are
+/// fewer.
 fn copy_front(alloc: Global, bytes: &[u8]) -> Result<Bytes, FileFault>
     ensures { IfOk result (λ bytes. length bytes ≤ read_limit) }
 {

@@ -5,27 +5,29 @@ use kt_os::{OsFault, ProcessEnv};
 use kt_store::{Access, ResultStore, StoreFault};
 use std::alloc::Global;
 
-/// A `ResultsHost` that opens one results store for any file name, and logs its calls.
+/// A `ResultsHost` that opens the same results store for any file name, and logs its calls.
 #[derive(Drop)]
 pub struct ScriptedResultsHost<R: ResultStore + Drop> {
-    /// The results store while it is closed.
+    /// The results store, or `None` while it is open.
     pub results: Option<R>,
-    /// The error of opening the results store, if it fails.
+    /// The error with which opening the results store fails, or `None` if it succeeds.
     pub open_error: Option<StoreFault>,
-    /// The error of closing the results store, if it fails.
+    /// The error with which closing the results store fails, or `None` if it succeeds.
     pub close_error: Option<StoreFault>,
-    /// The error of reading the process environment (`ProcessEnv`), if it fails.
+    /// The error with which reading the process environment (`ProcessEnv`) fails, or `None` if it
+    /// succeeds.
     pub env_error: Option<OsFault>,
-    /// The value of `PATH`, if it is set.
+    /// The value of the environment variable `PATH`, or `None` if it is unset.
     pub path: Option<Text>,
-    /// The value of `USER`, if it is set.
+    /// The value of the environment variable `USER`, or `None` if it is unset.
     pub user: Option<Text>,
     /// The calls, separated by commas: `open FILE`, `close`, and `surroundings` for `process_env`.
     pub calls: ExampleOutput,
 }
 
 impl<R: ResultStore + Drop> ScriptedResultsHost<R> {
-    /// Creates a results host with the closed results store `results`. Its calls don't fail.
+    /// Creates a results host with the closed results store `results`. The calls of the host don't
+    /// fail.
     pub fn new(alloc: Global, results: R) -> ScriptedResultsHost<R> {
         ScriptedResultsHost {
             results: Some(results),

@@ -14,7 +14,7 @@ use std::alloc::Global;
 /// A database with a results store, and the way in which the store is used.
 #[derive(Drop)]
 enum Store<S: Alter + Drop> {
-    /// The results tables aren't attached.
+    /// The results tables of the database aren't attached.
     Detached(Connection<S>),
     /// The results tables are read and written by SQL.
     Attached(Results<S>),
@@ -66,7 +66,8 @@ fn attach<S: Alter + Drop>(
 }
 
 /// Executes the store call or the command line in `line` over the store `results`, and appends its
-/// output. `content` are the lines of the entry that a call `put` stores. Returns the store.
+/// output to `out`. `content` are the lines of the entry that a call `put` stores. Returns the
+/// store.
 fn execute_call<R: ResultStore + Drop>(
     out: &mut ExampleOutput,
     mut results: R,
@@ -169,7 +170,7 @@ fn has_memory_error(output: &str) -> bool {
     output.contains("NoMemory") || output.contains("out of memory")
 }
 
-/// Appends `by_sql`, the output of the execution by SQL, and also `by_trees`, the output of the
+/// Appends `by_sql`, the output of the execution by SQL. Also appends `by_trees`, the output of the
 /// execution through trees, if it differs. If one output reports a failed allocation, only that
 /// output is appended, because the other execution didn't have that failure.
 fn push_common_output(out: &mut ExampleOutput, by_sql: &str, by_trees: &str) {

@@ -35,7 +35,7 @@ pub fn parse_command_line(alloc: Global, line: &str) -> Result<Result<Command, C
     Ok(read_command(alloc, arguments.as_slice()))
 }
 
-/// Appends each value of an option after `name`.
+/// Appends each of `values`, the values of an option, after `name`.
 fn push_values(out: &mut ExampleOutput, name: &str, values: &[Text]) {
     for value in values {
         write!(out, "{name}{}", value.as_str());
