@@ -34,8 +34,8 @@ IsVariableValue value = (answer : Result ℕ FillError) × (room : List ℕ) × 
 
 -- `IsProcessEnv result`: `result` has the working directory, `PATH` and `USER` as the system
 -- returned them, or is a fault. The fault is `Failed` only if the system's call for the working
--- directory failed. Nothing ties the results to the calls that the process made, as for
--- `IsVariableValue`.
+-- directory failed. Nothing ties the results to the calls that the process made, since the library
+-- has no relation for them.
 abbrev pub IsProcessEnv : Result ProcessEnv OsFault → Type 0
 IsProcessEnv (Ok around) = ((answer : Result (List ℕ) Error) × IsWorkingDirectory answer (Ok around.here)) × IsVariableValue around.path × IsVariableValue around.user
 IsProcessEnv (Err fault) = (answer : Result (List ℕ) Error) × IsWorkingDirectory answer (Err fault)

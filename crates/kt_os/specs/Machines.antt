@@ -6,8 +6,8 @@ use Rattle.kt_os.specs.declared.machine.file_fault.FileFault.TheVariants as file
 use Rattle.kt_os.specs.declared.system.OsFault.TheVariants as fault
 use Rattle.kt_os.specs.Types.{FileFault, OsFault, is_absolute, utf8}
 
--- `read_limit`: the maximum number of bytes that are read from a file. It is one more than a script
--- may have.
+-- `read_limit`: the maximum number of bytes that `ReadsFile` reads from a file. It is one more than
+-- a Kyuafile or a configuration file may have.
 abbrev pub read_limit : ℕ
 read_limit = 1048577
 
@@ -51,15 +51,16 @@ module _ {M : Type 0} (answers : M → HostResponse → M → Type 0) where
     too_long : longest_path < length path → Unasked → new ≡ old → CallsAtPath path asked Unasked old new
 
   -- `HasProgram answers name directory answer old new`: `answer` is `true` if the host reports that
-  -- `directory` has the program `name`. The call leads the host from state `old` to `new`.
-  -- `answers` is the relation of the host's calls.
+  -- `directory` has the program `name`. The call leads the host from state `old` to `new`. If the
+  -- joined path is longer than `longest_path`, no call is made, and `answer` is `false`. `answers`
+  -- is the relation of the host's calls.
   abbrev pub HasProgram : List ℕ → List ℕ → Bool → M → M → Type 0
   HasProgram name directory answer old new = CallsAtPath (path_in directory name) (IsProgram (path_in directory name) answer) (answer ≡ false) old new
 
   -- `SearchesDirectories answers name directories answer old new`: the program `name` is looked up
-  -- in `directories`, in order, up to the first directory that has it. `answer` is `true` if one
-  -- has it. The calls lead the host from state `old` to `new`. `answers` is the relation of the
-  -- host's calls.
+  -- in `directories`, in order, up to the first directory that has it. `answer` is `true` if some
+  -- directory has the program. The calls lead the host from state `old` to `new`. `answers` is the
+  -- relation of the host's calls.
   pub data SearchesDirectories (name : List ℕ) : List (List ℕ) → Bool → M → M → Type 0 where
     nowhere : (old : M) → SearchesDirectories name [] false old old
     here : (directory : List ℕ) (others : List (List ℕ)) (old new : M) → HasProgram name directory true old new → SearchesDirectories name (directory ∷ others) true old new
@@ -67,26 +68,26 @@ module _ {M : Type 0} (answers : M → HostResponse → M → Type 0) where
         → SearchesDirectories name (directory ∷ others) answer old new
 
   -- `IsFoundInPath answers slash path name answer old new`: `answer` is `true` if the program
-  -- `name` is found. The calls lead the host from state `old` to `new`. If `slash` is `false`,
-  -- `name` is looked up in the directories of `path`, the value of `PATH`. A name with a slash is
-  -- not found, and no name is found if `PATH` is not set. `answers` is the relation of the host's
-  -- calls.
+  -- `name` is found. It is looked up in the directories of `path`, the value of `PATH`. It is not
+  -- found if `PATH` is not set, or if `slash` is `true`: then `name` has a slash. The calls lead
+  -- the host from state `old` to `new`. `answers` is the relation of the host's calls.
   abbrev pub IsFoundInPath : Bool → Option (List ℕ) → List ℕ → Bool → M → M → Type 0
   IsFoundInPath false (Some path) name answer old new = SearchesDirectories (utf8 name) (directories (utf8 path)) answer old new
   IsFoundInPath false None name answer old new = (answer ≡ false) × (new ≡ old)
   IsFoundInPath true path name answer old new = (answer ≡ false) × (new ≡ old)
 
   -- `IsFoundByName answers absolute path name answer old new`: `answer` is `true` if the program
-  -- `name` is found. The calls lead the host from state `old` to `new`. If `absolute` is `true`,
-  -- `name` is looked up as a path, else by `IsFoundInPath` in the directories of `path`. `answers`
-  -- is the relation of the host's calls.
+  -- `name` is found. If `absolute` is `true`, `name` is the absolute path of the program.
+  -- Otherwise, it is looked up in the directories of `path`, the value of `PATH`, and a name with a
+  -- slash is not found. The calls lead the host from state `old` to `new`. `answers` is the
+  -- relation of the host's calls.
   abbrev pub IsFoundByName : Bool → Option (List ℕ) → List ℕ → Bool → M → M → Type 0
   IsFoundByName true path name answer old new = answers old (IsProgram (utf8 name) answer) new
   IsFoundByName false path name answer old new = IsFoundInPath (list_any is_slash name) path name answer old new
 
   -- `IsFoundByPath answers path name answer old new`: `answer` is `true` if the required program
-  -- `name` is found with `path`, the value of `PATH`. The calls lead the host from state `old` to
-  -- `new`. A name that begins with a slash is an absolute path. `answers` is the relation of the
-  -- host's calls.
+  -- `name` is found with `path`, the value of `PATH`. A name that begins with a slash is the path
+  -- of the program. Other names with a slash are not found. The calls lead the host from state
+  -- `old` to `new`. `answers` is the relation of the host's calls.
   abbrev pub IsFoundByPath : Option (List ℕ) → List ℕ → Bool → M → M → Type 0
   IsFoundByPath path name answer old new = IsFoundByName (is_absolute name) path name answer old new

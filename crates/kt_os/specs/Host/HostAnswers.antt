@@ -16,15 +16,15 @@ abbrev pub IsFullRead : ℕ → Result FileRead OsFault → Type 0
 IsFullRead limit (Ok (Part bytes true)) = length bytes ≡ limit
 IsFullRead limit answer = Unit {0}
 
--- `IsMissingByError answer`: if a read with the result `answer` found no file, the system reported
--- an error of the kind `NotFound`.
+-- `IsMissingByError answer`: if a read with the result `answer` found no file, there is an error of
+-- the kind `NotFound`. Nothing ties this error to the calls of the system.
 abbrev pub IsMissingByError : Result FileRead OsFault → Type 0
 IsMissingByError (Ok Missing) = (error : Error) × (error_kind error ≡ NotFound)
 IsMissingByError answer = Unit {0}
 
 -- `IsHostRead limit answer`: a read with the result `answer` returns at most `limit` bytes, and
--- exactly `limit` if more follow. The result is `Missing` only if the system reported an error of
--- the kind `NotFound`.
+-- exactly `limit` bytes if more follow in the file. For the result `Missing`, there is an error of
+-- the kind `NotFound`. Nothing ties this error to the calls of the system.
 abbrev pub IsHostRead : ℕ → Result FileRead OsFault → Type 0
 IsHostRead limit answer = IsReadWithin limit answer × IsFullRead limit answer × IsMissingByError answer
 
@@ -38,7 +38,8 @@ IsReadOf limit xs (Ok (Part bytes true)) = (bytes ≡ take limit xs) × (limit <
 IsReadOf limit xs (Ok (Part bytes false)) = (bytes ≡ xs) × (length xs ≤ limit)
 
 -- `ConsumesAtMost limit left rest`: a read consumes at most `limit` bytes of a file. `left` and
--- `rest` are the remaining bytes of the file before and after the read, if they are known.
+-- `rest` are the remaining bytes of the file before and after the read. If `left` is unknown
+-- (`None`), nothing is specified. If it is known, `rest` is known, too.
 abbrev pub ConsumesAtMost : ℕ → Option (List ℕ) → Option (List ℕ) → Type 0
 ConsumesAtMost limit left rest = IfSome left (λ xs. IsSomeAnd rest (λ ys. length xs ≤ length ys + limit))
 
@@ -59,9 +60,11 @@ DecodesWaitStatus bits (Ok (Signaled signal core)) =
 DecodesWaitStatus bits (Err _) = bits % 128 ≡ 127
 
 -- `ReportsEnd child old answer new IsLast`: a poll of `child` returns `answer`, the state that the
--- wait status of its process reports. The status is that in `old`, if `old` has one. `IsLast` is
--- true of `child` and the status. The states of the children go from `old` to `new`, in which
--- `child` has no process.
+-- wait status of its process reports. `old` and `new` give the states of all children before and
+-- after the poll. In `old`, `child` has a process. If `old` has the wait status of that process,
+-- the poll reports this status. In `new`, `child` has no process, and the other states are
+-- unchanged. `IsLast` is the relation of the last reported end: it is true of `child` and the wait
+-- status.
 abbrev pub ReportsEnd : Child → (Child → ProcessState) → Result Polled OsFault → (Child → ProcessState) → (Child → ExitStatus → Type 0) → Type 0
 ReportsEnd child old answer new IsLast =
     (status : ExitStatus) × IsSome (old child) × Proceeds (old child) (Some (Some status)) × DecodesWaitStatus (status_bits status) answer
@@ -69,18 +72,19 @@ ReportsEnd child old answer new IsLast =
 
 -- `HostPolls child old answer new IsLast late`: a poll of `child` may return `answer`, and the
 -- states of the children go from `old` to `new`. A child is reported as running only if it has a
--- process. Unless some child was polled late (`late`), no end of that process was found. A failed
--- poll may remove the child. `IsLast` is true of the child and status of the last reported end.
+-- process. No end of that process was found, unless `late` is `Some true`: then some child was
+-- polled late. A failed poll may remove the child. `IsLast` is true of the child and status of the
+-- last reported end.
 abbrev pub HostPolls : Child → (Child → ProcessState) → Result Polled OsFault → (Child → ProcessState) → (Child → ExitStatus → Type 0) → Option Bool → Type 0
 HostPolls child old (Ok Running) new IsLast late = IsSome (old child) × (late ≢ Some true → old child ≡ Some None) × AllStay old new
 HostPolls child old (Err fault) new IsLast late = (Proceeds (old child) (new child) ⊎ (new child ≡ None)) × OthersStay child old new
 HostPolls child old answer new IsLast late = ReportsEnd child old answer new IsLast
 
--- `HostLeads old call new IsLast late`: `call` may take the children from the states `old` to
+-- `HostLeads old call new IsLast late`: `call` may lead the children from the states `old` to
 -- `new`. `IsLast` is true of the child and status of the last reported end. `late` is the result of
--- the last check for late children. A child whose output is opened has no process, and a failed
--- start leaves no process. Only a child with a process is killed, and a pause may find ends. Times
--- are not specified, nor is the success of other calls.
+-- the last check for late children. After an output file is opened for a child, or its start
+-- failed, it has no process. Only a child with a process is killed, and a pause may find ends.
+-- Times are not specified, nor is the success of other calls.
 abbrev pub HostLeads : (Child → ProcessState) → Call → (Child → ProcessState) → (Child → ExitStatus → Type 0) → Option Bool → Type 0
 HostLeads old (OpenOutput child path answer) new IsLast late = (new child ≡ None) × OthersStay child old new
 HostLeads old (Spawn child program words env dir (Ok done)) new IsLast late = IsSome (new child) × OthersStay child old new

@@ -7,9 +7,9 @@ use Rattle.std.specs.declared.time.Instant.{Instant}
 use Rattle.kt_os.specs.Types.{Child}
 use Rattle.kt_os.specs.declared.host.host_child.HostChild.{HostChild}
 
--- `IsLate limit answers millis`: a child with `answers` `Running` responses is polled late,
--- `millis` milliseconds after its start. It has missed more than two polls, at 100 polls a second.
--- After the last poll of its timeout, `limit` seconds, a child is not late.
+-- `IsLate limit answers millis`: a child is polled late if it has only `answers` `Running`
+-- responses `millis` milliseconds after its start. At 100 polls a second, it has then missed more
+-- than two polls. After the last poll of its timeout of `limit` seconds, a child is not late.
 abbrev pub IsLate : ℕ → ℕ → ℕ → Type 0
 IsLate limit answers millis = (answers < 100 * limit) × (10 * (answers + 2) < millis)
 
@@ -27,12 +27,14 @@ module _ {P I O E : Type 0} (held : List (Child × HostChild P I O E)) where
 
   -- `IsLateCheck time late`: `late` is the result of a check for late children. `time` is the time
   -- of the check, or the error of the clock. `late` is `true` if one of the children `held` is
-  -- polled late at that time, and `false` if the clock fails.
+  -- polled late at that time, and `false` otherwise or if the clock fails. Nothing ties `time` to a
+  -- read of the clock.
   abbrev pub IsLateCheck : Result Instant Error → Bool → Type 0
   IsLateCheck (Ok now) late = IsTrue late ↔ IsAnyLate now
   IsLateCheck (Err error) late = late ≡ false
 
   -- `UpdatesLateCheck old new`: the stored result of the last check for late children among `held`
-  -- goes from `old` to `new`. It is kept, cleared, or replaced by the result of a new check.
+  -- goes from `old` to `new`. It is kept, cleared (`None`), or replaced by the result of a new
+  -- check. Nothing ties the time of the new check to a read of the clock.
   abbrev pub UpdatesLateCheck : Option Bool → Option Bool → Type 0
   UpdatesLateCheck old new = (new ≡ old) ⊎ (new ≡ None) ⊎ ((late : Bool) × (new ≡ Some late) × (time : Result Instant Error) × IsLateCheck time late)

@@ -7,13 +7,14 @@ use Rattle.std.specs.declared.process.status.ExitStatus.{ExitStatus}
 use Rattle.kt_os.specs.Types.{Body, Child, Cleanup, Role}
 use Rattle.kt_os.specs.declared.host.host_child.HostChild.{HostChild}
 
--- `is_same_role role other`: `role` and `other` are equal.
+-- `is_same_role role other`: `true` if the roles `role` and `other` are equal.
 abbrev pub is_same_role : Role → Role → Bool
 is_same_role Body Body = true
 is_same_role Cleanup Cleanup = true
 is_same_role one other = false
 
--- `same_child a b`: the children `a` and `b` have the same attempt number and the same role.
+-- `same_child a b`: `true` if the children `a` and `b` have the same attempt number and the same
+-- role.
 abbrev pub same_child : Child → Child → Bool
 same_child a b = (a.attempt == b.attempt) && is_same_role a.role b.role
 
@@ -23,7 +24,8 @@ abbrev pub ProcessState : Type 0
 ProcessState = Option (Option ExitStatus)
 
 module _ {P I O E : Type 0} where
-  -- `process_state h`: the state of the child `h`.
+  -- `process_state h`: the `ProcessState` of the child `h`: whether it has a process, and the
+  -- status with which that process ended, if known.
   abbrev pub process_state : HostChild P I O E → ProcessState
   process_state h = option_map child_status h.process
 

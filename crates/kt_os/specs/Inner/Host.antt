@@ -25,26 +25,29 @@ abbrev pub IsFaultOf : ErrorKind → OsFault → Type 0
 IsFaultOf kind Failed = kind ≢ OutOfMemory
 IsFaultOf kind (Memory refusal) = kind ≡ OutOfMemory
 
--- `queue_path root`: the path of the queue directory in the root directory `root`. Removals move
--- other directories to it.
+-- `queue_path root`: the path of the queue directory in `root`, the driver's root directory.
+-- Removals move other directories to the queue directory.
 abbrev pub queue_path : List ℕ → List ℕ
 queue_path root = root ++ codes "/kyua." ++ decimal 0
 
 -- `setting_after_removals names name said`: the setting of the variable `name` in a command, after
--- the variables `names` were removed. `said` is its setting before the removal.
+-- the variables `names` were removed. `said` is its setting before. A setting is `None` if the
+-- command does not change the variable, `Some None` if the variable is removed, and else its new
+-- value.
 abbrev pub setting_after_removals : List (List ℕ) → List ℕ → Option (Option (List ℕ)) → Option (Option (List ℕ))
 setting_after_removals [] name said = said
 setting_after_removals (gone ∷ names) name said = setting_after_removals names name (if bytes_eq (utf8 gone) name then Some None else said)
 
 -- `setting_after_sets variables name said`: the setting of the variable `name` in a command, after
--- `variables` were set. `said` is its setting before. If a name occurs twice, its last value
--- counts.
+-- `variables` were set. `said` is its setting before. A setting is `None` if the command does not
+-- change the variable, `Some None` if the variable is removed, and else its new value. If a name
+-- occurs twice in `variables`, its last value counts.
 abbrev pub setting_after_sets : List Variable → List ℕ → Option (Option (List ℕ)) → Option (Option (List ℕ))
 setting_after_sets [] name said = said
 setting_after_sets (v ∷ variables) name said = setting_after_sets variables name (if bytes_eq (utf8 v.name) name then Some (Some (utf8 v.value)) else said)
 
 -- `IsCommandOf path words env work command`: `command` starts the program `path` with the arguments
--- `words`, the environment changes `env` and the working directory `work`.
+-- `words` in the working directory `work`. Its environment is the runner's with the changes `env`.
 pub record IsCommandOf {A : Type 0} (path : List ℕ) (words : List (List ℕ)) (env : EnvPlan) (work : List ℕ) (command : Command A) : Type 0 where
   pub program : command_program command ≡ utf8 path
   pub args : command_args command ≡ map utf8 words
@@ -52,8 +55,8 @@ pub record IsCommandOf {A : Type 0} (path : List ℕ) (words : List (List ℕ)) 
   pub variables : (name : List ℕ) → command_var command name ≡ setting_after_sets env.set name (setting_after_removals env.removed name None)
   pub dir : command_dir command ≡ Some (utf8 work)
 
--- `SeeksTo from old new`: a seek to the byte `from` takes the position of a file from `old`, if
--- that is known, to `new`. If `from` is 0, there is no seek, and `new` is not specified.
+-- `SeeksTo from old new`: a seek to the byte `from` changes the position of a file from `old` to
+-- `new`, which is `from`. If `old` is unknown (`None`) or `from` is 0, `new` is not specified.
 abbrev pub SeeksTo : ℕ → Option ℕ → Option ℕ → Type 0
 SeeksTo from old new = 0 < from → IfSome old (λ position. new ≡ Some from)
 
@@ -79,8 +82,8 @@ check_interval_micros children since =
 -- `next_slice children pauses micros`: the length of the next slice of a pause for `children`
 -- children, in microseconds. `micros` microseconds of the pause have passed, and `pauses` pauses
 -- since a child last ended. The length is `check_interval_micros` for at most eight children. It is
--- at least 3 for each child after the eighth, counted up to 512, and at most the rest of the pause
--- of 10,000.
+-- at least 3 microseconds for each child after the eighth, counted up to 512 children. It is at
+-- most the rest of the pause of 10,000 microseconds.
 abbrev pub next_slice : ℕ → ℕ → ℕ → ℕ
 next_slice children pauses micros =
     min (max (check_interval_micros (min children 8) (10000 * pauses + micros)) (3 * (min children 512 - 8))) (10000 - micros)

@@ -2,8 +2,8 @@
 use Rattle.std.specs.Prelude.{ℕ, List, Bool, Result}
 use Rattle.kt_os.specs.Types.{Child, EnvPlan, FileRead, OsFault, Polled}
 
--- `Call`: a call to the system (`Os`) with its result: `answer`, or `done`, which is `true` if the
--- call succeeded.
+-- `Call`: a call to the system (`Os`), with its arguments and its result. The result is `answer`,
+-- or `done`, which is `true` if the call succeeded.
 pub data Call : Type 0 where
   SetLimit : (child : Child) (limit : ℕ) → Call
   MakeDir : (path : List ℕ) (answer : Result (Unit {0}) OsFault) → Call

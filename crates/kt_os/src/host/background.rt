@@ -1,5 +1,7 @@
-/// An interface to the program's other work while children run, such as writing its output.
+/// An interface to the work that the program does while children run, such as writing its output.
 pub trait Background {
-    /// Advances the program's other work by one part, without waiting.
+    /// Performs one part of the program's work while children run, such as one write of its output.
+    ///
+    /// The call never waits.
     fn advance(&self);
 }

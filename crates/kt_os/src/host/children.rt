@@ -15,11 +15,12 @@ use std::process::{OpenProcess, Processes};
 use std::rt::{Clock, Files};
 use std::time::Instant;
 
-/// A map of the host's children by their names.
+/// A map from the names of the host's children to the children.
 pub(crate) type Children<P> = IndexMap<Child, HostChild<P>>;
 
-/// Removes a child from the map, and returns its name and the child. Returns `None` if the map
-/// lacks the child.
+/// Removes a child from the map of the host's children.
+///
+/// Returns its name and the child, or `None` if the map lacks the child.
 pub(crate) fn remove_child<P: OpenProcess + Drop>(
     children: &mut Children<P>,
     child: Child,
@@ -47,8 +48,8 @@ pub(crate) fn is_stderr_next<P: OpenProcess + Drop>(children: &Children<P>, chil
 
 /// Stores an opened output file of a child.
 ///
-/// The file is for standard error if only standard output is open. Otherwise, it is for the
-/// standard output of a new child, whose timeout is `limit` seconds.
+/// The file is for standard error if the child has only the file for standard output. Otherwise, it
+/// is for the standard output of a new child, whose timeout is `limit` seconds.
 pub(crate) fn keep_output<P: OpenProcess + Drop, C: Clock>(
     children: &mut Children<P>,
     child: Child,
@@ -68,10 +69,10 @@ pub(crate) fn keep_output<P: OpenProcess + Drop, C: Clock>(
     Ok(())
 }
 
-/// Starts the program of `asked` as the child `child` of the map, with the two output files of the
-/// child.
+/// Starts a program as the child `child` of the host, with the two output files of the child.
 ///
-/// Fails if the map lacks the child, if one of the files is not open, or if the system can't start
+/// `asked` has the program, its arguments, its environment and its working directory. Fails if the
+/// map of children lacks the child, if one of the files is not open, or if the system can't start
 /// the program.
 pub(crate) fn launch<P: OpenProcess + Drop, R: Processes<Started = P> + Clock + AllocGlobal>(
     children: &mut Children<P>,
@@ -89,8 +90,10 @@ pub(crate) fn launch<P: OpenProcess + Drop, R: Processes<Started = P> + Clock + 
     }
 }
 
-/// Returns `true` if some child of the map has missed more than two polls. A child must be polled
-/// 100 times a second. Returns `false` if the clock fails.
+/// Returns `true` if some child of the host is polled late.
+///
+/// Such a child has missed more than two polls, at 100 polls a second. Returns `false` if the clock
+/// fails.
 pub(crate) fn has_late_child<P: OpenProcess + Drop, C: Clock>(
     children: &Children<P>,
     rt: &C,
@@ -108,8 +111,10 @@ pub(crate) fn has_late_child<P: OpenProcess + Drop, C: Clock>(
     false
 }
 
-/// Kills a child of the map. Fails if the map lacks the child, if the child was not started, or if
-/// the system can't kill it.
+/// Kills a child of the host.
+///
+/// Fails if the map of children lacks the child, if it was not started, or if the system can't kill
+/// it.
 pub(crate) fn kill<P: OpenProcess + Drop, C: Clock>(
     children: &mut Children<P>,
     child: Child,
@@ -125,8 +130,10 @@ pub(crate) fn kill<P: OpenProcess + Drop, C: Clock>(
     }
 }
 
-/// Returns `true` if a child at the index `from` or later has ended and no earlier check found its
-/// end. The search stops at the first such child.
+/// Checks the children at the index `from` of the map and later, and returns `true` if one has
+/// ended.
+///
+/// An end that an earlier check found does not count. The search stops at the first new end.
 fn detect_new_end<P: OpenProcess + Drop>(children: &mut Children<P>, from: usize) -> bool
     ensures { AllProceed (process_state_in children.old.entries) (process_state_in
         children.new.entries) }
@@ -144,9 +151,9 @@ fn detect_new_end<P: OpenProcess + Drop>(children: &mut Children<P>, from: usize
 /// `true` if an end was found.
 ///
 /// `pauses` is the number of pauses since the end of a child was last found. A pause has slices, in
-/// which the removals of `removals` continue. The newest children are checked after each slice, and
-/// all children at longer intervals. No check follows the last slice, since each child is polled
-/// next.
+/// which the removal of the directories in `removals` continues. The newest children are checked
+/// after each slice, and all children at longer intervals. No check follows the last slice, since
+/// each child is polled next.
 pub(crate) fn await_end<P: OpenProcess + Drop, R: Files + Clock + AllocGlobal>(
     children: &mut Children<P>,
     removals: &mut Option<Removals>,

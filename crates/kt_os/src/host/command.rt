@@ -16,13 +16,13 @@ pub(crate) struct ProgramStart<'a> {
     pub program: &'a Text,
     /// The arguments of the program, without its name.
     pub words: &'a Items<Text>,
-    /// The changes to the runner's environment.
+    /// The changes that turn the runner's environment into that of the program.
     pub env: &'a EnvPlan,
     /// The path of the working directory of the program.
     pub dir: &'a Text,
 }
 
-/// Appends the arguments `words` to the command `command`.
+/// Appends `words` to the arguments of a command.
 fn push_args(command: &mut Command, words: &Items<Text>) -> Result<(), NoMemory>
     ensures args { OnOk result (command_args command.new ≡ command_args command.old
         ++ map utf8 words.now) }
@@ -36,7 +36,7 @@ fn push_args(command: &mut Command, words: &Items<Text>) -> Result<(), NoMemory>
     Ok(())
 }
 
-/// Removes the environment variable `name`, which a command would inherit from the runner.
+/// Removes the variable `name` from the environment that a command inherits from the runner.
 fn remove_variable(command: &mut Command, name: &Text) -> Result<(), NoMemory>
     ensures removed { OnOk result (command_var command.new (utf8 name.now)
         ≡ (if clears_env command.old then None else Some None)) }
@@ -49,7 +49,7 @@ fn remove_variable(command: &mut Command, name: &Text) -> Result<(), NoMemory>
     Ok(())
 }
 
-/// Removes the environment variables `names`, which a command would inherit from the runner.
+/// Removes the variables `names` from the environment that a command inherits from the runner.
 fn remove_variables(command: &mut Command, names: &Items<Text>) -> Result<(), NoMemory>
     requires { clears_env command.old ≡ false }
     ensures variables { OnOk result ((name : List ℕ) → command_var command.new name
@@ -64,7 +64,7 @@ fn remove_variables(command: &mut Command, names: &Items<Text>) -> Result<(), No
     Ok(())
 }
 
-/// Sets the environment variable `variable` of a command.
+/// Sets the variable `variable` in the environment of a command.
 fn set_variable(command: &mut Command, variable: &Variable) -> Result<(), NoMemory>
     ensures set { OnOk result (command_var command.new (utf8 variable.now.name)
         ≡ Some (Some (utf8 variable.now.value))) }
@@ -77,7 +77,7 @@ fn set_variable(command: &mut Command, variable: &Variable) -> Result<(), NoMemo
     Ok(())
 }
 
-/// Sets the environment variables `set` of a command. If a name occurs twice, its last value
+/// Sets the variables `set` in the environment of a command. If a name occurs twice, its last value
 /// counts.
 fn set_variables(command: &mut Command, set: &Variables) -> Result<(), NoMemory>
     ensures variables { OnOk result ((name : List ℕ)
@@ -126,8 +126,8 @@ fn set_up_command(command: &mut Command, asked: ProgramStart<'_>) -> Result<(), 
     Ok(())
 }
 
-/// Spawns a command. The contract requires that the command matches `_asked`, except for its
-/// streams.
+/// Spawns a command. The contract requires that the command matches the request `_asked`, except
+/// for its streams.
 ///
 /// Separate for the prover: std's `spawn` has no contract that a clause could cite.
 fn spawn_command<R: Processes>(
@@ -141,10 +141,11 @@ fn spawn_command<R: Processes>(
     command.spawn(rt)
 }
 
-/// Sets the arguments, the environment and the working directory of a new command, and spawns it.
+/// Sets the arguments, the environment and the working directory of a new command to those of
+/// `asked`, and spawns the command.
 ///
-/// Separate for the prover: this function owns nothing, since values that are dropped on failure
-/// are slow to prove.
+/// Separate for the prover: the caller owns the command, since a function that drops values when it
+/// fails is slow to prove.
 fn set_up_and_spawn<R: Processes>(
     rt: &R,
     asked: ProgramStart<'_>,
@@ -159,8 +160,11 @@ fn set_up_and_spawn<R: Processes>(
     into_os_result(spawn_command(rt, asked, command))
 }
 
-/// Starts the program of `asked` with an empty standard input. Its standard output and standard
-/// error go to `out` and `err`.
+/// Starts a program with an empty standard input. Its standard output and standard error go to
+/// `out` and `err`.
+///
+/// `asked` has the program, its arguments, its environment and its working directory. Fails if the
+/// system can't start the program, or if an allocation fails.
 pub(crate) fn spawn<R: Processes + AllocGlobal>(
     rt: &R,
     asked: ProgramStart<'_>,

@@ -8,29 +8,30 @@ use std::rt::Clock;
 use std::time::{Duration, Instant};
 use std::{process, thread};
 
-/// The greatest number of sleeps in one poll. Each takes one millisecond, and after 20 of them the
-/// next `Running` response is no longer early.
+/// The greatest number of sleeps in one poll, each of one millisecond. After 20 sleeps, a `Running`
+/// response can no longer make the timeout expire early.
 const MAX_POLL_SLEEPS: u32 = 20;
 
-/// The timeout of a killed child, in seconds: the time of 500 `Running` responses.
+/// The timeout by which the polls of a killed child are timed, in seconds. It has 500 `Running`
+/// responses.
 const KILLED_LIMIT_SECONDS: u64 = 5;
 
 /// A child of the host. It exists from the creation of its first output file until its end is
-/// reported.
+/// reported, or until its start fails.
 pub(crate) struct HostChild<P: OpenProcess> {
     /// The open file for the child's standard output, until the child is started.
     out: Option<File>,
     /// The open file for the child's standard error, until the child is started.
     err: Option<File>,
-    /// The two output files, open from the start at least until the outputs have been read. A
-    /// process can't take a lease on a file that is open for writing (fcntl(2)).
+    /// The two output files of the child, or `None` before its start. They stay open at least until
+    /// the outputs have been read, so that no process can take a lease on them (fcntl(2)).
     kept: Option<(File, File)>,
-    /// The process, from the start on.
+    /// The process of the child, or `None` before its start.
     process: Option<process::Child<P>>,
-    /// The start time, the timeout and the number of `Running` responses, by which the polls are
-    /// timed.
+    /// The start time and the timeout of the child, and the number of its `Running` responses. They
+    /// decide whether a poll is late or must sleep.
     pace: Pace,
-    /// `true` if the end was found or a wait for it failed.
+    /// `true` if the end of the child was found, or if a check of its process failed.
     seen: bool,
 }
 
@@ -73,8 +74,8 @@ impl<P: OpenProcess + Drop> HostChild<P> {
         }
     }
 
-    /// Returns `true` if the child was not started and only the file for its standard output is
-    /// open.
+    /// Returns `true` if the child was not started and has only the open file for its standard
+    /// output.
     pub(crate) fn is_stderr_next(&self) -> bool
         ensures { IsTrue result ↔ (IsSome self.now.out × IsNone self.now.err
             × (process_state self.now ≡ None)) }
@@ -82,10 +83,11 @@ impl<P: OpenProcess + Drop> HostChild<P> {
         self.out.is_some() && self.err.is_none() && self.process.is_none()
     }
 
-    /// Stores an opened output file.
+    /// Stores an opened output file of the child.
     ///
-    /// The file is for standard error if only standard output is open. Otherwise, a new child
-    /// replaces this child, with the file for its standard output and a timeout of `limit` seconds.
+    /// The file is for standard error if the child has only the file for standard output.
+    /// Otherwise, a new child replaces this child, with the file for its standard output and a
+    /// timeout of `limit` seconds.
     pub(crate) fn keep_file<C: Clock>(&mut self, limit: u64, file: File, clock: &C)
         ensures stands { process_state self.new ≡ None }
     {
@@ -96,8 +98,11 @@ impl<P: OpenProcess + Drop> HostChild<P> {
         }
     }
 
-    /// Starts the program of `asked` with an empty standard input and the two output files. Fails
-    /// if one of the files is not open, or if the system can't start the program.
+    /// Starts the program that `asked` describes, with an empty standard input and the two output
+    /// files of the child.
+    ///
+    /// Fails if one of the files is not open, if the system can't start the program, or if an
+    /// allocation fails.
     pub(crate) fn launch<R: Processes<Started = P> + Clock + AllocGlobal>(
         &mut self,
         rt: &R,
@@ -139,19 +144,20 @@ impl<P: OpenProcess + Drop> HostChild<P> {
         answer
     }
 
-    /// Returns `true` if the child has missed more than two polls by `now`. A child must be polled
-    /// 100 times a second. A child that was not started, whose end was found, or whose timeout had
-    /// its last poll has missed none.
+    /// Returns `true` if the child has missed more than two polls by `now`, at 100 polls a second.
+    ///
+    /// Returns `false` if the child was not started, if its end was found, or after the last poll
+    /// of its timeout.
     pub(crate) fn is_late_at(&self, now: Instant) -> bool
         ensures { IsTrue result ↔ IsLateAt now self.now }
     {
         !self.seen && self.process.is_some() && self.pace.is_late_at(now)
     }
 
-    /// Returns `true` if the child is reported as running without a check.
+    /// Returns `true` if the next poll reports the child as running without a check of its process.
     ///
-    /// `late` is `true` if some child is polled late. The child itself must be in the first half of
-    /// its responses.
+    /// This needs `late`, which is `true` if some child is polled late. It also needs that the next
+    /// `Running` response is in the first half of the timeout's responses.
     fn is_assumed_running(&self, late: bool) -> bool
         ensures runs { IsTrue result → IsSome (process_state self.now) }
         ensures late { IsTrue result → IsTrue late }
@@ -162,9 +168,9 @@ impl<P: OpenProcess + Drop> HostChild<P> {
 
     /// Returns the exit status of the child, or `None` if it is running.
     ///
-    /// `None` counts as a `Running` response. The poll sleeps first while that response is too
-    /// early. `late` is `true` if some child is polled late. `None` may then be returned without a
-    /// check.
+    /// `None` counts as a `Running` response. While such a response would make the timeout expire
+    /// early, the poll sleeps. `late` is `true` if some child is polled late. `None` may then be
+    /// returned without a check. Fails if the child was not started or can't be waited for.
     pub(crate) fn poll<C: Clock>(
         &mut self,
         late: bool,
@@ -197,7 +203,7 @@ impl<P: OpenProcess + Drop> HostChild<P> {
         Ok(status)
     }
 
-    /// Kills the child. The polls after the kill have the pace of a timeout of 5 seconds.
+    /// Kills the child. The polls after the kill are timed like those of a timeout of 5 seconds.
     ///
     /// Fails if the child was not started or the system can't kill it.
     pub(crate) fn kill<C: Clock>(&mut self, clock: &C) -> Result<(), OsFault>

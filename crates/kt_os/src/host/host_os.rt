@@ -16,8 +16,8 @@ use std::process::{ExitStatus, Processes};
 use std::rt::{Clock, Files};
 use std::time::SystemTime;
 
-/// The number of turns in which no child ended, after which the check for late children is
-/// repeated.
+/// The number of pauses after which the check for late children is repeated, if no child ended in
+/// them.
 const TURNS_PER_LATE_CHECK: u32 = 8;
 
 /// An `Os` of the host, with the processes, files and clocks of the standard library.
@@ -34,18 +34,19 @@ const TURNS_PER_LATE_CHECK: u32 = 8;
 pub struct HostOs<R: Processes, B> {
     /// The runtime handle, which gives access to processes, files and clocks.
     rt: R,
-    /// The program's other work, which advances at each start and each pause.
+    /// The work that the program does while children run. It advances at each start and each pause.
     background: B,
-    /// The removals below the root directory, or `None` before that directory is created.
+    /// The removals of directories, or `None` before the driver's root directory is created.
     removals: Option<Removals>,
-    /// The owner of the root directory and the effect of the umask, which decide the modes of later
-    /// directories and files.
+    /// The facts that decide the modes of later directories and files: the owner of the driver's
+    /// root directory, and the effect of the umask.
     rights: Rights,
     /// The timeout of the next child in seconds, as it was last set.
     limit: u64,
-    /// The children by their names.
+    /// The children of the host, by their names.
     children: Children<R::Started>,
-    /// The child whose end was reported last, with its name. A contract refers to it.
+    /// The child whose end was reported last, with its name, or `None` before the first end. A
+    /// contract refers to it.
     last: Option<(Child, HostChild<R::Started>)>,
     /// The number of pauses since the end of a child was last found.
     quiet: u32,
@@ -77,8 +78,8 @@ impl<R: Processes + AllocGlobal + Drop, B> HostOs<R, B> {
     ghost use Rattle.kt_os.specs.Common.{process_state_in};
     ghost use Rattle.kt_os.specs.declared.system.Child.{Child as Name};
 
-    /// Creates an `Os` of the host that has no children. `background` is the program's other work
-    /// while children run.
+    /// Creates an `Os` of the host that has no children. `background` is the work that the program
+    /// does while children run.
     pub fn new(rt: R, background: B) -> HostOs<R, B>
         ensures { (c : Name) → process_state_in result.children.entries c ≡ None }
     {
@@ -123,8 +124,8 @@ where
     R: Processes + Files<File = File> + Clock + AllocGlobal + Clone + Drop,
     B: Background + Drop,
 {
-    // Specification: the state is `children`; results of polls and reads are those of the standard
-    // library.
+    // Specification: `leads` is about the states of the children, the last reported end, the last
+    // check for late children, and the timeout of the next child.
     ghost use Rattle.std.specs.Prelude.{◌≡◌};
     ghost use Rattle.kt_os.specs.Common.{IsLastEnd, UpdatesLateCheck, process_state_in, HostLeads, limit_after};
 

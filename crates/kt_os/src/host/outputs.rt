@@ -26,10 +26,10 @@ const WORK_MODE: u32 = 0o755;
 const OUTPUT_MODE: u32 = 0o600;
 
 /// A pair of facts that decide the modes of new directories and files. They are whether the user
-/// root owns the root directory, and whether the umask removes a needed permission.
+/// root owns the driver's root directory, and whether the umask removes a needed permission.
 #[derive(Clone, Copy)]
 pub(crate) struct Rights {
-    /// `true` if the user root owns the root directory.
+    /// `true` if the user root owns the driver's root directory, which contains all attempts.
     of_root: bool,
     /// `true` if the umask removes a permission that new directories and files need, or if that is
     /// unknown.
@@ -37,7 +37,7 @@ pub(crate) struct Rights {
 }
 
 impl Rights {
-    /// The facts that are assumed before the first directory is created.
+    /// The facts about owner and umask that are assumed before the first directory is created.
     pub(crate) const NONE: Rights = Rights {
         of_root: false,
         narrow: false,
@@ -64,8 +64,10 @@ fn create_dir_of_mode<R: Files>(rt: &R, dir: &str, mode: u32, narrow: bool) -> i
     }
 }
 
-/// Creates the directory of an attempt or its work directory. The mode is 0700. If the user root
-/// owns the root directory, it is 0711 for the attempt and 0755 for the work directory.
+/// Creates the directory of an attempt, or its work directory, whose path ends in `/work`.
+///
+/// The mode is 0700. If the user root owns the driver's root directory, it is 0711 for the attempt
+/// and 0755 for the work directory.
 pub(crate) fn create_directory<R: Files>(rt: &R, dir: &str, rights: Rights) -> io::Result<()> {
     let mode = if !rights.of_root {
         PRIVATE_MODE
@@ -83,8 +85,8 @@ fn has_mode(made: &Metadata, mode: u32) -> bool {
     made.permissions().mode() & mode == mode
 }
 
-/// Creates the root directory, with the mode 0711 if the user root owns it and otherwise 0700.
-/// Returns the facts that decide the modes of later directories and files.
+/// Creates the driver's root directory, with the mode 0711 if the user root owns it and otherwise
+/// 0700. Returns the facts that decide the modes of later directories and files.
 fn create_root_dir<R: Files>(rt: &R, path: &str) -> io::Result<Rights> {
     create_dir_of_mode(rt, path, PRIVATE_MODE, false)?;
     let rights = match fs::symlink_metadata(rt, path) {
@@ -108,9 +110,9 @@ fn create_root_dir<R: Files>(rt: &R, path: &str) -> io::Result<Rights> {
 /// Creates the queue directory `place`, to which removals move other directories, with the mode
 /// 0700.
 ///
-/// Returns `rights`, the facts about the root directory. If the user root owns it, `narrow` of the
-/// result states whether the umask removes a permission of the mode 0755. It is `true` if that is
-/// unknown.
+/// `rights` has the facts about the driver's root directory. They are also the result, unless the
+/// user root owns that directory. Then `narrow` of the result is `true` if the umask removes a
+/// permission of the mode 0755, or if that is unknown.
 fn create_queue_dir<R: Files>(rt: &R, place: &str, rights: Rights) -> io::Result<Rights> {
     if !rights.of_root {
         create_dir_of_mode(rt, place, PRIVATE_MODE, rights.narrow)?;
@@ -128,17 +130,19 @@ fn create_queue_dir<R: Files>(rt: &R, place: &str, rights: Rights) -> io::Result
     })
 }
 
-/// Returns the path of the queue directory in the root directory `root`. Removals move other
-/// directories to it.
+/// Returns the path of the queue directory in `root`, the driver's root directory. Removals move
+/// other directories to the queue directory.
 fn queue_path(alloc: Global, root: &Text) -> Result<Text, NoMemory>
     ensures { IfOk result (λ path. path ≡ queue_path root.now) }
 {
     numbered_path(alloc, root, "/kyua.", 0)
 }
 
-/// Creates the root directory and, in it, the queue directory, to which removals move other
-/// directories. Returns an empty queue, and the facts that decide the modes of later directories
-/// and files.
+/// Creates the driver's root directory `path` and a queue directory in it, to which removals move
+/// directories.
+///
+/// Returns an empty queue, and the facts that decide the modes of later directories and files.
+/// Fails if one of the directories can't be created, or if an allocation fails.
 pub(crate) fn create_root<R: Files + AllocGlobal>(
     rt: &R,
     path: &Text,
@@ -160,8 +164,9 @@ pub(crate) fn create_root<R: Files + AllocGlobal>(
     Ok((removals, rights))
 }
 
-/// Returns `true` if the parent of a path is a directory and not a symbolic link. Fails if the
-/// status of the parent can't be read.
+/// Returns `true` if the parent of a path is a directory and not a symbolic link.
+///
+/// Returns `false` for a path without a slash. Fails if the metadata of the parent can't be read.
 fn has_parent_dir<R: Files>(rt: &R, path: &str) -> io::Result<bool> {
     match path.rsplit_once('/') {
         Some((parent, _)) => Ok(fs::symlink_metadata(rt, parent)?.is_dir()),

@@ -7,7 +7,7 @@ ghost use Rattle.kt_os.specs.Inner.Host.{IsEarly, IsInFirstHalf, next_slice, che
 use std::rt::Clock;
 use std::time::Instant;
 
-/// The greatest length of a pause, in microseconds.
+/// The greatest length of a pause between two turns of polls, in microseconds.
 pub(crate) const PAUSE_MICROS: u64 = 10_000;
 
 /// Returns the interval at which `children` children are checked for an end, in microseconds.
@@ -59,20 +59,20 @@ pub(crate) fn is_due(children: usize, pauses: u32, micros: u64, unlooked: u64) -
     unlooked >= check_interval_micros(children, PAUSE_MICROS * u64::from(pauses) + micros)
 }
 
-/// The interval between two `Running` responses in the second half of a timeout's responses, in
-/// milliseconds.
+/// The planned time between two `Running` responses in the second half of a timeout's responses, in
+/// milliseconds. A poll that would return such a response earlier sleeps first.
 const RESPONSE_INTERVAL_MILLIS: u128 = 20;
 
 /// A measure of the speed at which a child is polled: its start time, its timeout and the number of
 /// its `Running` responses. Such a response is a poll that reported the child as running.
 #[derive(Clone, Copy)]
 pub(crate) struct Pace {
-    /// The time of the child's start, or `None` if the clock failed. Without a start time, no
-    /// response is early or late.
+    /// The time from which the polls are counted, or `None` if the clock failed. It is the time of
+    /// the child's creation, of its start or of its kill. Without it, no response is early or late.
     started: Option<Instant>,
     /// The timeout in seconds. Each second has 100 `Running` responses.
     pub(crate) limit: u64,
-    /// The number of `Running` responses since the start.
+    /// The number of `Running` responses since the time in `started`.
     answers: u64,
 }
 
@@ -81,7 +81,8 @@ pub(crate) struct Pace {
 const MISSED_POLLS_ALLOWED: u128 = 2;
 
 impl Pace {
-    /// Creates the pace of a child that starts now. `limit` is its timeout in seconds.
+    /// Creates the pace of a child that is created, started or killed now. `limit` is its timeout
+    /// in seconds.
     pub(crate) fn begun<C: Clock>(limit: u64, clock: &C) -> Pace
         ensures limit { result.limit ≡ limit }
         ensures answers { result.answers ≡ 0 }
@@ -93,9 +94,9 @@ impl Pace {
         }
     }
 
-    /// Returns `true` if the child has missed more than two polls at `now`. A child must be polled
-    /// 100 times a second. Returns `false` after the last poll of its timeout, and without a start
-    /// time.
+    /// Returns `true` if the child has missed more than two polls at `now`, at 100 polls a second.
+    ///
+    /// Returns `false` after the last poll of its timeout, and without a start time.
     pub(crate) fn is_late_at(&self, now: Instant) -> bool
         ensures { IsTrue result ↔ IsSomeAnd self.now.started (λ start.
             IsLate self.now.limit self.now.answers

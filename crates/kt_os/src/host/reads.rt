@@ -71,7 +71,7 @@ pub(crate) fn open_regular_file<R: Files>(rt: &R, path: &str) -> io::Result<R::F
 }
 
 /// Opens a regular file for reading. Fails for any other file, and if a process holds a lease on
-/// the file, since the call would wait for that process.
+/// the file, since opening it would wait for that process.
 pub(crate) fn open_unleased_file<R: Files + AllocGlobal>(
     rt: &R,
     path: &str,

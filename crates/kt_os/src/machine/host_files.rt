@@ -13,8 +13,8 @@ pub trait HostFiles {
     /// `answers old call new`: `call` with its result leads the host from state `old` to `new`.
     ghost answers: { Self → HostResponse → Self → Type 0 };
 
-    /// Reads a regular file, at most its first 1,048,577 bytes. This is one byte more than a script
-    /// may have.
+    /// Reads at most the first 1,048,577 bytes of a regular file. This is one byte more than a
+    /// Kyuafile or a configuration file may have.
     ///
     /// # Errors
     ///
@@ -40,8 +40,8 @@ pub trait HostFiles {
     fn is_program(&mut self, path: &str) -> bool
         ensures { answers self.old (IsProgram path.now result) self.new };
 
-    /// Returns the current time in milliseconds since 1970 in UTC, or 0 if the clock fails or is
-    /// out of range.
+    /// Returns the current time in milliseconds since 1970 in UTC, or 0 if the clock fails. Times
+    /// before 1970 or after the year 9999 are returned as 0, too.
     fn moment(&mut self) -> u64
         ensures answered { answers self.old (HasMoment result) self.new }
         ensures moment { IsMoment result };

@@ -24,8 +24,7 @@ fn put(room: &mut [u8], from: usize, piece: &str) -> Option<usize>
     Some(end)
 }
 
-/// Joins `directory`, `between` and `name`, without other separators, to a path in the buffer
-/// `room`.
+/// Concatenates `directory`, the separator `between` and `name` to a path in the buffer `room`.
 ///
 /// Returns `None` if the path has more than 4,095 bytes. Allocates nothing.
 pub fn join_path<'a>(

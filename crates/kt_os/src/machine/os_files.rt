@@ -11,8 +11,8 @@ use std::rt::{Clock, Files};
 use std::time::SystemTime;
 use std::{fs, io};
 
-/// The maximum number of bytes that are read from a file. This is one byte more than a script may
-/// have.
+/// The maximum number of bytes that are read from a file. This is one byte more than a Kyuafile or
+/// a configuration file may have.
 const MAX_FILE_BYTES: usize = 1_048_577;
 
 /// The permission bits for execution by the owner, the group and others.

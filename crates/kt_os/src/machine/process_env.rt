@@ -17,7 +17,8 @@ use std::{env, io};
 /// (`MAX_ARG_STRLEN`).
 const MAX_VARIABLE_BYTES: usize = 131_072;
 
-/// A copy of the working directory of a command's process, and of its variables `PATH` and `USER`.
+/// A copy of the working directory of this process, and of its environment variables `PATH` and
+/// `USER`.
 #[derive(Drop)]
 pub struct ProcessEnv {
     /// The absolute path of the working directory.

@@ -42,10 +42,10 @@ pub struct Child {
 /// A set of changes that turn the runner's environment into a child's.
 #[derive(Drop)]
 pub struct EnvPlan {
-    /// The names of the variables that are removed.
+    /// The names of the variables that are removed from the runner's environment.
     pub removed: Items<Text>,
-    /// The variables that are set after the removal, in order. If a name occurs twice, its last
-    /// value counts.
+    /// The variables that are set in the child's environment after the removal, in order. If a name
+    /// occurs twice, its last value counts.
     pub set: Variables,
 }
 

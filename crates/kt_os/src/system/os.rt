@@ -7,7 +7,7 @@ pub trait Os {
     ghost use Rattle.std.specs.Prelude.{◌≡◌, ℕ, is_ok};
     ghost use Rattle.kt_os.specs.Common.{Call, Kill, MakeDir, Now, OpenOutput, Pause, Poll, ReadFile, ReadPart, RemoveTree, SetLimit, Spawn, IsReadWithin};
 
-    /// `leads old call new`: the call `call` with its result may take the system from the state
+    /// `leads old call new`: the call `call` with its result may lead the system from the state
     /// `old` to `new`.
     ghost leads: { Self → Call → Self → Type 0 };
 
@@ -92,7 +92,8 @@ pub trait Os {
     fn pause(&mut self) -> Result<(), OsFault>
         ensures { leads self.old (Pause (is_ok result)) self.new };
 
-    /// Reads a file from its beginning, at most `limit` bytes.
+    /// Reads a file from its beginning, at most `limit` bytes. Returns `Missing` if there is no
+    /// such file.
     ///
     /// # Errors
     ///
@@ -102,7 +103,8 @@ pub trait Os {
         ensures asked { leads self.old (ReadFile path.now limit result) self.new }
         ensures within { IsReadWithin limit result };
 
-    /// Reads a file from the byte `from`, counted from 0, at most `limit` bytes.
+    /// Reads a file from the byte `from`, counted from 0, at most `limit` bytes. Returns `Missing`
+    /// if there is no such file.
     ///
     /// # Errors
     ///
