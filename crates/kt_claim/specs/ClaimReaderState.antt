@@ -2,15 +2,17 @@
 use Rattle.std.specs.Prelude.{◌≡◌, ℕ, ◌<◌, ◌≤◌, Bool, true, false, List, length}
 use Rattle.kt_claim.specs.ResultFile.{limit}
 
--- `ClaimReaderState`: the state of a reader of a result file, as callers see it. It has the kept
--- bytes. Two flags are true if the file is too long, and if an allocation failed.
+-- `ClaimReaderState`: the state of a reader of a result file, as callers see it. It has the bytes
+-- that the reader keeps. `too_long` is true if the file is too long, and `failed` if an allocation
+-- failed.
 pub record ClaimReaderState : Type 0 where
   pub kept : List ℕ
   pub too_long : Bool
   pub failed : Bool
 
--- `KeepsBytes too_long kept fed`: a reader that read the bytes `fed` keeps all of them as `kept`,
--- and they are within the limit. If `too_long` is true, `fed` is longer than the limit instead.
+-- `KeepsBytes too_long kept fed`: the bytes `kept` and the flag `too_long` are the state of a
+-- reader of a result file that read the bytes `fed`. If `too_long` is false, `kept` is `fed`, which
+-- has at most `limit` bytes. If `too_long` is true, `fed` has more than `limit` bytes.
 abbrev pub KeepsBytes : Bool → List ℕ → List ℕ → Type 0
 KeepsBytes true kept fed = limit < length fed
 KeepsBytes false kept fed = (kept ≡ fed) × (length fed ≤ limit)

@@ -99,11 +99,14 @@ after_digits rest = drop (prefix_len is_digit (drop 1 rest)) (drop 1 rest)
 abbrev pub has_number : List ℕ → Bool
 has_number rest = nat_lt 0 (length (digits rest)) && nat_lt (number (digits rest)) 256 && has_closing_bracket (after_digits rest)
 
--- `after_number rest`: `rest` without the number in round brackets that it begins with, if any.
+-- `after_number rest`: the bytes of `rest` after the number in round brackets that it begins with.
+-- If `rest` doesn't begin with an opening bracket, it has no number, and the result is `rest`.
+-- Otherwise, the bracket, the digits after it and one more byte are left out. In a valid file, this
+-- byte is the closing bracket.
 abbrev pub after_number : List ℕ → List ℕ
 after_number rest = if has_bracket rest then drop 1 (after_digits rest) else rest
 
--- `has_reason rest`: `rest` is a colon, a space and a reason.
+-- `has_reason rest`: `rest` is a colon, a space and a reason of one byte or more.
 abbrev pub has_reason : List ℕ → Bool
 has_reason rest = starts_with nat_eq rest (codes ": ") && nat_lt 2 (length rest)
 

@@ -7,8 +7,8 @@ use Rattle.kt_claim.specs.Inner.TapReading.{HasLines}
 use Rattle.kt_claim.specs.declared.tally.Tally.{Tally}
 
 -- `TapReaderState`: the state of a reader of a TAP stream, as callers see it. It has the counts of
--- the complete lines, the state of the open line, and the number of bytes read. Two flags are true
--- if the stream is too long, and if an allocation failed.
+-- the complete lines, the state of the open line, and the number of bytes read. `too_long` is true
+-- if the stream is too long, and `failed` if an allocation failed.
 pub record TapReaderState : Type 0 where
   pub tally : Tally
   pub line : LineState
@@ -16,9 +16,10 @@ pub record TapReaderState : Type 0 where
   pub too_long : Bool
   pub failed : Bool
 
--- `RepresentsStream too_long reader fed`: `reader` has the length, the counts and the open line of
--- the bytes `fed`, which are within the limit. If `too_long` is true, `fed` is longer than the
--- limit instead.
+-- `RepresentsStream too_long reader fed`: `reader` is the state of a reader of a TAP stream that
+-- read the bytes `fed`. If `too_long` is false, `reader` has the number of these bytes, the counts
+-- of their complete lines and their open line. There are at most `limit` bytes. If `too_long` is
+-- true, `fed` has more than `limit` bytes.
 abbrev pub RepresentsStream : Bool → TapReaderState → List ℕ → Type 0
 RepresentsStream true reader fed = limit < length fed
 RepresentsStream false reader fed = (reader.length ≡ length fed) × (length fed ≤ limit) × HasLines reader.tally reader.line fed

@@ -104,9 +104,9 @@ directive_at text =
     else if says (codes "skip") text then Some (true, reason_of (drop 4 text))
     else None
 
--- `state_after_hash escaped b rest`: the directive that follows the leading blanks of `rest`, if
--- any. It counts only if the byte `b` before `rest` is a hash (35) and `escaped` is false.
--- `escaped` is true if a backslash precedes `b`.
+-- `state_after_hash escaped b rest`: the directive in `rest` after its leading blanks, if any. `b`
+-- is the byte before `rest`, and `escaped` is true if a backslash precedes `b`. Unless `b` is a
+-- hash (35) and `escaped` is false, there is no directive.
 abbrev pub state_after_hash : Bool → ℕ → List ℕ → Option Directive
 state_after_hash escaped b rest = if b == 35 && not escaped then directive_at (without_leading is_blank rest) else None
 
@@ -159,7 +159,7 @@ abbrev pub reason_of_skip : Option Directive → List ℕ
 reason_of_skip (Some (true, reason)) = reason
 reason_of_skip _ = []
 
--- `skip_reason reason`: `reason` as a text, or `No reason given` if `reason` is empty.
+-- `skip_reason reason`: the text of the bytes `reason`, or `No reason given` if `reason` is empty.
 abbrev pub skip_reason : List ℕ → List ℕ
 skip_reason [] = codes "No reason given"
 skip_reason (b ∷ reason) = lossy (b ∷ reason)

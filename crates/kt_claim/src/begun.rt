@@ -13,7 +13,8 @@ pub enum LineKind {
     Plan(u64),
 }
 
-/// A prefix of the word `TODO` or `SKIP` that begins a directive, in upper or lower case.
+/// The first one to three letters of a directive's keyword, `TODO` or `SKIP`, in upper or lower
+/// case.
 #[derive(Clone, Copy)]
 pub enum DirectivePrefix {
     T,
@@ -24,12 +25,12 @@ pub enum DirectivePrefix {
     Ski,
 }
 
-/// A purpose for which a directive is searched in a line.
+/// A purpose of the search for a directive in a TAP line.
 #[derive(Clone, Copy)]
 pub enum DirectivePurpose {
-    /// A directive excuses a failed test.
+    /// The line is a failed test, which a directive excuses.
     Excuse,
-    /// A directive explains a plan of no tests.
+    /// The line is a plan of no tests, whose reason is in a skip directive.
     Explain,
 }
 
@@ -47,34 +48,36 @@ pub enum Opening {
 pub enum LineProgress {
     /// No byte was read.
     Nothing,
-    /// An opening, as far as it was read. The second field has the bytes of the opening that are
-    /// missing.
+    /// A part of an opening was read. The second field has its missing bytes, which are none after
+    /// the whole opening.
     PartialOpening(Opening, &'static [u8]),
-    /// `1..` and digits of a plan. The number is the value of the digits, or `None` without digits.
+    /// `1..` was read, and digits of a plan. The number is the value of the digits, or `None`
+    /// without digits.
     Digits(Option<u64>),
-    /// `1..`, the digits of a plan, and one or more blanks. The number is the value of the digits.
+    /// `1..`, the digits of a plan, and one or more blanks were read. The number is the value of
+    /// the digits.
     Blanks(u64),
     /// No directive was found yet, but a directive for this purpose may follow. The flag is `true`
     /// if the last byte is a backslash.
     DirectiveSearch(DirectivePurpose, bool),
-    /// A hash, and blanks if any. A directive for this purpose may follow.
+    /// A hash was read, and blanks if any. A directive for this purpose may follow.
     Hash(DirectivePurpose),
-    /// A hash, blanks if any, and the first letters of a directive for this purpose.
+    /// A hash, blanks if any, and the first letters of a directive for this purpose were read.
     DirectiveLetters(DirectivePurpose, DirectivePrefix),
-    /// The letters `SKIP` of a directive, with more bytes of the same word if any.
+    /// The keyword `SKIP` of a directive was read, with more bytes up to the next blank if any.
     Word,
-    /// Blanks after the word of a skip directive.
+    /// Blanks after the keyword of a skip directive were read.
     Gap,
-    /// The first bytes of the reason of a skip directive.
+    /// The first bytes of the reason of a skip directive were read.
     Reason,
     /// The kind of the line is known. The rest of the line is ignored.
     KnownKind(LineKind),
 }
 
-/// A TAP line that was not read to its end. Of its bytes, only the reason of a plan is kept.
+/// A TAP line that was not yet read to its end. Of its bytes, only the reason of a plan is kept.
 #[derive(Drop)]
 pub struct OpenLine {
-    /// The state of the reader within the line.
+    /// The state of the reader within this TAP line.
     pub begun: LineProgress,
     /// The reason of a plan of no tests, as far as it was read.
     pub kept: Vec<u8>,

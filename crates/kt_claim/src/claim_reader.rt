@@ -41,7 +41,7 @@ impl ClaimReader {
     ghost use Rattle.std.specs.Prelude.{◌≤◌, length, ◌≡◌, ℕ, List, [], ◌++◌, true, IfOk, OnOk, OnErr, IsErr};
     ghost use Rattle.kt_claim.specs.Common.{HasRead, limit, IsClaimOf, Claim};
 
-    /// Creates a reader that has read nothing. The call doesn't allocate.
+    /// Creates a reader of a result file, which has read nothing. The call doesn't allocate.
     pub fn new(alloc: Global) -> Self
         ensures { HasRead result [] }
     {

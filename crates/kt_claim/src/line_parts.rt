@@ -1,4 +1,4 @@
-//! Reads the parts of a line, and finds the kind of a line at its end.
+//! Reads the parts of a TAP line, and finds the kind of the line at its end.
 
 ghost use Rattle.std.specs.Prelude.{◌≡◌, ◌∷◌, ◌++◌, ℕ, List, [], IfOk, OnOk, None, false, true};
 ghost use Rattle.kt_claim.specs.Common.{facts_with, is_reason_byte, is_kind_known, KeepsIfReason, IsStateAfter, IsStateMidLine, without_trailing_blanks, after_opening, directive_facts, facts_of_kind, is_reason};
@@ -74,9 +74,10 @@ fn kind_of_digits(value: Option<u64>) -> LineKind
     }
 }
 
-/// Returns the kind of a TAP line in which a directive was searched for `purpose`, and not found.
+/// Returns the kind of a TAP line in which the search for a directive found none.
 ///
-/// The line is a failed test for `Excuse`, and a plan of no tests for `Explain`.
+/// `purpose` is the purpose of the search. The line is a failed test for `Excuse`, and a plan of no
+/// tests for `Explain`.
 fn kind_without_directive(purpose: DirectivePurpose) -> LineKind
     ensures { facts_of_kind result [] ≡ directive_facts purpose None }
 {
@@ -157,10 +158,11 @@ fn feed_bytes(
     Ok(state)
 }
 
-/// Reads the carriage return that was held back, if `held` is `true`, and returns the new state.
+/// Reads a carriage return of a TAP line that was held back, if `held` is `true`, and returns the
+/// new state.
 ///
-/// `begun` is the state of the TAP line before the carriage return, and `kept` has its kept bytes.
-/// The caller has more bytes of the line, so the carriage return is not at its end.
+/// `begun` is the state of the line before the carriage return, and `kept` has its kept bytes. The
+/// caller has more bytes of the line, so the carriage return is not at its end.
 fn feed_carriage_return(
     begun: LineProgress,
     kept: &mut Vec<u8>,

@@ -1,4 +1,4 @@
-//! Computes the state of a line after one more byte.
+//! Computes the state of a TAP line after one more byte.
 
 ghost use Rattle.std.specs.Prelude.{◌≡◌, [], ◌∷◌, ℕ, List, false, option_map, Some, true, ◌<◌, ◌^◌, ◌-◌};
 ghost use Rattle.kt_claim.specs.Common.{is_digit, is_blank, directive_in, planned_from, below_limit, reason_of, reason_of_skip, plan_for, facts_of, plan_facts, after_opening, opened, directive_facts, directive_after_letters, facts_with, is_reason_byte, is_reason, next_letter, facts_after_letter};
@@ -32,8 +32,8 @@ fn first(b: u8) -> LineProgress
 
 /// Returns the state of a TAP line after the four letters of a directive.
 ///
-/// The letters are `SKIP` if `is_skip` is `true`, otherwise `TODO`. The directive was searched for
-/// `purpose`.
+/// The letters are `SKIP` if `is_skip` is `true`, otherwise `TODO`. `purpose` is the purpose of the
+/// search for the directive.
 fn found(purpose: DirectivePurpose, is_skip: bool) -> LineProgress
     ensures facts { (kept more : List ℕ) → facts_with result kept more
         ≡ directive_facts purpose (Some (is_skip, reason_of more)) }
@@ -46,10 +46,10 @@ fn found(purpose: DirectivePurpose, is_skip: bool) -> LineProgress
     }
 }
 
-/// Returns the state of a TAP line after the byte `b`, while a directive is searched for `purpose`.
+/// Returns the state of a TAP line after the byte `b`, during the search for a directive.
 ///
-/// A hash may begin the directive. `escaped` is `true` if the byte before `b` is a backslash. Then
-/// a hash does not begin a directive.
+/// `purpose` is the purpose of the search. A hash may begin the directive. `escaped` is `true` if
+/// the byte before `b` is a backslash. Then a hash does not begin a directive.
 fn state_in_search(purpose: DirectivePurpose, escaped: bool, b: u8) -> LineProgress
     ensures facts { (kept more : List ℕ) → facts_with result kept more
         ≡ directive_facts purpose (directive_in escaped (b ∷ more)) }
@@ -64,7 +64,7 @@ fn state_in_search(purpose: DirectivePurpose, escaped: bool, b: u8) -> LineProgr
 
 /// Returns the state of a TAP line after a hash, blanks if any, and the byte `b`.
 ///
-/// A directive is searched for `purpose`.
+/// `purpose` is the purpose of the search for a directive.
 fn state_after_hash(purpose: DirectivePurpose, b: u8) -> LineProgress
     ensures facts { (kept more : List ℕ) → facts_with result kept more
         ≡ facts_with (LineProgress.Hash purpose) kept (b ∷ more) }
@@ -80,7 +80,7 @@ fn state_after_hash(purpose: DirectivePurpose, b: u8) -> LineProgress
     }
 }
 
-/// Returns the letter of a directive that follows `letters`, in lower case.
+/// Returns the letter that follows `letters` in the keyword of a directive, in lower case.
 fn next_letter(letters: DirectivePrefix) -> u8
     ensures { result ≡ next_letter letters }
 {
@@ -95,7 +95,7 @@ fn next_letter(letters: DirectivePrefix) -> u8
 
 /// Returns the state of a TAP line after `letters` and the next letter of their directive.
 ///
-/// The directive is searched for `purpose`.
+/// `purpose` is the purpose of the search for the directive.
 fn state_after_letter(purpose: DirectivePurpose, letters: DirectivePrefix) -> LineProgress
     ensures facts { (kept more : List ℕ) → facts_with result kept more
         ≡ facts_after_letter purpose letters more }
@@ -114,7 +114,7 @@ fn state_after_letter(purpose: DirectivePurpose, letters: DirectivePrefix) -> Li
 /// Returns the state of a TAP line after `letters`, the first letters of a directive, and the byte
 /// `b`.
 ///
-/// The directive is searched for `purpose`.
+/// `purpose` is the purpose of the search for the directive.
 fn state_after_letters(purpose: DirectivePurpose, letters: DirectivePrefix, b: u8) -> LineProgress
     ensures facts { (kept more : List ℕ) → facts_with result kept more
         ≡ facts_with (LineProgress.DirectiveLetters purpose letters) kept (b ∷ more) }

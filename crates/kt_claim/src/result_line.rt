@@ -36,7 +36,7 @@ const KEYWORDS: [(&str, Word); 8] = [
 ];
 
 impl Word {
-    /// Returns the keyword that is spelled `word`, if there is one.
+    /// Returns the keyword that is spelled `word`, or `None` if `word` is not a keyword.
     #[tactic(auto, unfolding(crate::specs::Inner::ResultReading::keyword_of))]
     pub fn of(word: &[u8]) -> Option<Word>
         ensures { result ≡ keyword_of word.now }
@@ -65,7 +65,7 @@ fn keyword_length(text: &[u8]) -> usize
 /// Parses the decimal number that `rest` begins with, and the closing round bracket after it.
 ///
 /// Returns the number and the bytes after the bracket. The result is `None` if there is no digit,
-/// if the number is greater than 255, or if another byte follows the digits.
+/// if the number is greater than 255, or if no closing bracket follows the digits.
 #[tactic(auto, unfolding(crate::specs::Inner::ResultReading::number_in))]
 fn number(rest: &[u8]) -> Option<(u8, &[u8])>
     ensures { option_map (λ x. (x.0, x.1.now)) result ≡ number_in rest.now }
@@ -83,7 +83,7 @@ fn number(rest: &[u8]) -> Option<(u8, &[u8])>
     }
 }
 
-/// Returns the reason in `rest`, if `rest` is a colon, a space and a reason.
+/// Returns the reason in `rest`, or `None` unless `rest` is a colon, a space and a reason.
 ///
 /// A reason has one byte or more.
 fn reason(rest: &[u8]) -> Option<&[u8]>

@@ -10,11 +10,12 @@ use std::alloc::Global;
 /// A tally of a TAP stream: the counts and plans of the lines before its first bail out.
 #[derive(Drop)]
 pub struct Tally {
-    /// `true` if a line bails out.
+    /// `true` if a line of the stream bails out: it begins with `Bail out!`.
     pub bailed: bool,
-    /// The first plan: the number of tests, and the reason, which is empty unless that number is 0.
+    /// The first plan, if any: its number of tests and its reason, which is empty unless the number
+    /// is 0.
     pub plan: Option<(u64, Text)>,
-    /// `true` if there is a second plan.
+    /// `true` if the stream has a second plan.
     pub second: bool,
     /// The number of lines that report a test.
     pub tests: u64,
@@ -22,7 +23,7 @@ pub struct Tally {
     pub failures: u64,
 }
 
-/// Returns `reason` as a text, or `No reason given` if `reason` is empty.
+/// Returns the text of the bytes `reason`, or `No reason given` if `reason` is empty.
 fn skip_reason(alloc: Global, reason: &[u8]) -> Result<Text, NoMemory>
     ensures { IfOk result (λ text. text ≡ skip_reason reason.now) }
 {

@@ -50,7 +50,7 @@ impl TapReader {
     ghost use Rattle.std.specs.Prelude.{false, ◌≡◌, ◌++◌, ℕ, List, [], true, IfOk, OnOk, OnErr, IsErr};
     ghost use Rattle.kt_claim.specs.Common.{HasStream, KeepsOnlyReason, tap_of};
 
-    /// Creates a reader that has read nothing. The call doesn't allocate.
+    /// Creates a reader of a TAP stream, which has read nothing. The call doesn't allocate.
     pub fn new(alloc: Global) -> Self
         ensures { HasStream result [] }
     {

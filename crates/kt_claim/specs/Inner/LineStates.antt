@@ -14,37 +14,38 @@ use Rattle.kt_claim.specs.declared.begun.Opening.TheVariants as opening
 use Rattle.kt_claim.specs.declared.begun.DirectivePurpose.{DirectivePurpose}
 use Rattle.kt_claim.specs.declared.begun.DirectivePurpose.TheVariants.{Excuse, Explain}
 
--- `Facts`: the facts of a line that affect the result of a stream. A line may bail out, be a test,
--- be a failed test without a directive, and have a plan.
+-- `Facts`: the facts of a TAP line that affect the result of its stream. The line may bail out, be
+-- a test, be a failed test without a directive, and have a plan.
 pub record Facts : Type 0 where
   pub bails : Bool
   pub tests : Bool
   pub fails : Bool
   pub plans : Option (ℕ × List ℕ)
 
--- `facts_of line`: the facts of `line`, a line without its newline and carriage return.
+-- `facts_of line`: the `Facts` of `line`, a line of a TAP stream without its newline and carriage
+-- return.
 abbrev pub facts_of : List ℕ → Facts
 facts_of line = record { bails = is_bail_out line; tests = is_test line; fails = is_unexcused line; plans = plan line }
 
--- `no_facts`: the facts of a line that is neither a bail out, nor a test, nor a plan.
+-- `no_facts`: the `Facts` of a TAP line that is neither a bail out, nor a test, nor a plan.
 abbrev pub no_facts : Facts
 no_facts = record { bails = false; tests = false; fails = false; plans = None }
 
--- `bail_out_facts`: the facts of a line that bails out.
+-- `bail_out_facts`: the `Facts` of a TAP line that bails out.
 abbrev pub bail_out_facts : Facts
 bail_out_facts = record { bails = true; tests = false; fails = false; plans = None }
 
--- `test_facts tests fails`: the facts of a line that is a test if `tests` is true, and a failed
--- test without a directive if `fails` is true.
+-- `test_facts tests fails`: the `Facts` of a TAP line that is neither a bail out nor a plan. It is
+-- a test if `tests` is true, and a failed test without a directive if `fails` is true.
 abbrev pub test_facts : Bool → Bool → Facts
 test_facts tests fails = record { bails = false; tests = tests; fails = fails; plans = None }
 
--- `plan_facts plans`: the facts of a line with the plan `plans`, if any.
+-- `plan_facts plans`: the `Facts` of a TAP line with the plan `plans`, if any.
 abbrev pub plan_facts : Option (ℕ × List ℕ) → Facts
 plan_facts plans = record { bails = false; tests = false; fails = false; plans = plans }
 
--- `facts_of_kind kind reason`: the facts of a line of the kind `kind`. A plan of no tests has the
--- reason `reason`.
+-- `facts_of_kind kind reason`: the `Facts` of a TAP line of the kind `kind`. A plan of no tests has
+-- the reason `reason`.
 abbrev pub facts_of_kind : LineKind → List ℕ → Facts
 facts_of_kind kind.Other reason = no_facts
 facts_of_kind kind.Bail reason = bail_out_facts
@@ -52,7 +53,7 @@ facts_of_kind kind.Test reason = test_facts true false
 facts_of_kind kind.Failure reason = test_facts true true
 facts_of_kind (kind.Plan n) reason = plan_facts (Some (plan_for reason n))
 
--- `after_opening o more`: the facts of a line that consists of the opening `o` and the bytes
+-- `after_opening o more`: the `Facts` of a TAP line that consists of the opening `o` and the bytes
 -- `more`.
 abbrev pub after_opening : Opening → List ℕ → Facts
 after_opening opening.BailOut more = bail_out_facts
@@ -60,16 +61,16 @@ after_opening opening.Ok more = test_facts (is_word_end more) false
 after_opening opening.NotOk more = test_facts (is_word_end more) (is_word_end more && not (is_some (directive_in false more)))
 after_opening opening.Plan more = plan_facts (option_map (plan_for (reason_of_skip (directive_in false more))) (planned_from None more))
 
--- `opened o whole more`: the facts of a line that begins with the opening `o`, followed by the
--- bytes `more`. If `whole` is false, the opening is incomplete, and the line doesn't affect the
--- result.
+-- `opened o whole more`: the `Facts` of a TAP line that begins with the opening `o`, followed by
+-- the bytes `more`. If `whole` is false, the opening is incomplete, and the line doesn't affect the
+-- result of the stream.
 abbrev pub opened : Opening → Bool → List ℕ → Facts
 opened o false more = no_facts
 opened o true more = after_opening o more
 
--- `directive_facts purpose found`: the facts of a line in which a directive was searched for the
--- purpose `purpose`. `found` is the directive, if any was found. For `Excuse`, the line is a failed
--- test, and for `Explain`, a plan of no tests.
+-- `directive_facts purpose found`: the `Facts` of a TAP line in which a directive was looked for.
+-- `found` is the directive, if any was found, and `purpose` is the purpose of the search. For
+-- `Excuse`, the line is a failed test, and for `Explain`, a plan of no tests.
 abbrev pub directive_facts : DirectivePurpose → Option Directive → Facts
 directive_facts Excuse found = test_facts true (not (is_some found))
 directive_facts Explain found = plan_facts (Some (0, skip_reason (reason_of_skip found)))
@@ -91,13 +92,13 @@ is_skip Sk = true
 is_skip Ski = true
 is_skip _ = false
 
--- `directive_after_letters l more`: the directive that the letters `l` and then `more` begin with,
--- if any.
+-- `directive_after_letters l more`: the directive that consists of its first letters `l` and then
+-- the bytes `more`, or `None` if they are not a directive.
 abbrev pub directive_after_letters : DirectivePrefix → List ℕ → Option Directive
 directive_after_letters l more = if says (missing_letters l) more then Some (is_skip l, reason_of (drop (length (missing_letters l)) more)) else None
 
--- `facts_with begun kept more`: the facts of a line that is in the state `begun` and ends after
--- `more`, its further bytes. `kept` is the reason that was read so far.
+-- `facts_with begun kept more`: the `Facts` of a TAP line that is in the state `begun` and ends
+-- after `more`, its further bytes. `kept` is the reason of a plan that was read so far.
 abbrev pub facts_with : LineProgress → List ℕ → List ℕ → Facts
 facts_with begun.Nothing kept more = facts_of more
 facts_with (begun.PartialOpening o lacks) kept more = opened o (begins lacks.now more) (drop (length lacks.now) more)
@@ -123,7 +124,8 @@ abbrev pub is_reason : LineProgress → Bool
 is_reason begun.Reason = true
 is_reason _ = false
 
--- `is_kind_known begun`: the bytes after the state `begun` don't affect the facts of the line.
+-- `is_kind_known begun`: the bytes after the state `begun` don't affect the `Facts` of the TAP
+-- line.
 abbrev pub is_kind_known : LineProgress → Bool
 is_kind_known (begun.KnownKind k) = true
 is_kind_known _ = false
@@ -138,7 +140,7 @@ IsEmptyUnless false kept = kept ≡ []
 abbrev pub KeepsIfReason : LineProgress → List ℕ → Type 0
 KeepsIfReason begun kept = IsEmptyUnless (is_reason begun) kept
 
--- `with_held_cr held more`: `more`, after a carriage return if `held` is true.
+-- `with_held_cr held more`: the bytes `more`, with a carriage return before them if `held` is true.
 abbrev pub with_held_cr : Bool → List ℕ → List ℕ
 with_held_cr false more = more
 with_held_cr true more = 13 ∷ more
@@ -151,13 +153,14 @@ pub record LineState : Type 0 where
   pub held : Bool
 
 -- `IsStateAfter begun kept held came`: `begun`, `kept` and `held` are the state after the bytes
--- `came` of a line. They give the facts of the line for any bytes that follow.
+-- `came` of a TAP line. They give the `Facts` of the line for any bytes that follow.
 pub record IsStateAfter (begun : LineProgress) (kept : List ℕ) (held : Bool) (came : List ℕ) : Type 0 where
   pub keeps : KeepsIfReason begun kept
   pub tells : (more : List ℕ) → facts_of (without_cr (came ++ more)) ≡ facts_with begun kept (without_cr (with_held_cr held more))
 
 -- `IsStateMidLine begun kept came`: `begun` and `kept` are the state after the bytes `came` of a
--- line. They give the facts of the line if more bytes follow. No carriage return is held back.
+-- TAP line. They give the `Facts` of the line if more bytes follow. No carriage return is held
+-- back.
 pub record IsStateMidLine (begun : LineProgress) (kept came : List ℕ) : Type 0 where
   pub keeps : KeepsIfReason begun kept
   pub tells : (b : ℕ) (more : List ℕ) → facts_of (without_cr (came ++ b ∷ more)) ≡ facts_with begun kept (without_cr (b ∷ more))
@@ -171,8 +174,9 @@ next_letter S = 107
 next_letter Sk = 105
 next_letter Ski = 112
 
--- `facts_after_letter purpose l more`: the facts of a line that ends with the letters `l`, the next
--- letter of their directive, and the bytes `more`. The directive is searched for `purpose`.
+-- `facts_after_letter purpose l more`: the `Facts` of a TAP line that ends with the letters `l`,
+-- the next letter of their directive, and the bytes `more`. `purpose` is the purpose of the search
+-- for the directive.
 abbrev pub facts_after_letter : DirectivePurpose → DirectivePrefix → List ℕ → Facts
 facts_after_letter purpose T more = directive_facts purpose (option_or (directive_after_letters To more) (directive_in false more))
 facts_after_letter purpose To more = directive_facts purpose (option_or (directive_after_letters Tod more) (directive_in false more))

@@ -48,8 +48,8 @@ claim_with_number _ n r = claim.Malformed BadNumber
 abbrev pub reason_in : List ℕ → Option (List ℕ)
 reason_in rest = if starts_with nat_eq rest (codes ": ") && nat_lt 2 (length rest) then Some (drop 2 rest) else None
 
--- `claim_from_reason make reason`: the claim that `make` returns for the text of `reason`, or the
--- error `NoReason` if `reason` is `None`.
+-- `claim_from_reason make reason`: the claim that `make` returns for the text of the bytes
+-- `reason`. It is `Malformed NoReason` if `reason` is `None`.
 abbrev pub claim_from_reason : (List ℕ → Claim) → Option (List ℕ) → Claim
 claim_from_reason make None = claim.Malformed NoReason
 claim_from_reason make (Some reason) = make (lossy reason)
@@ -90,20 +90,20 @@ may_have_number _ = false
 abbrev pub claim_after_bracket : Word → List ℕ → Claim
 claim_after_bracket w rest = if may_have_number w then claim_from_number w (number_in rest) else claim.Malformed BadNumber
 
--- `claim_without_bracket w rest`: the claim of a line of the keyword `w` and `rest`, which begins
--- with no bracket.
+-- `claim_without_bracket w rest`: the claim of a line that consists of the keyword `w` and the
+-- bytes `rest`, which don't begin with an opening bracket.
 abbrev pub claim_without_bracket : Word → List ℕ → Claim
 claim_without_bracket Passed [] = claim.Passed
 claim_without_bracket Passed (_ ∷ _) = claim.Malformed UnexpectedReason
 claim_without_bracket w rest = claim_from_reason (claim_with_reason w) (reason_in rest)
 
--- `claim_after w rest`: the claim of a line of the keyword `w` and `rest`.
+-- `claim_after w rest`: the claim of a line that consists of the keyword `w` and the bytes `rest`.
 abbrev pub claim_after : Word → List ℕ → Claim
 claim_after w [] = claim_without_bracket w []
 claim_after w (b ∷ rest) = if b == 40 then claim_after_bracket w rest else claim_without_bracket w (b ∷ rest)
 
--- `claim_of_keyword w rest`: the claim of a line of the keyword `w` and `rest`, or the error
--- `UnknownWord` if `w` is `None`.
+-- `claim_of_keyword w rest`: the claim of a line that consists of the keyword `w` and the bytes
+-- `rest`. It is `Malformed UnknownWord` if `w` is `None`.
 abbrev pub claim_of_keyword : Option Word → List ℕ → Claim
 claim_of_keyword None rest = claim.Malformed UnknownWord
 claim_of_keyword (Some w) rest = claim_after w rest
