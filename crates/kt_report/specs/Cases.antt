@@ -11,8 +11,8 @@ use Rattle.kt_report.specs.Escapes.{escaped_text}
 abbrev pub with_outputs : Entry → Output → Output → Entry
 with_outputs e body cleanup = record e { body = body; cleanup = cleanup }
 
--- `case_texts e`: the texts of the entry `e`, escaped for XML. The output of the body precedes that
--- of the cleanup. Each output is decoded by itself.
+-- `case_texts e`: the texts of the entry `e` in the JUnit report, escaped for XML. The output of
+-- the body precedes that of the cleanup. Each output is decoded by itself.
 abbrev pub case_texts : Entry → CaseTexts
 case_texts e = record {
   program = escaped_text true e.program;

@@ -1,8 +1,8 @@
 -- Characters and texts, escaped for XML.
 use Rattle.std.specs.Prelude.{ℕ, Bool, if◌then◌else◌, ◌==◌, nat_lt, ◌||◌, List, [], ◌∷◌, codes, flat_map}
 
--- `other c`: the character `c`, or a question mark if `c` is below 32, U+FFFE or U+FFFF. The
--- characters below 32 that XML allows are handled by `escaped`.
+-- `other c`: the character `c`, or a question mark if `c` is below 32, or is U+FFFE or U+FFFF.
+-- `escaped` handles the characters below 32 that XML allows, before it uses `other`.
 abbrev pub other : ℕ → List ℕ
 other c = if nat_lt c 32 || c == 65534 || c == 65535 then codes "?" else c ∷ []
 
@@ -14,7 +14,7 @@ escaped attribute c =
     if c == 38 then codes "&amp;" else if c == 60 then codes "&lt;" else if c == 62 then codes "&gt;" else if c == 34 then codes "&quot;" else if c == 13 then codes "&#13;"
     else if c == 9 then (if attribute then codes "&#9;" else c ∷ []) else if c == 10 then (if attribute then codes "&#10;" else c ∷ []) else other c
 
--- `escaped_text attribute text`: `text` with each character escaped, for an XML attribute if `attribute`
--- is true, otherwise for content.
+-- `escaped_text attribute text`: `text` with each character escaped, for an XML attribute if
+-- `attribute` is true, otherwise for content.
 abbrev pub escaped_text : Bool → List ℕ → List ℕ
 escaped_text attribute text = flat_map (escaped attribute) text

@@ -34,7 +34,7 @@ element texts kind millis =
     codes "<testcase classname=\"" ++ utf8 texts.program ++ codes "\" name=\"" ++ utf8 texts.case_name ++ codes "\" time=\"" ++ seconds millis ++ codes "\">\n"
     ++ result_element kind texts.reason ++ output_element (codes "system-out") texts.out ++ output_element (codes "system-err") texts.err ++ codes "</testcase>\n"
 
--- `case_bytes e`: the XML element of the case of the entry `e`.
+-- `case_bytes e`: the XML element of the entry `e` in the JUnit report.
 abbrev pub case_bytes : Entry → List ℕ
 case_bytes e = element (case_texts e) e.verdict.kind e.millis
 
@@ -48,11 +48,12 @@ heading run =
 abbrev pub ending : List ℕ
 ending = codes "</testsuite>\n"
 
--- `junit_bytes run`: the JUnit report of `run`, which has a case for each entry, by position.
+-- `junit_bytes run`: the JUnit report of `run`, which has a case for each entry, in the order of
+-- entries.
 abbrev pub junit_bytes : Run → List ℕ
 junit_bytes run = heading run ++ flat_map case_bytes run.entries ++ ending
 
--- `junit_layout run`: the bytes of the JUnit report of `run`, as functions of the entries that were
--- read so far.
+-- `junit_layout run`: the `Layout` of the JUnit report of `run`: its bytes as functions of the
+-- entries that were read so far.
 abbrev pub junit_layout : Run → Layout
 junit_layout run = record { first = λ shown. heading run ++ flat_map case_bytes shown; next = λ shown e. []; last = ending }

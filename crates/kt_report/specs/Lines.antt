@@ -13,7 +13,7 @@ abbrev pub printable_reason : Kind → List ℕ → List ℕ
 printable_reason Passed reason = []
 printable_reason _ reason = codes ": " ++ utf8 reason
 
--- `line_bytes e`: the line of the entry `e`: its program, case, kind of the verdict, reason and
--- duration.
+-- `line_bytes e`: the line that is printed for the entry `e`: its program, case, kind of the
+-- verdict, reason and duration.
 abbrev pub line_bytes : Entry → List ℕ
 line_bytes e = utf8 e.program ++ codes ":" ++ utf8 e.case_name ++ codes "  ->  " ++ word e.verdict.kind ++ printable_reason e.verdict.kind e.verdict.reason ++ codes "  [" ++ seconds e.millis ++ codes "s]\n"

@@ -1,12 +1,12 @@
--- The properties that a case declares, each a pair on its line.
+-- The lines of the properties that a case declares.
 use Rattle.std.specs.Prelude.{ℕ, Bool, true, false, List, ◌++◌, codes, flat_map, map, nat_lt, if◌then◌else◌}
 use Rattle.kt_base.specs.declared.entry.Entry.{Entry}
 use Rattle.kt_base.specs.declared.variable.Variable.{Variable}
 use Rattle.kt_base.specs.Utf8.{utf8}
 use Rattle.kt_report.specs.Lines.{line_bytes}
 
--- `printable_byte byte`: the byte that is printed for `byte`: a question mark (63) for a byte below
--- 32, otherwise `byte` itself.
+-- `printable_byte byte`: the byte that is printed for `byte` in the value of a property: a question
+-- mark (63) for a byte below 32, otherwise `byte` itself.
 abbrev pub printable_byte : ℕ → ℕ
 printable_byte byte = if nat_lt byte 32 then 63 else byte
 

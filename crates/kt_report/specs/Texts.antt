@@ -13,7 +13,7 @@ use Rattle.kt_report.specs.Digits.{two_digits, three_digits, four_digits, second
 use Rattle.kt_report.specs.Layouts.{Layout}
 use Rattle.kt_report.specs.Pairs.{entry_bytes}
 
--- `is_same_kind kind other`: the kinds `kind` and `other` are equal.
+-- `is_same_kind kind other`: `true` if the kinds `kind` and `other` are equal.
 abbrev pub is_same_kind : Kind → Kind → Bool
 is_same_kind Passed Passed = true
 is_same_kind Skipped Skipped = true
@@ -22,7 +22,7 @@ is_same_kind Failed Failed = true
 is_same_kind Broken Broken = true
 is_same_kind _ _ = false
 
--- `has_kind kind e`: the verdict of the entry `e` is of the kind `kind`.
+-- `has_kind kind e`: `true` if the verdict of the entry `e` is of the kind `kind`.
 abbrev pub has_kind : Kind → Entry → Bool
 has_kind kind e = is_same_kind kind e.verdict.kind
 
@@ -57,23 +57,26 @@ abbrev pub title_line : Kind → List ℕ
 title_line kind = codes "===> " ++ title kind ++ codes "\n"
 
 -- `titled_section verbose kind entries`: the title of the section of `kind`, and the lines of
--- `entries`, or nothing if there are no entries. The lines have properties if `verbose` is true.
+-- `entries`, or nothing if there are no entries. Lines of properties follow each entry if `verbose`
+-- is true.
 abbrev pub titled_section : Bool → Kind → List Entry → List ℕ
 titled_section verbose kind [] = []
 titled_section verbose kind (e ∷ entries) = title_line kind ++ flat_map (entry_bytes verbose) (e ∷ entries)
 
 -- `section verbose kinds entries kind`: the section of `kind` in a report of `entries`, or nothing
--- if `kind` is not one of the chosen kinds `kinds`. It has properties if `verbose` is true.
+-- if `kind` is not one of the chosen kinds `kinds`. Lines of properties follow each entry if
+-- `verbose` is true.
 abbrev pub section : Bool → List Kind → List Entry → Kind → List ℕ
 section verbose kinds entries kind = titled_section verbose kind (chosen_entries kinds entries kind)
 
 -- `sections verbose kinds entries`: the sections of the chosen kinds `kinds` in a report of
--- `entries`, in their order. They have properties if `verbose` is true.
+-- `entries`, in the order `order`. Lines of properties follow each entry if `verbose` is true.
 abbrev pub sections : Bool → List Kind → List Entry → List ℕ
 sections verbose kinds entries = flat_map (section verbose kinds entries) order
 
--- `title_line_after before kind`: the line with the title of the section of `kind`. It is empty if the kind
--- of the preceding entry, `before`, is `kind`, too.
+-- `title_line_after before kind`: the line with the title of the section of `kind`. It is empty if
+-- the preceding entry is of the same kind. `before` is the kind of that entry, or `None` for the
+-- first entry.
 abbrev pub title_line_after : Option Kind → Kind → List ℕ
 title_line_after None kind = title_line kind
 title_line_after (Some before) kind = if is_same_kind before kind then [] else title_line kind
@@ -85,15 +88,16 @@ last_kind before [] = before
 last_kind before (e ∷ entries) = last_kind (Some e.verdict.kind) entries
 
 -- `titled_lines verbose before entries`: the lines of `entries`. The title of its section precedes
--- an entry, unless the preceding entry is in the same section. `before` is the kind of the entry
--- before `entries`. The lines have properties if `verbose` is true.
+-- an entry, unless the preceding entry is of the same kind. `before` is the kind of the entry
+-- before `entries`, if any. Lines of properties follow each entry if `verbose` is true.
 abbrev pub titled_lines : Bool → Option Kind → List Entry → List ℕ
 titled_lines verbose before [] = []
 titled_lines verbose before (e ∷ entries) = title_line_after before e.verdict.kind ++ (entry_bytes verbose e ++ titled_lines verbose (Some e.verdict.kind) entries)
 
 -- `sections_layout verbose before end`: the `Layout` of a report with a line for each entry and a
--- title for each section. `before` is the kind of the entry before them, and the bytes `end` follow
--- them. The lines have properties if `verbose` is true.
+-- title for each section. `before` is the kind of the entry before the first entry, if any. The
+-- bytes `end` are the end of the report. Lines of properties follow each entry if `verbose` is
+-- true.
 abbrev pub sections_layout : Bool → Option Kind → List ℕ → Layout
 sections_layout verbose before end = record { first = titled_lines verbose before; next = λ shown e. title_line_after (last_kind before shown) e.verdict.kind; last = end }
 
@@ -107,17 +111,17 @@ printable_moment moment = min moment latest_moment_millis
 abbrev pub IsDateOf : ℕ → Date → Type 0
 IsDateOf moment date = epoch_day date ≡ pos (printable_moment moment / 86400000)
 
--- `time_of_day_bytes millis`: the bytes of the time of day that is `millis` milliseconds after
--- midnight.
+-- `time_of_day_bytes millis`: the time of day that is `millis` milliseconds after midnight, in the
+-- form `22:13:20.123`.
 abbrev pub time_of_day_bytes : ℕ → List ℕ
 time_of_day_bytes millis = two_digits (millis / 3600000) ++ codes ":" ++ two_digits (millis / 60000 % 60) ++ codes ":" ++ two_digits (millis / 1000 % 60) ++ codes "." ++ three_digits (millis % 1000)
 
--- `date_bytes date`: the bytes of the date `date`, with four digits for its year.
+-- `date_bytes date`: the date `date` in the form `2023-11-14`.
 abbrev pub date_bytes : Date → List ℕ
 date_bytes date = four_digits (unsigned_abs date.year) ++ codes "-" ++ two_digits date.month ++ codes "-" ++ two_digits date.day
 
 -- `moment_bytes date moment`: the bytes that are printed for the timestamp `moment`, whose date is
--- `date`.
+-- `date`, in the form `2023-11-14T22:13:20.123Z`.
 abbrev pub moment_bytes : Date → ℕ → List ℕ
 moment_bytes date moment = date_bytes date ++ codes "T" ++ time_of_day_bytes (printable_moment moment % 86400000) ++ codes "Z"
 
@@ -126,18 +130,18 @@ abbrev pub unfinished_bytes : Bool → List ℕ
 unfinished_bytes true = []
 unfinished_bytes false = codes ", unfinished"
 
--- `kind_count_bytes kind entries`: the number of `entries` whose verdicts are of the kind `kind`, in
--- decimal.
+-- `kind_count_bytes kind entries`: the number of `entries` whose verdicts are of the kind `kind`,
+-- in decimal.
 abbrev pub kind_count_bytes : Kind → List Entry → List ℕ
 kind_count_bytes kind entries = decimal (length (entries_of kind entries))
 
 -- `summary_title_bytes date run`: the title of the summary, the number of `run` and the timestamp
--- of its start, whose date is `date`. A note follows if the run is not finished.
+-- of its start, whose date is `date`. The text `, unfinished` follows if the run is not finished.
 abbrev pub summary_title_bytes : Date → Run → List ℕ
 summary_title_bytes date run = codes "===> Summary\nRun " ++ decimal run.number ++ codes ", started " ++ moment_bytes date run.started ++ unfinished_bytes run.finished
 
--- `totals_bytes entries`: the number of `entries`, and the number of entries of each kind except
--- `passed`.
+-- `totals_bytes entries`: the number of `entries`, and the number of entries of each kind of
+-- verdict except `passed`.
 abbrev pub totals_bytes : List Entry → List ℕ
 totals_bytes entries =
     codes "\nTest cases: " ++ decimal (length entries) ++ codes " total, " ++ kind_count_bytes Skipped entries ++ codes " skipped, " ++ kind_count_bytes ExpectedFailure entries ++ codes " expected failures, "
@@ -149,13 +153,13 @@ abbrev pub summary : Date → Run → List ℕ
 summary date run = summary_title_bytes date run ++ totals_bytes run.entries ++ codes "Total time: " ++ seconds (sum_by (λ e. e.millis) run.entries) ++ codes "s\n"
 
 -- `text_bytes date kinds verbose run`: the text report of `run`: the sections of the chosen kinds
--- `kinds` and the summary. `date` is the date of the start. If `verbose` is true, the sections have
--- the properties of each case.
+-- `kinds` and the summary. `date` is the date of the run's start. If `verbose` is true, the
+-- sections have the properties of each case.
 abbrev pub text_bytes : Date → List Kind → Bool → Run → List ℕ
 text_bytes date kinds verbose run = sections verbose kinds run.entries ++ summary date run
 
--- `text_layout date verbose run`: the bytes of the text report of `run`, as functions of the
--- entries that were read so far. `date` is the date of the start. If `verbose` is true, the
--- sections have the properties of each case.
+-- `text_layout date verbose run`: the `Layout` of the text report of `run`: its bytes as functions
+-- of the entries that were read so far. `date` is the date of the run's start. If `verbose` is
+-- true, the sections have the properties of each case.
 abbrev pub text_layout : Date → Bool → Run → Layout
 text_layout date verbose run = sections_layout verbose None (summary date run)

@@ -2,15 +2,15 @@ use kt_base::Text;
 
 /// A test case's texts in the JUnit report, escaped for XML.
 pub struct CaseTexts {
-    /// The path of the test program.
+    /// The path of the test program, relative to the directory of the root Kyuafile.
     pub program: Text,
     /// The name of the test case.
     pub case_name: Text,
     /// The reason of the verdict.
     pub reason: Text,
-    /// The standard output of the body, then of the cleanup.
+    /// The standard output of the body, followed by that of the cleanup.
     pub out: Text,
-    /// The standard error of the body, then of the cleanup.
+    /// The standard error of the body, followed by that of the cleanup.
     pub err: Text,
 }
 

@@ -16,7 +16,7 @@ pub trait Details {
     ghost use Rattle.kt_base.specs.declared.entry.Entry.{Entry};
     ghost use Rattle.kt_report.specs.Details.{with_outputs_read, with_pairs_read};
 
-    /// The error of a failed read.
+    /// The error of a failed read of properties or outputs.
     type Fault: Copy;
 
     /// Specification of a read of properties. `reads_pairs old entry result new`: the read leads

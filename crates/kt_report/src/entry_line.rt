@@ -20,7 +20,7 @@ fn write_reason<W: Write>(verdict: &Verdict, out: &mut W) -> Result<(), OutputFa
     }
 }
 
-/// Writes the line of `entry` in the output of `test` and in the text report (this profile).
+/// Writes the line that `kyua test` and the text report print for `entry` (this profile).
 ///
 /// The line has the program and the case, the kind and the reason of the verdict, and the duration
 /// in seconds.

@@ -6,8 +6,10 @@ use crate::case_texts::CaseTexts;
 use kt_base::{Bytes, Entry, NoMemory, Output, Text, lossy};
 use std::alloc::Global;
 
-/// Appends `c` to `text`, escaped for an XML attribute if `attribute` is `true`, otherwise for
-/// content.
+/// Appends the character `c` to `text`, escaped for an XML attribute if `attribute` is `true`, and
+/// otherwise for the content of an element.
+///
+/// A character that XML doesn't allow becomes a question mark.
 #[tactic(auto, unfolding(crate::proofs::Common::chars))]
 fn push_escaped_char(text: &mut Text, attribute: bool, c: char) -> Result<(), NoMemory>
     ensures { OnOk result (text.new ≡ text.old ++ escaped attribute c) }
@@ -29,8 +31,8 @@ fn push_escaped_char(text: &mut Text, attribute: bool, c: char) -> Result<(), No
 /// Returns `true` if `byte`, a byte of UTF-8, is written to XML unchanged.
 ///
 /// `attribute` is `true` for an attribute, and `false` for content. The result is `false` for byte
-/// 239, the first byte of U+FFFE and U+FFFF. The code has no branch, so that the compiler tests
-/// many bytes at once.
+/// 239, with which U+FFFE and U+FFFF begin. The code has no branch, so that the compiler tests many
+/// bytes at once.
 fn is_unescaped(attribute: bool, byte: u8) -> bool
     ensures { result ≡ bytes_eq (escaped attribute byte) (byte ∷ []) && not (byte == 239) }
 {
@@ -54,10 +56,10 @@ fn are_unescaped(attribute: bool, bytes: &[u8; 32]) -> bool
     all
 }
 
-/// Returns the number of leading bytes of `text` that are written to XML unchanged
-/// (`is_unescaped`).
+/// Returns the number of leading bytes of `text` that are written to XML unchanged.
 ///
-/// `attribute` is `true` for an attribute, and `false` for content.
+/// The bytes are tested one by one, by `is_unescaped`. `attribute` is `true` for an attribute, and
+/// `false` for content.
 fn count_unescaped_bytes(attribute: bool, text: &[u8]) -> usize
     ensures length { result ≡ prefix_len
         (λ b. bytes_eq (escaped attribute b) (b ∷ []) && not (b == 239)) text.now }
@@ -68,11 +70,11 @@ fn count_unescaped_bytes(attribute: bool, text: &[u8]) -> usize
         .count()
 }
 
-/// Returns the number of leading bytes of `text` that are written to XML unchanged
-/// (`is_unescaped`).
+/// Returns the number of leading bytes of `text` that are written to XML unchanged.
 ///
 /// `attribute` is `true` for an attribute, and `false` for content. Chunks of 32 unchanged bytes
-/// are tested at once, and the bytes after the last such chunk one by one.
+/// are tested at once, and the bytes after the last such chunk one by one. `is_unescaped` decides
+/// for each byte.
 fn unescaped_length(attribute: bool, text: &[u8]) -> usize
     ensures { result ≡ prefix_len
         (λ b. bytes_eq (escaped attribute b) (b ∷ []) && not (b == 239)) text.now }
@@ -89,8 +91,8 @@ fn unescaped_length(attribute: bool, text: &[u8]) -> usize
     length + count_unescaped_bytes(attribute, rest)
 }
 
-/// Appends `text` to `escaped`, escaped for an XML attribute if `attribute` is `true`, otherwise
-/// for content.
+/// Appends `text` to `escaped`, escaped for an XML attribute if `attribute` is `true`, and
+/// otherwise for the content of an element.
 ///
 /// Consecutive bytes that need no escape are copied at once.
 fn push_escaped_text(escaped: &mut Text, attribute: bool, text: &str) -> Result<(), NoMemory>
@@ -134,9 +136,8 @@ fn push_escaped_output(alloc: Global, escaped: &mut Text, bytes: &[u8]) -> Resul
     }
 }
 
-/// Joins `body` and `cleanup`, the outputs of a body and of its cleanup, and escapes them for XML.
-///
-/// The escapes are those for content.
+/// Joins `body` and `cleanup`, the outputs of a body and of its cleanup, and escapes them for the
+/// content of an XML element.
 fn escape_outputs(alloc: Global, body: &Bytes, cleanup: &Bytes) -> Result<Text, NoMemory>
     ensures { IfOk result (λ t. t ≡ escaped_text false (lossy body.now ++ lossy cleanup.now)) }
 {

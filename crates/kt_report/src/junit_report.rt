@@ -99,9 +99,11 @@ fn write_heading<W: Write>(run: &Run, out: &mut W) -> Result<(), OutputFault>
     )
 }
 
-/// Writes the element of `entry` in the JUnit report, with the outputs `body` and `cleanup`.
+/// Writes the `testcase` element of `entry` in the JUnit report, with the outputs `body` and
+/// `cleanup`.
 ///
-/// `body` is the output of the case's body, and `cleanup` is that of its cleanup.
+/// `body` is the output of the case's body, and `cleanup` is that of its cleanup. The outputs in
+/// `entry` itself are not written.
 fn write_with_details<W: Write>(
     alloc: Global,
     entry: &Entry,
@@ -117,7 +119,10 @@ fn write_with_details<W: Write>(
     Ok(())
 }
 
-/// Writes the element of `entry` in the JUnit report, with the outputs that `details` reads.
+/// Writes the `testcase` element of `entry` in the JUnit report, with the outputs that `details`
+/// reads.
+///
+/// If `details` returns `None`, the outputs in `entry` are written.
 fn write_case<D: Details, W: Write>(
     alloc: Global,
     entry: &Entry,
@@ -141,9 +146,9 @@ fn write_case<D: Details, W: Write>(
 /// Writes the JUnit report of `run`, with the outputs that `details` reads for each entry (this
 /// profile).
 ///
-/// The test suite has a case for each recorded entry, by position. The outputs in an entry of `run`
-/// are written only if `details` returns `None` for it. The outputs of an entry are read just
-/// before its case is written, and the texts of one entry at a time are allocated.
+/// The test suite has a case for each recorded entry, in the order of the entries. The outputs in
+/// an entry of `run` are written only if `details` returns `None` for it. The outputs of an entry
+/// are read just before its case is written. Only the texts of one entry at a time are in memory.
 ///
 /// # Errors
 ///

@@ -34,7 +34,8 @@ pub fn four_digits(n: u64) -> [u8; 4]
     [digit(n / 1000), digit(n / 100), digit(n / 10), digit(n)]
 }
 
-/// Writes a duration of `millis` milliseconds in seconds, with three digits after the point.
+/// Writes a duration of `millis` milliseconds as a number of seconds, with three digits after the
+/// point.
 ///
 /// # Errors
 ///
@@ -98,7 +99,7 @@ fn write_date<W: Write>(date: Date, out: &mut W) -> Result<(), OutputFault>
     emit_all(&[&year, b"-", &month, b"-", &day], out)
 }
 
-/// Writes the timestamp `moment`, whose date is `date`, as `2023-11-14T22:13:20.123Z`.
+/// Writes the timestamp `moment`, whose date is `date`, in the form `2023-11-14T22:13:20.123Z`.
 ///
 /// `moment` is in milliseconds since 1970 in UTC. For a timestamp after the year 9999, the last
 /// timestamp of that year is written.

@@ -5,7 +5,8 @@ use crate::{Details, WriteReportError, line};
 use kt_base::{Entry, OutputFault, Variable, Variables, emit, emit_all};
 use std::io::Write;
 
-/// Returns the byte that is printed for `byte` in a value: `?` for a byte below 32, else `byte`.
+/// Returns the byte that is printed for `byte` in the value of a property: `?` for a byte below 32,
+/// else `byte`.
 fn printable_byte(byte: u8) -> u8
     ensures { result ≡ printable_byte byte }
 {
@@ -33,7 +34,7 @@ fn write_property<W: Write>(pair: &Variable, out: &mut W) -> Result<(), OutputFa
     emit(b"\n", out)
 }
 
-/// Writes the line of each property in `pairs`.
+/// Writes a line for each property in `pairs`: its name and its value.
 fn write_properties<W: Write>(pairs: &[Variable], out: &mut W) -> Result<(), OutputFault>
     ensures { Emits (W.contents out.old) (W.contents out.new) (is_err result)
         (flat_map pair_bytes pairs.now) }
@@ -87,7 +88,7 @@ fn write_verbose_entry<D: Details, W: Write>(
 /// # Errors
 ///
 /// - `Details`: the read fails. Nothing was written.
-/// - `Report`: a write fails.
+/// - `Report`: a write fails. A proper prefix of the lines was written.
 pub fn write_entry<D: Details, W: Write>(
     verbose: bool,
     entry: &Entry,

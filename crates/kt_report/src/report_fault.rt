@@ -4,7 +4,7 @@ ghost use Rattle.kt_report.specs.declared.report_fault.ReportFault.TheVariants a
 use kt_base::{NoMemory, OutputFault};
 use thiserror::Error;
 
-/// Errors returned by [`junit`].
+/// Errors returned by [`junit`], and contained in the errors of `write_junit_report`.
 ///
 /// If an error is returned, a proper prefix of the report was written. Each error contains its
 /// cause, a failed allocation or a failed write.

@@ -6,7 +6,7 @@ use crate::{Details, WriteReportError};
 use kt_base::{Entry, Kind, OutputFault, emit_all};
 use std::io::Write;
 
-/// The kinds in the order of their sections in the text report.
+/// The kinds of verdicts, in the order of their sections in the text report.
 const SECTION_ORDER: [Kind; 5] = [
     Kind::Passed,
     Kind::Skipped,
@@ -15,7 +15,7 @@ const SECTION_ORDER: [Kind; 5] = [
     Kind::Failed,
 ];
 
-/// Returns the kinds in the order of their sections in the text report.
+/// Returns the kinds of verdicts, in the order of their sections in the text report.
 fn section_order() -> &'static [Kind]
     ensures { result.now ≡ order }
 {
@@ -29,7 +29,8 @@ fn is_same_kind(kind: Kind, other: Kind) -> bool
     kind == other
 }
 
-/// Returns `true` if `kind` is one of the chosen kinds, `kinds`.
+/// Returns `true` if `kind` is one of `kinds`, the kinds of verdicts that are chosen for the
+/// report.
 fn is_chosen(kinds: &[Kind], kind: Kind) -> bool
     ensures { result ≡ list_any (is_same_kind kind) kinds.now }
 {
@@ -66,7 +67,7 @@ fn title(kind: Kind) -> &'static [u8]
 /// before.
 ///
 /// `before` is the kind of the preceding entry, or `None` for the first entry. The title was
-/// written before if it is `kind`.
+/// written before if `before` is `kind`.
 fn write_title<W: Write>(before: Option<Kind>, kind: Kind, out: &mut W) -> Result<(), OutputFault>
     ensures { Emits (W.contents out.old) (W.contents out.new) (is_err result)
         (title_line_after before kind) }
@@ -77,11 +78,11 @@ fn write_title<W: Write>(before: Option<Kind>, kind: Kind, out: &mut W) -> Resul
     }
 }
 
-/// Writes `entry` in the text report, and returns the kind of its verdict.
+/// Writes the lines of `entry` in the text report, and returns the kind of its verdict.
 ///
 /// If `verbose` is `true`, the properties that `details` reads follow the line of the entry.
-/// `before` is the kind of the preceding entry. A title precedes the line if the kind of the entry
-/// differs from `before`.
+/// `before` is the kind of the preceding entry, if any. If the kind of the entry differs from
+/// `before`, the title of its section precedes the line.
 fn write_titled_entry<D: Details, W: Write>(
     verbose: bool,
     before: Option<Kind>,
@@ -103,7 +104,8 @@ fn write_titled_entry<D: Details, W: Write>(
 ///
 /// The section has those of `entries` whose verdict is of the kind `kind`. If `verbose` is `true`,
 /// the properties that `details` reads follow the line of each entry. `before` is the kind of the
-/// preceding entry. Returns the kind of the last written entry, or `before` if nothing is written.
+/// preceding entry, if any. Returns the kind of the last written entry, or `before` if nothing is
+/// written.
 fn write_section<D: Details, W: Write>(
     verbose: bool,
     kinds: &[Kind],
@@ -130,17 +132,18 @@ fn write_section<D: Details, W: Write>(
     Ok(last)
 }
 
-/// Writes the sections of the chosen `kinds`, and returns the kind of the last written entry.
+/// Writes the sections of the text report for the chosen `kinds`, and returns the kind of the last
+/// written entry.
 ///
-/// The sections contain `entries`, and are in the order of `section_order`. If `verbose` is
-/// `true`, the properties that `details` reads follow the line of each entry. The result is `None`
-/// if nothing is written.
+/// The sections contain `entries`, and are in the order of `section_order`. If `verbose` is `true`,
+/// the properties that `details` reads follow the line of each entry. The result is `None` if
+/// nothing is written.
 ///
 /// # Errors
 ///
 /// - `Details`: reading the properties of an entry fails. The entries before this entry and the
 ///   title of its section were written.
-/// - `Report`: a write fails.
+/// - `Report`: a write fails. A proper prefix of the sections was written.
 pub fn write_sections<D: Details, W: Write>(
     verbose: bool,
     kinds: &[Kind],

@@ -36,7 +36,8 @@ fn write_unfinished_note<W: Write>(finished: bool, out: &mut W) -> Result<(), Ou
     emit(b", unfinished", out)
 }
 
-/// Writes the title of the summary, the number of the run and the timestamp of its start.
+/// Writes the title of the text report's summary, the number of the run and the timestamp of its
+/// start.
 ///
 /// `date` is the date of the start. If the run is not finished, `, unfinished` follows.
 fn write_summary_title<W: Write>(date: Date, run: &Run, out: &mut W) -> Result<(), OutputFault>
@@ -52,7 +53,8 @@ fn write_summary_title<W: Write>(date: Date, run: &Run, out: &mut W) -> Result<(
     write_unfinished_note(run.finished, out)
 }
 
-/// Writes the number of `entries`, and the numbers of those with each kind of verdict but `passed`.
+/// Writes the number of `entries`, and the number of entries of each kind of verdict except
+/// `passed`.
 fn write_counts<W: Write>(entries: &[Entry], out: &mut W) -> Result<(), OutputFault>
     ensures { Emits (W.contents out.old) (W.contents out.new) (is_err result)
         (totals_bytes entries.now) }
@@ -86,7 +88,7 @@ fn write_counts<W: Write>(entries: &[Entry], out: &mut W) -> Result<(), OutputFa
 ///
 /// # Errors
 ///
-/// - `OutputFault`: a write fails.
+/// - `OutputFault`: a write fails. A proper prefix of the summary was written.
 pub fn write_summary<W: Write>(date: Date, run: &Run, out: &mut W) -> Result<(), OutputFault>
     ensures { Emits (W.contents out.old) (W.contents out.new) (is_err result)
         (summary date run.now) }

@@ -45,8 +45,8 @@ pub fn write_text_report<D: Details, W: Write>(
 
 /// Writes the text report of `run` with the properties that its entries have (this profile).
 ///
-/// [`write_text_report`] describes the report, with its `kinds` and `verbose`. The function doesn't
-/// allocate.
+/// The sections are those of the chosen `kinds`. Their entries have properties if `verbose` is
+/// `true`. [`write_text_report`] describes the report. The function doesn't allocate.
 ///
 /// # Errors
 ///
@@ -70,9 +70,10 @@ pub fn text<W: Write>(
 
 /// Theorem: a report doesn't depend on the parts of entries that it doesn't contain.
 ///
-/// The text report and the heading of the JUnit report don't depend on the outputs of entries. The
-/// JUnit report, and the text report without `verbose`, don't depend on the properties that cases
-/// declare.
+/// The text report and the heading of the JUnit report don't depend on the outputs of entries. A
+/// case of the JUnit report that is written with given outputs doesn't depend on those in its
+/// entry. The JUnit report, and the text report without `verbose`, don't depend on the properties
+/// that cases declare.
 pub fn theorem_of_hidden_parts()
     ensures text { (change : Entry → Entry) (date : Date) (kinds : List Kind) (verbose : Bool)
         (run : Run) → ChangesHiddenParts verbose change
