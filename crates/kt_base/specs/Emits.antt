@@ -3,8 +3,8 @@ use Rattle.std.specs.Prelude.{ℕ, Bool, true, false, List, [], ◌∷◌, ◌++
 use Rattle.std.specs.Io.KnownBytes.{Appends}
 
 -- `AppendsText old new failed text`: a writer's contents `new` are its contents `old` with bytes
--- appended: all bytes of `text`, or a proper prefix of `text` if `failed` is true. If `old` is
--- unknown, `new` can be anything.
+-- appended. If `failed` is false, these are all bytes of `text`. If `failed` is true, they are a
+-- proper prefix of `text`. If `old` is unknown, `new` can be anything.
 abbrev pub AppendsText : Option (List ℕ) → Option (List ℕ) → Bool → List ℕ → Type 0
 AppendsText old new false text = Appends old new text
 AppendsText old new true text = (front rest : List ℕ) × (next : ℕ) × (text ≡ front ++ next ∷ rest) × Appends old new front

@@ -9,7 +9,7 @@ abbrev pub front : List ℕ → ℕ → Option (List ℕ)
 front bytes n = if nat_le n (length bytes) && is_utf8 (take n bytes) then Some (take n bytes) else None
 
 -- `first bytes`: the encoding of the character at the beginning of `bytes`: the shortest prefix of
--- 1 to 4 bytes that is valid UTF-8. Nothing if no character begins there.
+-- 1 to 4 bytes that is valid UTF-8. Nothing if `bytes` does not begin with a well-formed character.
 unfoldable pub first : List ℕ → Option (List ℕ)
 first bytes = option_or (front bytes 1) (option_or (front bytes 2) (option_or (front bytes 3) (front bytes 4)))
 
@@ -19,8 +19,8 @@ abbrev pub decoded_character : Option (List ℕ) → List ℕ
 decoded_character None = 65533 ∷ []
 decoded_character (Some bytes) = chars bytes
 
--- `further found`: the number of bytes after the first byte in a character's encoding `found`, or 0
--- if `found` is absent.
+-- `further found`: the number of bytes after the first byte of `found`, the encoding of a
+-- character. It is 0 if `found` is absent.
 abbrev pub further : Option (List ℕ) → ℕ
 further None = 0
 further (Some bytes) = length bytes - 1
@@ -33,6 +33,6 @@ lossy_from zero (b ∷ bytes) = decoded_character (first (b ∷ bytes)) ++ lossy
 lossy_from (suc n) (b ∷ bytes) = lossy_from n bytes
 
 -- `lossy bytes`: the text that `bytes` are decoded to, from left to right: each well-formed
--- character, and U+FFFD for each byte where no character begins.
+-- character, and U+FFFD for each byte that is not part of one.
 abbrev pub lossy : List ℕ → List ℕ
 lossy bytes = lossy_from 0 bytes

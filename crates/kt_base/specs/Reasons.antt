@@ -11,7 +11,7 @@ use Rattle.kt_base.specs.declared.failed_start.Refused.{Refused}
 use Rattle.kt_base.specs.declared.failed_start.Refused.TheVariants.{Directory, Output, Spawn, Memory}
 use Rattle.kt_base.specs.Phrases.{phrase_text}
 
--- `core_dump_text core`: the text after the number of a signal: a remark on the core dump if `core`
+-- `core_dump_text core`: the text that follows the number of a signal: ` (core dumped)` if `core`
 -- is true, otherwise an empty text.
 abbrev pub core_dump_text : Bool → List ℕ
 core_dump_text false = []
@@ -42,8 +42,8 @@ reason_text (Ended phrase ending) = phrase_text phrase ++ outcome_text ending
 reason_text (Counted phrase m n) = counted_text phrase m n
 reason_text (Owned text) = text
 
--- `refused_reason cause`: the reason of a `broken` verdict for a failed start with the cause
--- `cause`.
+-- `refused_reason cause`: the reason of the `broken` verdict on a case that could not be started or
+-- listed for the cause `cause`.
 abbrev pub refused_reason : Refused → Reason
 refused_reason Directory = Fixed NoDirectory
 refused_reason Output = Fixed NoOutput

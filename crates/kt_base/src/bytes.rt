@@ -12,7 +12,7 @@ pub struct Bytes {
     bytes: Vec<u8>,
 }
 
-/// A manual impl, so that the prover handles each drop as one call.
+/// A manual impl instead of `#[derive(Drop)]`, so that the prover handles each drop as one call.
 impl Drop for Bytes {
     fn drop(self) {
         let Bytes { bytes: _ } = self;

@@ -5,7 +5,8 @@ pub enum Interface {
     Atf,
     /// The Test Anything Protocol (TAP), on standard output.
     Tap,
-    /// A plain program: only the outcome of its process counts, such as the exit status.
+    /// A plain program: only the outcome of its process, such as the exit status, decides the
+    /// verdict.
     Plain,
 }
 

@@ -10,7 +10,7 @@ use std::marker::Model;
 /// contracts, a `Decimal` is the list of the digits' bytes.
 #[derive(Drop)]
 pub struct Decimal {
-    /// The bytes of the buffer. The digits are at the end of the buffer.
+    /// The digits in ASCII, at the end of the buffer. The bytes before them are not used.
     buffer: [u8; 40],
     /// The index of the first digit in the buffer, at most 40.
     start: usize,

@@ -7,9 +7,9 @@ pub const LATEST_MOMENT_MILLIS: u64 = 253_402_300_799_999;
 /// The recorded output of a child process.
 #[derive(Drop)]
 pub struct Output {
-    /// The recorded bytes of standard output, at most 1,048,576.
+    /// The recorded bytes of the child's standard output, at most 1,048,576.
     pub out: Bytes,
-    /// The recorded bytes of standard error, at most 1,048,576.
+    /// The recorded bytes of the child's standard error, at most 1,048,576.
     pub err: Bytes,
 }
 
@@ -25,7 +25,8 @@ pub struct Entry {
     pub verdict: Verdict,
     /// The start time of the body, in milliseconds since 1970 in UTC.
     ///
-    /// The time is 0 if the body was not started, or if the clock failed at its start.
+    /// The time is 0 if the body was not started. It is also 0 if the clock failed at the start of
+    /// the body, or reported a time after the year 9999.
     pub started: u64,
     /// The time from the start of the body to the end of the case, in milliseconds.
     ///
@@ -36,11 +37,11 @@ pub struct Entry {
     pub body: Output,
     /// The output of the cleanup. Both streams are empty if no cleanup was started.
     pub cleanup: Output,
-    /// The properties of the case: their names and values.
+    /// The metadata of the case: the names and values of its properties, such as `timeout`.
     pub meta: Variables,
 }
 
-/// A manual impl, so that the prover handles each drop as one call.
+/// A manual impl instead of `#[derive(Drop)]`, so that the prover handles each drop as one call.
 impl Drop for Entry {
     fn drop(self) {
         let Entry {
@@ -62,9 +63,10 @@ impl Drop for Entry {
 pub struct Run {
     /// The number of the run, counted from 1.
     pub number: u64,
-    /// The start time of the run, in milliseconds since 1970 in UTC.
+    /// The start time of the run, in milliseconds since 1970 in UTC, or 0 if the clock failed or
+    /// its time was out of range.
     pub started: u64,
-    /// The number of selected cases.
+    /// The number of test cases that were selected for the run.
     pub total: u32,
     /// `true` if the run is finished: each selected case has an entry.
     pub finished: bool,

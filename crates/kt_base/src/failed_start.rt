@@ -17,7 +17,8 @@ impl Refused {
     ghost use Rattle.std.specs.Prelude.{◌≡◌};
     ghost use Rattle.kt_base.specs.Common.{refused_reason};
 
-    /// Returns the reason of a `broken` verdict for a failed start with this cause.
+    /// Returns the reason of the `broken` verdict on a case that could not be started or listed for
+    /// this cause.
     pub fn reason(self) -> Reason
         ensures { result ≡ refused_reason self }
     {

@@ -12,7 +12,7 @@ pub struct Items<T> {
     items: Vec<T>,
 }
 
-/// A manual impl, so that the prover handles each drop as one call.
+/// A manual impl instead of `#[derive(Drop)]`, so that the prover handles each drop as one call.
 impl<T: Drop> Drop for Items<T> {
     fn drop(self) {
         let Items { items: _ } = self;

@@ -1,16 +1,18 @@
 ghost use Rattle.std.specs.Prelude.{◌≡◌, ℕ, List, [], ◌∷◌, ◌++◌, None, IsSome};
 ghost use Rattle.kt_base.specs.Common.{Variable, value_of, last_values, Replaces};
 
-/// Theorem: code can compute the last values of a list of pairs one pair at a time.
+/// Theorem: `last_values` gives each name the value of its last pair, and changes by one pair for
+/// each appended pair.
 ///
-/// The last values are one pair for each name in the list, with the last value of the name. If a
-/// pair is appended to the list, it replaces the pair of the same name in the last values. Without
-/// such a pair, it is appended to them.
+/// The last values of a list contain one pair for each name in the list. If a pair is appended to
+/// the list, it replaces the pair with its name in the last values. If no pair has its name, the
+/// appended pair is also appended to the last values.
 pub fn theorem_of_last_values()
     ensures value { (name : List ℕ) → (pairs : List Variable)
         → value_of name (last_values pairs) ≡ value_of name pairs }
 
-    // An added pair replaces the pair of the same name. Without such a pair, it is appended.
+    // In the last values, an appended pair replaces the pair with its name. If no pair has its
+    // name, it is appended.
     ensures replaced { (pairs : List Variable) → (pair : Variable)
         → IsSome (value_of pair.name pairs)
         → Replaces pair (last_values pairs) (last_values (pairs ++ pair ∷ [])) }

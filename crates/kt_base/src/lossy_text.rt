@@ -37,9 +37,7 @@ fn push_utf8_chunk<'a>(text: &mut Text, bytes: &'a [u8]) -> Result<&'a [u8], NoM
     }
 }
 
-/// Decodes `bytes` as UTF-8, with U+FFFD for each byte where no well-formed character begins.
-///
-/// Decoding goes from left to right and copies each well-formed character.
+/// Decodes `bytes` as UTF-8, with U+FFFD for each byte that is not part of a well-formed character.
 ///
 /// # Errors
 ///

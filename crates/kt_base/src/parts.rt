@@ -6,7 +6,7 @@ impl ReasonParts<'_> {
     ghost use Rattle.std.specs.Prelude.{◌≡◌, ◌++◌, OnOk, OnErr, is_err};
     ghost use Rattle.kt_base.specs.Common.{chars, parts_text, phrase_text, counted_text, outcome_text, Emits, utf8};
 
-    /// Creates the parts of a reason's text that consists of `head` alone, without numbers.
+    /// Creates the parts of a reason whose text is `head` alone, without numbers.
     pub fn words(head: &str) -> ReasonParts<'_>
         ensures { parts_text result ≡ chars head.now }
     {

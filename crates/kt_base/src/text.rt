@@ -19,7 +19,7 @@ pub struct Text {
     string: String,
 }
 
-/// A manual impl, so that the prover handles each drop as one call.
+/// A manual impl instead of `#[derive(Drop)]`, so that the prover handles each drop as one call.
 impl Drop for Text {
     fn drop(self) {
         let Text { string: _ } = self;

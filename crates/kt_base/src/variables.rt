@@ -17,7 +17,7 @@ pub struct Variables {
     shared: Option<Rc<Vec<Variable>>>,
 }
 
-/// A manual impl, so that the prover handles each drop as one call.
+/// A manual impl instead of `#[derive(Drop)]`, so that the prover handles each drop as one call.
 impl Drop for Variables {
     fn drop(self) {
         let Variables { own: _, shared: _ } = self;

@@ -8,16 +8,16 @@ pub enum Reason {
     Nothing,
     /// A fixed message, such as `Test case timed out`.
     Fixed(Phrase),
-    /// A fixed message, followed by an exit status or a signal.
+    /// A fixed message, followed by the exit status or signal in the outcome, if it has one.
     Ended(Phrase, Outcome),
     /// A fixed message and two numbers. A message with one number contains the first and ignores
     /// the second.
     Counted(Phrase, u64, u64),
-    /// A text of the test program, or a message that contains names.
+    /// A text that is not fixed, such as a reason that the test program reported.
     Owned(Text),
 }
 
-/// A manual impl, so that the prover handles each drop as one call.
+/// A manual impl instead of `#[derive(Drop)]`, so that the prover handles each drop as one call.
 impl Drop for Reason {
     fn drop(self) {
         match self {
