@@ -33,7 +33,7 @@ closing (c ∷ cs) =
       ]
     ]
 
--- a text that begins with `--` begins with a comment or a broken token
+-- a text that begins with `--` begins with a comment or an invalid token
 comment_first : (text : List ℕ) → BlankFirst (45 ∷ 45 ∷ text) ⊎ WordFirst (45 ∷ 45 ∷ text)
 comment_first text =
     elim (cases_Bool (opens_long_comment text)) [

@@ -14,14 +14,14 @@ IfFault (Err fault) P = P fault
 abbrev pub IsScriptPrefix : List Token → Type 0
 IsScriptPrefix ts = (more : List Token) × (stmts : List Stmt) × Script (ts ++ more) stmts
 
--- `token_kind_fault line kind`: the fault of a script that has a token of the kind `kind` on the
--- line `line`, where the grammar does not allow the token.
+-- `token_kind_fault line kind`: the fault of a script in which the grammar does not allow a token
+-- of the kind `kind` on the line `line`.
 abbrev pub token_kind_fault : ℕ → TokenKind → ScriptFault
 token_kind_fault line (Broken Bad) = BadToken line
 token_kind_fault line (Broken Unterminated) = Unclosed line
 token_kind_fault line _ = NotLiteral line
 
--- `fault_of t`: the fault of a script that has the token `t` where the grammar does not allow it.
+-- `fault_of t`: the fault of a script in which the grammar does not allow the token `t`.
 abbrev pub fault_of : Token → ScriptFault
 fault_of t = token_kind_fault t.line t.kind
 
@@ -69,7 +69,7 @@ end_fault None line = NotLiteral line
 end_fault (Some bracket) line = Unclosed bracket
 
 -- `HasUnfinishedStatement ts fault`: the tokens `ts` end within a statement, and `fault` is the
--- fault of a script that ends there.
+-- fault of a script with this end.
 pub record HasUnfinishedStatement (ts : List Token) (fault : ScriptFault) : Type 0 where
   pub whole : List Token
   pub begun : List Token

@@ -6,8 +6,8 @@ use Rattle.kt_base.specs.Characters.{is_space}
 use Rattle.kt_base.specs.Digits.{is_digit, decimal_from}
 use Rattle.kt_script.specs.Letters.{is_name_start, is_name_byte, is_plain, escape_of}
 
--- `punctuation_kind_of c`: the kind of the punctuation token with the byte `c`, or nothing if `c`
--- is not one of `( ) { } [ ] = , ; .`
+-- `punctuation_kind_of c`: the kind of the punctuation token that consists of the byte `c`, or
+-- nothing if `c` is not one of `( ) { } [ ] = , ; .`
 abbrev pub punctuation_kind_of : ℕ → Option TokenKind
 punctuation_kind_of c =
     if c == 40 then Some OpenParen else if c == 41 then Some CloseParen
@@ -36,12 +36,12 @@ abbrev pub line_at_end : ℕ → List ℕ → ℕ
 line_at_end line [] = line
 line_at_end line (c ∷ cs) = line_at_end (line_after line c) cs
 
--- `AllSatisfy p bytes`: each of the bytes `bytes` satisfies the test `p`.
+-- `AllSatisfy p bytes`: each of the bytes `bytes` satisfies the predicate `p`.
 abbrev pub AllSatisfy : (ℕ → Bool) → List ℕ → Type 0
 AllSatisfy p [] = Unit {0}
 AllSatisfy p (c ∷ cs) = (p c ≡ true) × AllSatisfy p cs
 
--- `StopsAt p bytes`: `bytes` are empty, or the first byte does not satisfy the test `p`.
+-- `StopsAt p bytes`: `bytes` are empty, or the first byte does not satisfy the predicate `p`.
 abbrev pub StopsAt : (ℕ → Bool) → List ℕ → Type 0
 StopsAt p [] = Unit {0}
 StopsAt p (c ∷ cs) = p c ≡ false
@@ -103,8 +103,8 @@ pub record IsInvalidFirstByte (c : ℕ) : Type 0 where
   pub no_dash : c == 45 ≡ false
   pub no_mark : punctuation_kind_of c ≡ None
 
--- `HasFlaw text flaw`: `text` begins with no white space, comment or token of this profile, for the
--- reason `flaw`. The whole of `text` is then a broken token.
+-- `HasFlaw text flaw`: `text` does not begin with white space, a comment or a token of this
+-- profile, for the reason `flaw`. All of `text` is then an invalid token.
 pub data HasFlaw : List ℕ → Flaw → Type 0 where
   large_number : (c : ℕ) (cs after : List ℕ) → AllSatisfy is_digit (c ∷ cs) → StopsAt is_digit after → 2 ^ 64 ≤ decimal_from 0 (c ∷ cs) → HasFlaw ((c ∷ cs) ++ after) Bad
   lettered_number : (c d : ℕ) (cs after : List ℕ) → AllSatisfy is_digit (c ∷ cs) → is_name_start d ≡ true → HasFlaw ((c ∷ cs) ++ d ∷ after) Bad

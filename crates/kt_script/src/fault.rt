@@ -6,8 +6,8 @@ use thiserror::Error;
 
 /// Errors returned by [`parse`](crate::parse).
 ///
-/// A number is a line, counted from 1: the line of the faulty token, of the unclosed bracket or of
-/// the unfinished statement.
+/// The number in an error is a line, counted from 1: the line of the faulty token, of the unclosed
+/// bracket or of the unfinished statement.
 #[derive(Clone, Copy, Debug, Error)]
 #[error("{}", self.message())]
 pub enum ScriptFault {
@@ -15,11 +15,12 @@ pub enum ScriptFault {
     NoMemory(NoMemory),
     /// The text is not UTF-8.
     NotUtf8,
-    /// A byte, a number or an escape is not in this profile.
+    /// The script has a byte, a number or an escape that this profile does not allow, on this line.
     BadToken(u32),
-    /// The text is not in the literal profile of Lua (kyuafile(5)).
+    /// A token on this line is not allowed (kyuafile(5)), or a statement that begins on this line
+    /// is not finished.
     NotLiteral(u32),
-    /// A string, a comment or a bracket is not closed.
+    /// A string, a comment or a bracket that begins on this line is not closed.
     Unclosed(u32),
     /// The text has more than 1,048,576 bytes.
     TooLong,

@@ -46,7 +46,7 @@ fn has_bracket_level(text: &[u8]) -> bool
 
 /// Returns the lexeme of the comment at the beginning of `text`.
 ///
-/// The lexeme is a broken token if `text` does not begin with a comment of this profile.
+/// The lexeme is an invalid token if `text` does not begin with a comment of this profile.
 pub fn lex_comment(text: &[u8]) -> Lexeme
     ensures { result ≡ comment_at text.now }
 {
@@ -73,8 +73,8 @@ fn space_length(text: &[u8]) -> usize
     text.iter().take_while(|c| is_space(**c)).count()
 }
 
-/// Returns the kind of the punctuation token with the byte `c`, or `None` if `c` is not
-/// punctuation.
+/// Returns the kind of the punctuation token that consists of the byte `c`, or `None` if there is
+/// no such token.
 fn punctuation_kind(c: u8) -> Option<TokenKind>
     ensures { result ≡ punctuation_kind_of c }
 {
@@ -95,7 +95,7 @@ fn punctuation_kind(c: u8) -> Option<TokenKind>
 
 /// Returns the token of the decimal number at the beginning of `text`.
 ///
-/// The token is broken if the number is above 2^64 - 1, or if a letter or underscore follows it.
+/// The token is invalid if the number is above 2^64 - 1, or if a letter or underscore follows it.
 fn number(text: &[u8]) -> Lexeme
     ensures { result ≡ number_at text.now }
 {
@@ -112,8 +112,8 @@ fn number(text: &[u8]) -> Lexeme
 
 /// Returns the lexeme at the beginning of `text`: white space, a comment or a token.
 ///
-/// An empty text has a lexeme of 0 bytes. If `text` begins with none of the three, the lexeme is a
-/// broken token.
+/// An empty text has a lexeme of 0 bytes. If `text` begins with none of the three, the lexeme is an
+/// invalid token.
 ///
 /// # Errors
 ///

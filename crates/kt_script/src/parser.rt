@@ -10,7 +10,7 @@ use crate::{ScriptFault, Stmt};
 use kt_base::{Items, NoMemory};
 use std::alloc::Global;
 
-/// Updates the lines of the open brackets, `brackets`, by a token of the kind `kind` on `line`.
+/// Updates `brackets`, the lines of the open brackets, for a token of the kind `kind` on `line`.
 ///
 /// An opening bracket appends its line. A closing bracket removes the last line.
 fn update_brackets(brackets: &mut Vec<u32>, line: u32, kind: &TokenKind) -> Result<(), NoMemory>
@@ -35,7 +35,7 @@ fn update_brackets(brackets: &mut Vec<u32>, line: u32, kind: &TokenKind) -> Resu
 pub struct Parser {
     /// The lines of the open brackets, the innermost bracket last.
     brackets: Vec<u32>,
-    /// The complete statements.
+    /// The complete statements that were read so far, in the order of the script.
     statements: Items<Stmt>,
 }
 
@@ -59,8 +59,8 @@ impl Parser {
     ///
     /// # Errors
     ///
-    /// - `BadToken`: the token is broken with the flaw `Bad`.
-    /// - `Unclosed`: the token is broken with the flaw `Unterminated`.
+    /// - `BadToken`: the token is invalid and has the flaw `Bad`.
+    /// - `Unclosed`: the token is invalid and has the flaw `Unterminated`.
     /// - `NotLiteral`: the grammar does not allow the token at `place`, and the token has neither
     ///   of these flaws.
     /// - `NoMemory`: an allocation fails.

@@ -31,11 +31,11 @@ fn plain_length(quote: u8, text: &[u8]) -> usize
         .count()
 }
 
-/// Returns the element of a string at the beginning of `text`: the closing quote, an escape or a
+/// Returns the element of a string with which `text` begins: the closing quote, an escape or a
 /// flaw.
 ///
-/// `text` is the rest of the script after plain bytes of the string. The closing quote is the byte
-/// `quote`.
+/// `text` is the part of a script after plain bytes of the string, which represent themselves. The
+/// closing quote is the byte `quote`. The flaw is a missing quote or an unknown escape.
 fn string_element(quote: u8, text: &[u8]) -> StringElement
     ensures { result ≡ string_element_at quote text.now }
 {
@@ -54,11 +54,10 @@ fn string_element(quote: u8, text: &[u8]) -> StringElement
     }
 }
 
-/// Decodes a string literal. `text` is the script after the opening quote, which is the byte
-/// `quote`.
+/// Decodes the string literal whose opening quote, the byte `quote`, precedes `text`.
 ///
-/// Returns the characters of the string, and its length in `text` in bytes, with the closing quote.
-/// Returns the flaw if the string is not closed or has an unknown escape.
+/// Returns the characters of the string, and the number of bytes in `text` up to and including the
+/// closing quote. Returns the flaw if the string is not closed or has an unknown escape.
 fn string(alloc: Global, quote: u8, text: &str) -> Result<Result<(Text, usize), Flaw>, NoMemory>
     requires { quote < 128 }
     ensures value { IfOk result (λ read. read ≡ decoded_string (string_at quote false text.now)) }
@@ -82,7 +81,7 @@ fn string(alloc: Global, quote: u8, text: &str) -> Result<Result<(Text, usize), 
 
 /// Returns the token of the string literal at the beginning of `text`, whose first byte is `quote`.
 ///
-/// The token is broken if the string is not closed or has an unknown escape.
+/// The token is invalid if the string is not closed or has an unknown escape.
 ///
 /// # Errors
 ///

@@ -63,9 +63,9 @@ fn statements(alloc: Global, text: &str) -> Result<Items<Stmt>, ScriptFault>
 ///   inside a bracket.
 /// - `NoMemory`: an allocation fails.
 pub fn parse(alloc: Global, text: &[u8]) -> Result<Items<Stmt>, ScriptFault>
-    // On success, the text spells the returned statements.
+    // On success, the text is a script that consists of the returned statements.
     ensures accepted { IfOk result (λ stmts. Spells text.now stmts) }
-    // A text that spells statements is accepted, unless an allocation fails.
+    // Each script is accepted, unless an allocation fails, and its statements are returned.
     ensures only { (stmts : List Stmt) → Spells text.now stmts → ReturnsStatements result stmts }
     // On another error than a failed allocation, the text has the returned fault.
     ensures refused { IfFault result (λ fault. HasFault text.now fault) }
@@ -91,7 +91,8 @@ pub fn theorem_of_one_result(text: &[u8])
     let _ = text;
 }
 
-/// Theorem: each text consists of exactly one list of tokens, by the rules for tokens.
+/// Theorem: by the rules for tokens (`AreTokens`), each text consists of exactly one list of
+/// tokens.
 pub fn theorem_of_one_token_list(text: &[u8])
     ensures some { (tokens : List Token) × AreTokens 1 text.now tokens }
     ensures one { (a b : List Token) → AreTokens 1 text.now a → AreTokens 1 text.now b → a ≡ b }

@@ -11,16 +11,16 @@ use std::alloc::Global;
 
 /// A position of the parser in the grammar, between two tokens of a script.
 pub enum ScriptState {
-    /// Before a statement.
+    /// The position at the beginning of the script, or after a statement and its `;`.
     Start,
-    /// After a statement. A `;` may follow.
+    /// The position after a statement. A `;` or another statement may follow.
     AfterStatement,
-    /// Within a statement. The fields are the line on which the statement begins, and the state
-    /// within the statement.
+    /// A position within a statement. The fields are the line on which the statement begins, and
+    /// the state within the statement.
     InStatement(u32, State),
 }
 
-/// A manual impl, so that the prover handles each drop as one call.
+/// A manual impl instead of `#[derive(Drop)]`, so that the prover handles each drop as one call.
 impl Drop for ScriptState {
     fn drop(self) {
         match self {

@@ -11,7 +11,7 @@ use std::alloc::Global;
 /// A table whose `}` is not read yet: the argument of a call, with its pairs so far.
 #[derive(Drop)]
 pub struct Table {
-    /// The name of the function that is called.
+    /// The name of the function that is called with the table.
     pub name: Text,
     /// `true` if the table is in parentheses.
     pub in_parens: bool,
@@ -22,33 +22,34 @@ pub struct Table {
 /// A state of the parser within a statement, with the parts of the statement read so far.
 #[derive(Drop)]
 pub enum State {
-    /// After the first name of a statement.
+    /// The state after the first name of a statement. The field is the name.
     AfterName(Text),
-    /// After the name of a function and `(`.
+    /// The state after the name of a function and `(`. The field is the name.
     AfterParen(Text),
-    /// After the argument of a call in parentheses, before the `)`.
+    /// The state after the argument of a call in parentheses, before the `)`. The field is the
+    /// call.
     AfterArgument(Action),
-    /// After the `{` of a table, or after a `,` or `;` in the table.
+    /// The state after the `{` of a table, or after a `,` or `;` in the table.
     Pairs(Table),
-    /// After the `[` of a key.
+    /// The state after the `[` of a key in a table.
     AfterKeyBracket(Table),
-    /// After the `[` and the string of a key.
+    /// The state after the `[` of a key in a table and the string, which is the key.
     AfterKeyString(Table, Text),
-    /// After a key of a table.
+    /// The state after a key in a table. The fields are the table and the key.
     AfterKey(Table, Text),
-    /// After a key of a table and `=`.
+    /// The state after a key in a table and `=`. The fields are the table and the key.
     AfterKeyEquals(Table, Text),
-    /// After a pair of a table.
+    /// The state after a pair in a table.
     AfterPair(Table),
-    /// After a variable's path and `.`.
+    /// The state after a variable's path and `.`. The field has the parts of the path.
     AfterDot(Items<Text>),
-    /// After a variable's path and `[`.
+    /// The state after a variable's path and `[`. The field has the parts of the path.
     AfterPathBracket(Items<Text>),
-    /// After the string in the last part of a variable's path, before the `]`.
+    /// The state after the string in the last part of a variable's path, before the `]`.
     AfterPathString(Items<Text>),
-    /// After a variable's path of at least two parts.
+    /// The state after a variable's path of at least two parts, which the field contains.
     AfterPath(Items<Text>),
-    /// After a variable's path and `=`.
+    /// The state after a variable's path and `=`. The field has the parts of the path.
     AfterPathEquals(Items<Text>),
 }
 
@@ -173,7 +174,7 @@ fn value(kind: TokenKind) -> Option<Literal>
     }
 }
 
-/// Creates the path of a variable whose only part is `name`.
+/// Creates the path of a variable, with `name` as its only part.
 fn single_part_path(alloc: Global, name: Text) -> Result<Items<Text>, NoMemory>
     ensures { IfOk result (λ path. path ≡ name ∷ []) }
 {

@@ -17,7 +17,7 @@ pub enum Literal {
 impl Literal {
     ghost use Rattle.kt_script.specs.LiteralText.{text_of};
 
-    /// Returns the literal as the text of a property or variable (this profile).
+    /// Returns the literal as a text, for the value of a property or variable (this profile).
     ///
     /// A number is decimal without leading zeros: `007` is `7`. A truth value is `true` or `false`.
     ///

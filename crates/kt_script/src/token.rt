@@ -3,10 +3,10 @@ ghost use Rattle.std.specs.Prelude.{◌≡◌, ℕ, length};
 use crate::ScriptFault;
 use kt_base::Text;
 
-/// A reason why a token is broken (this profile).
+/// A reason why a token is invalid (this profile).
 #[derive(Clone, Copy)]
 pub enum Flaw {
-    /// A byte, a number or an escape that is not in this profile.
+    /// A byte, a number or an escape that this profile does not allow.
     Bad,
     /// A comment in long brackets with a level, such as `--[=[`.
     LeveledComment,
@@ -35,7 +35,7 @@ pub enum TokenKind {
     Comma,
     Semicolon,
     Dot,
-    /// A broken token, with the reason. The grammar does not allow it anywhere.
+    /// An invalid token, with the reason. The grammar does not allow it anywhere.
     Broken(Flaw),
 }
 
@@ -51,7 +51,7 @@ pub struct Token {
 impl Token {
     ghost use Rattle.kt_script.specs.Faults.{fault_of};
 
-    /// Returns the fault of a script that has the token where the grammar does not allow it.
+    /// Returns the fault of a script in which the grammar does not allow the token.
     pub fn fault(&self) -> ScriptFault
         ensures { result ≡ fault_of self.now }
     {
@@ -92,7 +92,8 @@ impl Lexeme {
         }
     }
 
-    /// Creates a broken token of all bytes of `text`. `flaw` is the reason why it is broken.
+    /// Creates an invalid token that consists of all bytes of `text`. `flaw` is the reason why the
+    /// token is invalid.
     pub fn broken(text: &[u8], flaw: Flaw) -> Lexeme
         ensures { result ≡ broken text.now flaw }
     {
@@ -100,7 +101,7 @@ impl Lexeme {
     }
 }
 
-/// An element of a string literal after a run of plain bytes. Plain bytes represent themselves.
+/// An element that ends a run of plain bytes in a string literal. A plain byte represents itself.
 #[derive(Drop)]
 pub(crate) enum StringElement {
     /// The closing quote of the string.

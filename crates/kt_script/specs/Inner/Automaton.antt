@@ -61,29 +61,30 @@ step (AfterPath path) Equals = Some (Advance (AfterPathEquals path))
 step (AfterPathEquals path) k = option_map (λ v. Accept (Assign path v)) (literal_of k)
 step _ _ = None
 
--- `begin_statement line kind`: the transition for a statement's first token, of the kind `kind` on
--- the line `line`: the position in the grammar after the token, and no completed statement. Nothing
--- if the token is not a name.
+-- `begin_statement line kind`: the transition for the first token of a statement. The token has the
+-- kind `kind` and is on the line `line`. The transition leads to the position after the token and
+-- completes no statement. Nothing if the token is not a name.
 abbrev pub begin_statement : ℕ → TokenKind → Option (ScriptState × Option Stmt)
 begin_statement line (Name n) = Some (InStatement line (AfterName n), None)
 begin_statement line _ = None
 
 -- `transition_after_statement line kind`: the transition for a token of the kind `kind` on the line
 -- `line` after a complete statement. The token is a semicolon, or the first token of the next
--- statement.
+-- statement. Nothing if the grammar does not allow the token.
 abbrev pub transition_after_statement : ℕ → TokenKind → Option (ScriptState × Option Stmt)
 transition_after_statement line Semicolon = Some (Start, None)
 transition_after_statement line kind = begin_statement line kind
 
--- `transition_of_step line s`: the position in the grammar after the step `s` in the statement that
--- begins on the line `line`, and that statement if the step completes it.
+-- `transition_of_step line s`: the transition for the step `s` in the statement that begins on the
+-- line `line`. It consists of the position in the grammar after the step, and of the statement if
+-- the step completes it.
 abbrev pub transition_of_step : ℕ → Step → ScriptState × Option Stmt
 transition_of_step line (Advance q) = (InStatement line q, None)
 transition_of_step line (Accept a) = (AfterStatement, Some (record { line = line; action = a }))
 
--- `next p t`: the transition from the position `p` in the grammar for the token `t`: the position
--- after `t`, and the statement that `t` completes, if any. Nothing if the grammar does not allow
--- `t` at `p`.
+-- `next p t`: the transition from the position `p` in the grammar for the token `t`. It consists of
+-- the position after `t`, and of the statement that `t` completes, if any. Nothing if the grammar
+-- does not allow `t` at `p`.
 abbrev pub next : ScriptState → Token → Option (ScriptState × Option Stmt)
 next Start t = begin_statement t.line t.kind
 next AfterStatement t = transition_after_statement t.line t.kind

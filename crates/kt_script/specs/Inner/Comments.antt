@@ -13,13 +13,13 @@ long_comment_end [] = None
 long_comment_end (c ∷ cs) = if starts_with nat_eq (c ∷ cs) (codes "]]") then Some 2 else option_map suc (long_comment_end cs)
 
 -- `long_comment text n`: the lexeme at the beginning of `text`, which begins with `--[[`. It is a
--- comment whose `]]` ends `n` bytes after the `--[[`, or a broken token if `n` is absent.
+-- comment whose `]]` ends `n` bytes after the `--[[`, or an invalid token if `n` is absent.
 abbrev pub long_comment : List ℕ → Option ℕ → Lexeme
 long_comment text None = broken text Unterminated
 long_comment text (Some n) = blank (n + 4)
 
 -- `comment_at text`: the comment at the beginning of `text`: a comment in long brackets, or a
--- comment up to the end of its line. A broken token if `text` does not begin with such a comment.
+-- comment up to the end of its line. An invalid token if `text` does not begin with such a comment.
 abbrev pub comment_at : List ℕ → Lexeme
 comment_at text =
     if starts_with nat_eq text (codes "--[[") then long_comment text (long_comment_end (drop 4 text))

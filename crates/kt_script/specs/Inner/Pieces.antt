@@ -10,6 +10,7 @@ blank n = record { length = n; kind = None }
 abbrev pub token : ℕ → TokenKind → Lexeme
 token n kind = record { length = n; kind = Some kind }
 
--- `broken text flaw`: a broken token that consists of all bytes of `text`, with the reason `flaw`.
+-- `broken text flaw`: an invalid token that consists of all bytes of `text`. The reason why it is
+-- invalid is `flaw`.
 abbrev pub broken : List ℕ → Flaw → Lexeme
 broken text flaw = token (length text) (Broken flaw)

@@ -6,23 +6,25 @@ use Rattle.kt_script.specs.declared.token.StringElement.TheVariants as stop
 use Rattle.kt_script.specs.Letters.{escape_of}
 use Rattle.kt_script.specs.Inner.Pieces.{token, broken}
 
--- `with_prefix front n r`: the result `r` of reading the rest of a string, with the bytes `front`
--- prepended to the value and `n` added to the length. In the script, `n` bytes represent `front`. A
--- flaw is unchanged.
+-- `with_prefix front n r`: the result of reading a string that begins with `n` bytes of a script,
+-- which represent the bytes `front`. `r` is the result of reading the string after these bytes. The
+-- result is `r` with `front` prepended to the value and `n` added to the length. A flaw is
+-- unchanged.
 abbrev pub with_prefix : List ℕ → ℕ → Result (List ℕ × ℕ) Flaw → Result (List ℕ × ℕ) Flaw
 with_prefix front n (Ok x) = Ok (front ++ x.0, n + x.1)
 with_prefix front n (Err flaw) = Err flaw
 
--- `with_escaped_byte c r`: the result `r` of reading the rest of a string, with the byte `c` that
--- an escape represents prepended. A flaw if `c` is absent, since the escape is unknown.
+-- `with_escaped_byte c r`: the result of reading a string after the backslash of an escape that
+-- represents the byte `c`. `r` is the result of reading the string after the escape. A flaw if `c`
+-- is absent, since the escape is unknown.
 abbrev pub with_escaped_byte : Option ℕ → Result (List ℕ × ℕ) Flaw → Result (List ℕ × ℕ) Flaw
 with_escaped_byte None rest = Err Bad
 with_escaped_byte (Some c) rest = with_prefix (c ∷ []) 1 rest
 
--- `string_at quote escape text`: the result of reading the rest of a string, which is at the
--- beginning of `text` and ends with the byte `quote`. The result is the value in bytes and the
--- length in `text`, including `quote`, or a flaw. If `escape` is true, a backslash that begins an
--- escape precedes `text`.
+-- `string_at quote escape text`: the result of reading a string from the beginning of `text` up to
+-- its closing quote, the byte `quote`. The result is the value in bytes and the length in `text`,
+-- including `quote`, or a flaw. If `escape` is true, `text` follows a backslash that begins an
+-- escape.
 abbrev pub string_at : ℕ → Bool → List ℕ → Result (List ℕ × ℕ) Flaw
 string_at quote false [] = Err Unterminated
 string_at quote true [] = Err Bad
@@ -36,7 +38,7 @@ decoded_string (Ok x) = Ok (chars x.0, x.1)
 decoded_string (Err flaw) = Err flaw
 
 -- `quoted_token text r`: the token of the string at the beginning of `text`, which was read with
--- the result `r`. If `r` is a flaw, the token is broken and extends to the end of `text`.
+-- the result `r`. If `r` is a flaw, the token is invalid and extends to the end of `text`.
 abbrev pub quoted_token : List ℕ → Result (List ℕ × ℕ) Flaw → Lexeme
 quoted_token text (Ok x) = token (x.1 + 1) (Quoted x.0)
 quoted_token text (Err flaw) = broken text flaw
@@ -52,15 +54,14 @@ abbrev pub escape_element : Option ℕ → StringElement
 escape_element None = stop.Flawed Bad
 escape_element (Some c) = stop.Escape c
 
--- `escape_at bytes`: the element of a string for a backslash that `bytes` follow: an escape, or a
--- flaw if the escape is unknown.
+-- `escape_at bytes`: the element of a string that consists of a backslash and the first of `bytes`.
+-- It is an escape, or a flaw if the escape is unknown.
 abbrev pub escape_at : List ℕ → StringElement
 escape_at [] = stop.Flawed Bad
 escape_at (c ∷ cs) = escape_element (escape_of c)
 
--- `string_element_at quote text`: the element of a string at the beginning of `text`, which follows
--- plain bytes of the string. The element is the closing quote (the byte `quote`), an escape, or a
--- flaw.
+-- `string_element_at quote text`: the element of a string with which `text` begins, after plain
+-- bytes of the string. The element is the closing quote (the byte `quote`), an escape, or a flaw.
 abbrev pub string_element_at : ℕ → List ℕ → StringElement
 string_element_at quote [] = stop.Flawed Unterminated
 string_element_at quote (c ∷ cs) = if c == quote then stop.Quote else if c == 92 then escape_at cs else stop.Flawed Unterminated

@@ -11,8 +11,8 @@ use Rattle.kt_script.specs.Inner.Words.{name_at, number_at}
 use Rattle.kt_script.specs.Inner.Strings.{quoted_at}
 use Rattle.kt_script.specs.Inner.Comments.{comment_at}
 
--- `punctuation_lexeme text kind`: the token at the beginning of `text`: a punctuation token of one
--- byte, of the kind `kind`, or a broken token if `kind` is absent.
+-- `punctuation_lexeme text kind`: the token at the beginning of `text`. It is a punctuation token
+-- of one byte, of the kind `kind`. If `kind` is absent, it is an invalid token of all bytes.
 abbrev pub punctuation_lexeme : List ℕ → Option TokenKind → Lexeme
 punctuation_lexeme text None = broken text Bad
 punctuation_lexeme text (Some kind) = token 1 kind

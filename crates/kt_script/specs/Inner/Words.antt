@@ -18,13 +18,13 @@ begins_with_name_start [] = false
 begins_with_name_start (c ∷ cs) = is_name_start c
 
 -- `number text n lettered v`: the token of the number `v`, whose digits are the first `n` bytes of
--- `text`. The token is broken if `v` is absent, or if `lettered` is true, since a letter or
--- underscore follows the digits.
+-- `text`. The token is invalid if `v` is absent, since the number is too large. It is invalid, too,
+-- if `lettered` is true, since a letter or underscore follows the digits.
 abbrev pub number : List ℕ → ℕ → Bool → Option ℕ → Lexeme
 number text n false (Some v) = token n (Number v)
 number text n lettered v = broken text Bad
 
--- `number_at text`: the token of the longest number at the beginning of `text`. The token is broken
--- if a letter or underscore follows, or if the number does not fit in 64 bits.
+-- `number_at text`: the token of the longest number at the beginning of `text`. The token is
+-- invalid if a letter or underscore follows, or if the number does not fit in 64 bits.
 abbrev pub number_at : List ℕ → Lexeme
 number_at text = let n = prefix_len is_digit text in number text n (begins_with_name_start (drop n text)) (fits (decimal_from 0 (take n text)))
