@@ -18,9 +18,9 @@ pub record SetsSuiteVariable (suite : List ℕ) (variable : Variable) (old new :
   pub own : variables_of suite new ≡ Some (last_values (unwrap_or (variables_of suite old) [] ++ variable ∷ []))
   pub others : (other : List ℕ) → bytes_eq other suite ≡ false → variables_of other new ≡ variables_of other old
 
--- `MatchesDefinitions result outcome`: `result` is the result of reading a file whose definitions,
--- or first fault, are `outcome`. Both are the same fault, or `result` has the values that these
--- definitions set.
+-- `MatchesDefinitions result outcome`: `result` is the result of reading a configuration file whose
+-- definitions or first fault are `outcome`. Either both are the same fault, or `result` has the
+-- values that the definitions in `outcome` set.
 abbrev pub MatchesDefinitions : Result Values ConfigFault → DefinitionsOrFault → Type 0
 MatchesDefinitions (Ok config) (Ok definitions) = Holds config definitions
 MatchesDefinitions (Ok config) (Err fault) = ⊥

@@ -8,7 +8,8 @@ use Rattle.kt_config.specs.declared.fault.ConfigFault.TheVariants.{UnknownVariab
 use Rattle.kt_config.specs.Forms.{has_zero_byte, is_variable_name, width_of}
 use Rattle.kt_base.specs.Texts.{is_empty}
 
--- `DefinitionResult`: the result of reading a definition: the definition or its fault.
+-- `DefinitionResult`: the result of reading a definition in a configuration: the definition or its
+-- fault.
 abbrev pub DefinitionResult : Type 0
 DefinitionResult = Result Definition ConfigFault
 
@@ -49,8 +50,8 @@ suite_definition root suite name value =
     then if has_zero_byte value then Err BadValue else Ok (SuiteVariable suite (record { name = name; value = value }))
     else Err UnknownVariable
 
--- `definition_of parts value`: the definition that sets the variable whose name has the parts
--- `parts` to `value`, or the fault of the name or the value.
+-- `definition_of parts value`: the definition that sets the variable with the name parts `parts` to
+-- `value`, or the fault of the name or the value.
 abbrev pub definition_of : List (List ℕ) → List ℕ → DefinitionResult
 definition_of [] value = Err UnknownVariable
 definition_of (name ∷ []) value = runner_definition name value

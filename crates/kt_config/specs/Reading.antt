@@ -28,13 +28,14 @@ abbrev pub is_syntax_call : Action → Bool
 is_syntax_call (Call name arg) = bytes_eq name (codes "syntax") && is_syntax_version arg
 is_syntax_call (Assign parts value) = false
 
--- `definition_in action`: the definition in a statement with the action `action`, or the
--- statement's fault. The statement is not the first of a file.
+-- `definition_in action`: the definition in a statement with the action `action`, or the fault of
+-- the statement. The statement is not the first of its configuration file.
 abbrev pub definition_in : Action → DefinitionResult
 definition_in (Call name arg) = Err NotAssignment
 definition_in (Assign parts value) = definition_of parts (text_of value)
 
--- `DefinitionsOrFault`: the definitions of a file in order, or the first fault of the file.
+-- `DefinitionsOrFault`: the definitions in a configuration file, in order, or the first fault of
+-- the file.
 abbrev pub DefinitionsOrFault : Type 0
 DefinitionsOrFault = Result (List Definition) ConfigFault
 
@@ -44,27 +45,27 @@ abbrev pub with_first : Definition → DefinitionsOrFault → DefinitionsOrFault
 with_first definition (Ok definitions) = Ok (definition ∷ definitions)
 with_first definition (Err fault) = Err fault
 
--- `combined_definitions meaning rest`: the definitions of several statements, or their first fault.
+-- `combined_definitions meaning rest`: the definitions in several statements, or their first fault.
 -- `meaning` is the definition or the fault of the first statement. `rest` are the definitions or
 -- the first fault of the other statements.
 abbrev pub combined_definitions : DefinitionResult → DefinitionsOrFault → DefinitionsOrFault
 combined_definitions (Ok definition) rest = with_first definition rest
 combined_definitions (Err fault) rest = Err fault
 
--- `definitions_in stmts`: the definitions of the statements `stmts`, which follow the first
--- statement of a file, or their first fault.
+-- `definitions_in stmts`: the definitions in the statements `stmts`, or their first fault. The
+-- statements follow the first statement of a configuration file.
 abbrev pub definitions_in : List Stmt → DefinitionsOrFault
 definitions_in [] = Ok []
 definitions_in (stmt ∷ stmts) = combined_definitions (definition_in stmt.action) (definitions_in stmts)
 
--- `definitions_of_file stmts`: the definitions of a file with the statements `stmts`, or its first
--- fault. The first statement must be `syntax(2)`.
+-- `definitions_of_file stmts`: the definitions in a configuration file with the statements `stmts`,
+-- or the first fault of the file. The first statement must be `syntax(2)`.
 abbrev pub definitions_of_file : List Stmt → DefinitionsOrFault
 definitions_of_file [] = Err NoSyntax
 definitions_of_file (stmt ∷ stmts) = if is_syntax_call stmt.action then definitions_in stmts else Err NoSyntax
 
--- `HasFault text fault`: the bytes `text` are not a configuration file, and `fault` is their fault:
--- the fault of the script, or that of the first faulty statement.
+-- `HasFault text fault`: the bytes `text` are not a configuration file, and `fault` is their fault.
+-- It is the fault of the script, or that of the first faulty statement.
 abbrev pub HasFault : List ℕ → ConfigFault → Type 0
 HasFault text fault =
     ((cause : ScriptFault) × HasScriptFault text cause × (fault ≡ Script cause))

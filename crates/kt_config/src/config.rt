@@ -15,17 +15,19 @@ use std::marker::Model;
 /// these values. `Holds` relates the values to the definitions.
 pub struct Config {
     alloc: Global,
-    /// The last value of `architecture`, which is not empty, or `None` if it is not defined.
+    /// The last value of the variable `architecture`, which is not empty, or `None` if the variable
+    /// is not defined.
     architecture: Option<Text>,
-    /// The last value of `platform`, which is not empty, or `None` if it is not defined.
+    /// The last value of the variable `platform`, which is not empty, or `None` if the variable is
+    /// not defined.
     platform: Option<Text>,
-    /// The maximum number of test cases that run at the same time.
+    /// The maximum number of test cases that run at the same time, 1 to 256.
     parallelism: Width,
     /// The variables of each test suite that has variables.
     suites: Suites,
 }
 
-/// A manual impl, so that the prover handles each drop as one call.
+/// A manual impl instead of `#[derive(Drop)]`, so that the prover handles each drop as one call.
 impl Drop for Config {
     fn drop(self) {
         let Config {
@@ -63,7 +65,8 @@ impl Config {
         }
     }
 
-    /// Sets the variable that `definition` defines to the new value, in place of an earlier value.
+    /// Sets the variable that `definition` defines to its new value, which replaces an earlier
+    /// value.
     ///
     /// A definition of `unprivileged_user` has no effect.
     ///

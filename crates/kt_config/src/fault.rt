@@ -13,10 +13,10 @@ pub enum ConfigFault {
     NoMemory(NoMemory),
     /// No variable has the given name.
     UnknownVariable,
-    /// The variable does not accept the value.
+    /// A variable does not accept the value in its definition.
     BadValue,
-    /// The file is not in the literal profile of Lua, or is too long. The field is the parser's
-    /// error.
+    /// The file can't be parsed as a script, for example because it is too long. The field is the
+    /// parser's error.
     Script(ScriptFault),
     /// The file has no statement, or its first statement is not `syntax(2)`.
     NoSyntax,

@@ -109,10 +109,10 @@ fn suite_definition(
     Ok(Ok(Definition::SuiteVariable(suite, Variable { name, value })))
 }
 
-/// Returns the definition that sets the variable whose name has the parts `parts` to `value`.
+/// Returns the definition that sets the variable with the name parts `parts` to `value`.
 ///
-/// Returns `UnknownVariable` if no variable has this name, or `BadValue` if the variable does not
-/// accept `value`.
+/// Dots separate the parts of a variable's name. Returns `UnknownVariable` if no variable has this
+/// name, or `BadValue` if the variable does not accept `value`.
 ///
 /// # Errors
 ///

@@ -35,7 +35,7 @@ impl SuiteVariables {
         }
     }
 
-    /// Replaces the value of the variable that has the name of `variable`, or appends `variable`.
+    /// Appends `variable` to the map, or replaces the value of the variable with the same name.
     ///
     /// # Errors
     ///

@@ -40,7 +40,7 @@ impl Suites {
         self.groups.get(suite.as_str())
     }
 
-    /// Sets `variable` in the suite `suite`, in place of an earlier value of the same variable.
+    /// Sets `variable` for the test suite `suite`, and replaces an earlier value of the variable.
     ///
     /// A suite that is not in the map is appended to it.
     ///

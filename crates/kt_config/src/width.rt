@@ -6,7 +6,7 @@ ghost use Rattle.kt_base.specs.Limits.{largest_width};
 use kt_base::{Text, is_digit, parse_decimal_up_to};
 use std::marker::Model;
 
-/// The greatest number of test cases at the same time that the configuration accepts.
+/// The greatest accepted value of `parallelism`, in test cases that run at the same time.
 const MAX_WIDTH_CASES: u64 = 256;
 
 /// A maximum number of test cases that run at the same time, 1 to 256.
@@ -14,7 +14,7 @@ const MAX_WIDTH_CASES: u64 = 256;
 /// In contracts, a `Width` is the number of test cases.
 #[derive(Drop)]
 pub struct Width {
-    /// The maximum number of test cases at the same time, 1 to 256.
+    /// The maximum number of test cases that run at the same time, 1 to 256.
     cases: u32,
 }
 
@@ -33,7 +33,7 @@ fn has_non_digit(bytes: &[u8]) -> bool
     bytes.iter().any(|c| !is_digit(*c))
 }
 
-/// Converts `number` to a number of test cases, or returns `None` if it is not 1 to 256.
+/// Converts `number` to a width, or returns `None` if `number` is not from 1 to 256.
 fn width_in_range(number: u64) -> Option<u32>
     ensures { result ≡ width_in_range number }
 {
@@ -73,7 +73,7 @@ impl Width {
         Some(Width { cases })
     }
 
-    /// Returns the maximum number of test cases at the same time, 1 to 256.
+    /// Returns the maximum number of test cases that run at the same time, 1 to 256.
     pub fn cases(&self) -> u32
         ensures value { result ≡ self.now }
         ensures within { (1 ≤ result) × (result ≤ largest_width) }
