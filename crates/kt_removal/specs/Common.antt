@@ -1,4 +1,4 @@
--- The names that the clauses of this crate cite, re-exported. Declares nothing.
+-- Exports the definitions that the clauses of this crate cite. Declares nothing.
 pub use Rattle.std.specs.Fmt.{decimal}
 pub use Rattle.std.specs.Str.{chars}
 pub use Rattle.kt_base.specs.Utf8.{utf8}

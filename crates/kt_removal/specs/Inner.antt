@@ -1,3 +1,3 @@
--- Definitions for private functions. No public clause cites them.
+-- Definitions of the limits and the paths of removals.
 pub mod Bounds
 pub mod Removals

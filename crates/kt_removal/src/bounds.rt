@@ -11,16 +11,18 @@ const CASE_LIMIT_MICROS: u64 = 5_000;
 const STEP_MICROS: u64 = 100;
 
 /// A time limit of a removal, with the number of steps that the removal has taken.
+///
+/// In a step, the removal reads some names of a directory and removes the entries with these names.
 #[derive(Clone, Copy)]
 pub(crate) struct Bound {
     /// The start time of the removal, or `None` if the clock failed.
     started: Option<Instant>,
-    /// The time limit, in microseconds. It also limits the iterations of each loop, since a clock
-    /// may stop.
+    /// The time limit, in microseconds. It is also the maximum number of iterations of each loop of
+    /// the removal, since a clock may stop.
     pub(crate) micros: u64,
-    /// The number of steps that are taken before the time limit applies.
+    /// The number of steps before the time limit can stop the removal.
     pub(crate) least: u64,
-    /// The number of steps taken so far.
+    /// The number of steps that the removal has taken so far.
     steps: u64,
 }
 
@@ -37,19 +39,21 @@ fn is_spent(micros: u64, steps: u64, taken: Option<u128>) -> bool
     }
 }
 
-/// Returns the time limit for the removal of the root directory, in microseconds.
+/// Returns the time limit for the removal of the root directory of all attempts, in microseconds.
 ///
-/// The limit is 5 seconds, plus 10 milliseconds for each of the `waiting` directories in the queue.
+/// The limit is 5 seconds, plus 10 milliseconds for each of the `waiting` directories in the
+/// removal queue.
 fn root_limit_micros(waiting: u32) -> u64
     ensures { result ≡ closing_limit waiting }
 {
     5_000_000 + 10_000 * u64::from(waiting)
 }
 
-/// Returns the minimum number of steps for the removal of the root directory.
+/// Returns the number of steps before the time limit can stop the removal of the root directory.
 ///
-/// The minimum is 20,000, plus 50 for each of the `waiting` directories in the queue. It lets a
-/// slow machine finish the removal after the time limit.
+/// In a step, the removal reads some names of a directory and removes the entries with these names.
+/// The number is 20,000, plus 50 for each of the `waiting` directories in the removal queue. It
+/// lets a slow machine finish the removal.
 fn min_root_steps(waiting: u32) -> u64
     ensures { result ≡ min_root_steps waiting }
 {
@@ -79,8 +83,10 @@ impl Bound {
         Bound::from_now(clock, CASE_LIMIT_MICROS)
     }
 
-    /// Creates the time limit for the removal of the root directory, while `waiting` directories
-    /// are in the queue.
+    /// Creates the time limit for the removal of the root directory of all attempts.
+    ///
+    /// `waiting` is the number of directories in the removal queue, each of which extends the
+    /// limit.
     pub(crate) fn for_root<C: Clock>(clock: &C, waiting: u32) -> Bound
         ensures micros { result.micros ≡ closing_limit waiting }
         ensures least { result.least ≡ min_root_steps waiting }

@@ -3,7 +3,7 @@ ghost use Rattle.kt_removal.specs.Common.{IsCaseDirectory, IsNumber};
 
 use kt_base::{Text, is_digit};
 
-/// Returns `true` if a name consists of one or more decimal digits.
+/// Returns `true` if `name` consists of one or more decimal digits.
 fn is_number(name: &[u8]) -> bool
     ensures { IsTrue result → IsNumber name.now }
 {

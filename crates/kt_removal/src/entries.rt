@@ -9,7 +9,7 @@ use std::os::unix::fs::{MetadataExt, PermissionsExt};
 use std::rt::Files;
 use std::{fs, io, str};
 
-/// The permission bits that let the owner read, change and pass through a directory.
+/// The mode bits that let the owner read, write and search a directory.
 const OWNER_RIGHTS: u32 = 0o700;
 
 /// Returns the path of the entry `name` of the directory `directory`. The name may contain any
@@ -34,8 +34,8 @@ pub(crate) fn is_entry_name(name: &[u8]) -> bool
         && !name.contains(&b'/')
 }
 
-/// Converts the status of a system call to a result. A status other than 0 is a failure with the
-/// error of `errno`.
+/// Converts the return value of a system call to a result: an error with the number `errno` if the
+/// value is not 0.
 fn answer(status: i32) -> io::Result<()> {
     if status == 0 {
         Ok(())
@@ -46,7 +46,8 @@ fn answer(status: i32) -> io::Result<()> {
 
 // Only these methods remove or move files, so their clauses bound what a removal may touch.
 impl Removals {
-    /// Removes the file or link at `path`. Fails if `path` is a directory or can't be removed.
+    /// Removes the file or symbolic link at `path`. Fails if `path` is a directory or can't be
+    /// removed.
     pub(crate) fn remove_file<R: Files>(&self, rt: &R, path: &[u8]) -> io::Result<()>
         requires { MayRemove self.now path.now }
     {
@@ -67,14 +68,17 @@ impl Removals {
         }
     }
 
-    /// Removes a directory if it is empty. Returns `true` if the directory was removed.
+    /// Removes the directory `directory` if it is empty. Returns `true` if it was removed.
     pub(crate) fn remove_if_empty<R: Files>(&self, rt: &R, directory: &Text) -> bool
         requires { MayEmpty self.now directory.now }
     {
         fs::remove_dir(rt, directory.as_str()).is_ok()
     }
 
-    /// Moves the directory `path` to `to`, the path in the queue with the next number.
+    /// Moves the directory `path` to `to`, a path in the queue directory with the next unused
+    /// number.
+    ///
+    /// Fails if the directory can't be renamed.
     pub(crate) fn move_into_queue<R: Files>(&self, rt: &R, path: &[u8], to: &Text) -> io::Result<()>
         requires from { MayRemove self.now path.now }
         requires to { to.now ≡ queued_dir self.now.place self.now.moved }
@@ -94,12 +98,14 @@ impl Removals {
         os::chmod(path, OWNER_RIGHTS) == 0
     }
 
-    /// Returns `true` if the directory `path` may be emptied. Sets its mode to 0700 if its owner
-    /// lacks a permission.
+    /// Makes the directory `path` accessible to its owner. Returns `true` if it may be emptied.
+    ///
+    /// The mode becomes 0700 if the owner may not read, write or search the directory. A failure to
+    /// set the mode is ignored.
     ///
     /// Returns `false` if the status of `path` can't be read, or if `path` is not a directory. A
     /// symbolic link is not a directory. Returns `false`, too, if `path` is on another device than
-    /// the root, since then a file system is mounted there.
+    /// the root directory, since then a file system is mounted at `path`.
     pub(crate) fn make_accessible<R: Files>(&self, rt: &R, path: &Text) -> bool
         requires { MayEmpty self.now path.now }
     {

@@ -6,9 +6,9 @@ use std::{fs, io};
 /// An identity of a directory: its device and inode number, which don't depend on its path.
 #[derive(Clone, Copy)]
 pub struct DirIdentity {
-    /// The device number.
+    /// The number of the device that contains the directory.
     pub(crate) device: u64,
-    /// The inode number on that device.
+    /// The inode number of the directory on its device.
     number: u64,
 }
 
@@ -19,8 +19,8 @@ impl DirIdentity {
     ///
     /// # Errors
     ///
-    /// - `NotADirectory`: the path leads to a symbolic link or a file of another type.
-    /// - Any other error: the status of the path can't be read.
+    /// - `NotADirectory`: `path` is a symbolic link or a file of another type.
+    /// - Any other error: the status of `path` can't be read.
     pub fn of<R: Files>(rt: &R, path: &str) -> io::Result<DirIdentity> {
         let found = fs::symlink_metadata(rt, path)?;
         if !found.is_dir() {
@@ -32,7 +32,7 @@ impl DirIdentity {
         })
     }
 
-    /// Returns `true` if both identities are those of one directory.
+    /// Returns `true` if `self` and `other` are identities of the same directory.
     fn is_same(self, other: DirIdentity) -> bool
         ensures { IsTrue result ↔ ((self.device ≡ other.device) × (self.number ≡ other.number)) }
     {

@@ -15,13 +15,15 @@ const STDERR_NAME: &[u8] = b"err";
 /// The name of the result file that the body of an ATF case writes (this profile).
 const RESULT_NAME: &[u8] = b"result";
 
-/// The name of the file for a cleanup's standard output (this profile).
+/// The name of the file for a cleanup's standard output, in the directory of its case (this
+/// profile).
 const CLEANUP_OUT: &[u8] = b"cleanup.out";
 
-/// The name of the file for a cleanup's standard error (this profile).
+/// The name of the file for a cleanup's standard error, in the directory of its case (this
+/// profile).
 const CLEANUP_ERR: &[u8] = b"cleanup.err";
 
-/// The name of the work directory, in which a child runs (this profile).
+/// The name of the directory in which a child runs, in the directory of its case (this profile).
 const WORK_NAME: &[u8] = b"work";
 
 impl Removals {
@@ -36,7 +38,7 @@ impl Removals {
     }
 
     /// Removes the work directory in `directory`, the directory of a case, if the work directory is
-    /// empty. Returns `true` if it was removed.
+    /// empty. Returns `true` if the work directory was removed.
     fn remove_work_dir<R: Files + AllocGlobal>(&self, rt: &R, directory: &Text) -> bool
         requires { MayEmpty self.now directory.now }
     {
@@ -46,13 +48,15 @@ impl Removals {
         }
     }
 
-    /// Removes the outputs, the result file and the empty work directory of a case. Then removes
-    /// `directory`, the directory of the case, if it is empty. Returns `true` if `directory` was
-    /// removed.
+    /// Removes the known files in `directory`, the directory of a case, and then `directory` if it
+    /// is empty.
     ///
-    /// The names in the directory are not read. If the work directory is missing or has entries,
-    /// only the body's outputs are removed. A link at the path of `directory` is not followed, and
-    /// a mounted file system is left as it is.
+    /// The known files are the outputs, the result file and the empty work directory. Returns
+    /// `true` if `directory` was removed.
+    ///
+    /// The names in `directory` are not read. If the work directory is missing or has entries, only
+    /// the body's outputs are removed. A symbolic link at the path of `directory` is not followed,
+    /// and a mounted file system is left as it is.
     pub(crate) fn remove_known_files<R: Files + AllocGlobal>(
         &self,
         rt: &R,

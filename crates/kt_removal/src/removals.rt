@@ -14,7 +14,7 @@ use std::rt::{Clock, Files};
 use std::time::Duration;
 use std::{fs, io, thread};
 
-/// The size of the buffer for the names of entries, in bytes.
+/// The size of the buffer for the names of a directory's entries, in bytes.
 const NAMES_BYTES: usize = 1_024;
 
 /// Returns the path of the directory with the number `number` in the queue directory `place`.
@@ -25,8 +25,10 @@ fn queued_path(alloc: Global, place: &Text, number: u64) -> Result<Text, NoMemor
     Ok(path)
 }
 
-/// Splits off the first name of `names`, in which each name ends with byte 0. Returns the name and
-/// the rest, or `None` if there is no byte 0.
+/// Splits `names`, in which each name ends with a zero byte, after its first name.
+///
+/// Returns the first name without its zero byte, and the bytes after that byte. Returns `None` if
+/// `names` contains no zero byte.
 fn split_name(names: &[u8]) -> Option<(&[u8], &[u8])>
     ensures { IfSome result (λ parts. names.now ≡ parts.0.now ++ 0 ∷ parts.1.now) }
 {
@@ -37,8 +39,10 @@ fn split_name(names: &[u8]) -> Option<(&[u8], &[u8])>
 impl Removals {
     ghost use Rattle.std.specs.Prelude.{◌<◌, ◌↔◌, ◌+◌, ◌-◌, ◌^◌, ◌⊎◌, min, true, IsTrue};
 
-    /// Creates an empty queue for the removals below `root`, with the queue directory `place`. The
-    /// caller has just created both directories.
+    /// Creates an empty queue for removals in the directory `root`, with the queue directory
+    /// `place`.
+    ///
+    /// The caller has just created both directories.
     ///
     /// # Errors
     ///
@@ -63,35 +67,39 @@ impl Removals {
         })
     }
 
-    /// Returns `true` if the queue directory was neither removed nor replaced.
+    /// Returns `true` if the queue directory is still at its path.
+    ///
+    /// Returns `false` if a process removed or replaced the queue directory, or if its status can't
+    /// be read.
     fn has_queue_dir<R: Files>(&self, rt: &R) -> bool {
         self.queue_identity.is_at(rt, self.place.as_str())
     }
 
-    /// Returns the path in the queue to which the next directory is moved.
+    /// Returns the path in the queue directory to which the next directory is moved.
     fn next_queued_path(&self, alloc: Global) -> Result<Text, NoMemory>
         ensures { IfOk result (λ path. path ≡ queued_dir self.now.place self.now.moved) }
     {
         queued_path(alloc, &self.place, self.moved)
     }
 
-    /// Returns `true` if the next number of the queue has no directory, since the move to it
-    /// failed.
+    /// Returns `true` if no directory has the queue's next number, `done`, because the move to this
+    /// number failed.
     fn is_gap(&self) -> bool
         ensures { result ≡ list_any (λ n. n == self.now.done) self.now.gaps.items }
     {
         self.gaps.as_slice().contains(&self.done)
     }
 
-    /// Returns the number of directories in the queue, at most 2^32 - 1. Numbers of failed moves
-    /// count, too.
+    /// Returns the number of directories in the queue, at most 2^32 - 1. A number that was skipped
+    /// after a failed move counts, too.
     fn waiting(&self) -> u32
         ensures { result ≡ waiting self.now.moved self.now.done }
     {
         u32::try_from(self.moved.saturating_sub(self.done)).unwrap_or(u32::MAX)
     }
 
-    /// Returns `true` if the queue is not empty. Numbers of failed moves count, too.
+    /// Returns `true` if the queue is not empty. A number that was skipped after a failed move
+    /// counts as a directory.
     fn is_pending(&self) -> bool
         ensures { IsTrue result ↔ (self.now.done < self.now.moved) }
     {
@@ -113,9 +121,10 @@ impl Removals {
         self.remove_if_empty(rt, path) || self.remove_file(rt, path.as_bytes()).is_ok()
     }
 
-    /// Skips the number that the next moved directory would get, since the move to it failed.
+    /// Skips the number for a directory whose move into the queue failed.
     ///
-    /// If an allocation fails, the number is not skipped, so the next move tries it again.
+    /// The next moved directory gets the number after it. If an allocation fails, the number is not
+    /// skipped, so the next move tries it again.
     fn skip_number(&mut self)
         ensures stays { KeepsQueue self.old self.new }
         ensures gap { (self.new.moved ≡ self.old.moved)
@@ -126,8 +135,9 @@ impl Removals {
         }
     }
 
-    /// Moves the directory `path` into the queue. Returns `true` on success. If the move fails, its
-    /// number is skipped, unless an allocation fails.
+    /// Moves the directory `path` into the queue, with the next number. Returns `true` on success.
+    ///
+    /// If the move fails, the number is skipped, unless an allocation fails.
     fn take<R: Files + AllocGlobal>(&mut self, rt: &R, path: &[u8]) -> bool
         requires { MayRemove self.old path.now }
         ensures stays { KeepsQueue self.old self.new }
@@ -147,8 +157,8 @@ impl Removals {
 
     /// Removes the directory `path` if it is empty, and moves it into the queue if it has entries.
     ///
-    /// If the removal fails for another reason, the directory is left. So is a mount point, which
-    /// is busy.
+    /// If the removal fails for another reason, the directory is left. A mount point is left, too,
+    /// because it is busy.
     fn remove_directory<R: Files + AllocGlobal>(&mut self, rt: &R, path: &[u8])
         requires { MayRemove self.old path.now }
         ensures stays { KeepsQueue self.old self.new }
@@ -164,8 +174,8 @@ impl Removals {
         }
     }
 
-    /// Removes the entry `name` of `directory`. A directory with entries is moved into the queue
-    /// instead.
+    /// Removes the entry `name` of `directory`, or moves it into the queue if it is a directory
+    /// with entries.
     ///
     /// The queue directory itself is left, and so is the entry if the allocation of its path fails.
     fn remove_entry<R: Files + AllocGlobal>(&mut self, rt: &R, directory: &Text, name: &[u8])
@@ -205,8 +215,8 @@ impl Removals {
         }
     }
 
-    /// Reads the next names of entries of `directory` from `names`, and removes the entries with
-    /// these names.
+    /// Reads the next names of entries of `directory` from the open directory `names`, and removes
+    /// these entries.
     ///
     /// Returns `false` at the end of the directory, or if the read fails.
     fn remove_next_entries<R: Files + AllocGlobal>(
@@ -247,7 +257,7 @@ impl Removals {
         self.advance_queue();
     }
 
-    /// Advances the queue to its next number, and clears `progress`.
+    /// Advances the queue by one number, to the directory that is emptied next. Clears `progress`.
     fn advance_queue(&mut self)
         ensures root { self.new.root ≡ self.old.root }
         ensures place { self.new.place ≡ self.old.place }
@@ -259,10 +269,12 @@ impl Removals {
     }
 
     /// Removes the entries of `directory` until all their names are read or the time limit `bound`
-    /// is over. An entry that is a directory with entries is moved into the queue.
+    /// stops the removal.
+    ///
+    /// An entry that is a directory with entries is moved into the queue.
     ///
     /// Returns `true` if all names were read, or if the directory can't be opened or read. The
-    /// entries of the first read are removed even if the time is over.
+    /// entries of the first read are removed even if the time limit has passed.
     fn empty<R: Files + Clock + AllocGlobal>(
         &mut self,
         rt: &R,
@@ -286,11 +298,11 @@ impl Removals {
         false
     }
 
-    /// Empties `path`, the next directory of the queue, within `bound`. Returns `true` if all its
-    /// names were read, or if the directory can't be opened or read.
+    /// Empties `path`, the next directory of the queue, within the time limit `bound`.
     ///
-    /// Otherwise the next call begins again with this directory. If nothing could be removed from
-    /// it, the directory is skipped.
+    /// Returns `true` if all names of its entries were read, or if the directory can't be opened or
+    /// read. Otherwise the next call begins again with this directory. If nothing could be removed
+    /// from it, the directory is skipped.
     fn empty_next_dir<R: Files + Clock + AllocGlobal>(
         &mut self,
         rt: &R,
@@ -314,10 +326,10 @@ impl Removals {
         ended
     }
 
-    /// Empties the next directory of the queue, or skips a number without a directory. Returns
-    /// `true` if another step may follow within `bound`.
+    /// Empties the next directory of the queue, or skips a number that no directory has.
     ///
-    /// If the allocation of the path fails, the next step tries the directory again.
+    /// Returns `true` if another step may follow within the time limit `bound`. If the allocation
+    /// of the path fails, the next step tries the directory again.
     fn step<R: Files + Clock + AllocGlobal>(&mut self, rt: &R, bound: &mut Bound) -> bool
         requires { self.old.done < self.old.moved }
         ensures root { self.new.root ≡ self.old.root }
@@ -333,7 +345,8 @@ impl Removals {
         self.empty_next_dir(rt, &path, bound)
     }
 
-    /// Empties the directories of the queue in order, until the time limit `bound` is over.
+    /// Empties the directories of the queue in order, until the time limit `bound` stops the
+    /// removal.
     ///
     /// If the queue directory was removed or replaced, its entries are left.
     fn empty_queue<R: Files + Clock + AllocGlobal>(&mut self, rt: &R, bound: &mut Bound)
@@ -354,10 +367,10 @@ impl Removals {
         }
     }
 
-    /// Creates the queue directory again if a process removed or replaced it. That fails if another
-    /// directory with entries is at its path.
+    /// Creates the queue directory again if a process removed or replaced it.
     ///
-    /// The directories of the old queue are left.
+    /// The creation fails if another directory with entries is at the path. The directories of the
+    /// old queue are left.
     fn recreate_queue_dir<R: Files + AllocGlobal>(&mut self, rt: &R)
         ensures root { self.new.root ≡ self.old.root }
         ensures place { self.new.place ≡ self.old.place }
@@ -375,8 +388,10 @@ impl Removals {
         }
     }
 
-    /// Removes `root`, the directory of all attempts, with its entries, within the time limit for
-    /// the root. Returns `true` on success.
+    /// Removes `root`, the root directory of all attempts, with its entries. Returns `true` on
+    /// success.
+    ///
+    /// The time limit grows with the number of directories in the queue.
     fn close<R: Files + Clock + AllocGlobal>(&mut self, rt: &R, root: &Text) -> bool
         requires { root.now ≡ self.old.root }
         ensures place { self.new.place ≡ self.old.place }
@@ -386,8 +401,8 @@ impl Removals {
         self.remove_root_within(rt, root, &mut bound)
     }
 
-    /// Removes `root`, the directory of all attempts, with its entries, until the time limit
-    /// `bound` is over. Returns `true` on success.
+    /// Removes `root`, the root directory of all attempts, with its entries, until the time limit
+    /// `bound` stops the removal. Returns `true` on success.
     fn remove_root_within<R: Files + Clock + AllocGlobal>(
         &mut self,
         rt: &R,
@@ -408,10 +423,10 @@ impl Removals {
         self.remove_if_empty(rt, root)
     }
 
-    /// Empties the queue directory once more within `bound`, because it still has directories that
-    /// were skipped.
+    /// Empties the queue directory once more within the time limit `bound`, and removes it.
     ///
-    /// A directory is skipped, for example, if the allocation of an entry's path failed.
+    /// The queue directory still has directories that were skipped, for example because the
+    /// allocation of an entry's path failed.
     fn empty_queue_dir<R: Files + Clock + AllocGlobal>(&mut self, rt: &R, bound: &mut Bound)
         ensures root { self.new.root ≡ self.old.root }
         ensures place { self.new.place ≡ self.old.place }
@@ -426,8 +441,10 @@ impl Removals {
         }
     }
 
-    /// Empties and removes `tree`, the directory of a case. Moves it into the queue if it can't be
-    /// removed within `bound`. Returns `true` if the path no longer exists.
+    /// Empties and removes `tree`, the directory of a case, or moves it into the queue.
+    ///
+    /// `tree` is moved if it can't be removed within the time limit `bound`. Returns `true` if
+    /// `tree` was removed or moved.
     fn remove_or_enqueue<R: Files + Clock + AllocGlobal>(
         &mut self,
         rt: &R,
@@ -443,9 +460,8 @@ impl Removals {
     }
 
     /// Removes `tree`, the directory of a case, or moves it into the queue. Then empties the queue.
-    /// Returns `true` if the path no longer exists.
     ///
-    /// The time limit for all this is 5 milliseconds.
+    /// The time limit for both is 5 milliseconds. Returns `true` if `tree` was removed or moved.
     fn remove_case<R: Files + Clock + AllocGlobal>(&mut self, rt: &R, tree: &Text) -> bool
         requires { IsCaseDirectory self.old.root tree.now }
         ensures place { self.new.place ≡ self.old.place }
@@ -457,12 +473,13 @@ impl Removals {
         gone
     }
 
-    /// Removes the directory `tree` with all entries. It must be the root or the directory of a
-    /// case. Returns `true` if the path no longer exists.
+    /// Removes the directory `tree` with all entries, if it is the root or the directory of a case.
     ///
-    /// Links are not followed. A case's directory that takes too long to empty is moved into the
-    /// queue, and is removed later. The root itself is not moved. Any other path is left as it is,
-    /// and so are all paths if the root was removed or replaced.
+    /// Returns `true` if `tree` was removed or moved. A case's directory that takes too long to
+    /// empty is moved into the queue, and is removed later. The root itself is not moved.
+    ///
+    /// Symbolic links are not followed. Any other path is left as it is, and so are all paths if
+    /// the root was removed or replaced.
     pub fn remove_tree<R: Files + Clock + AllocGlobal>(&mut self, rt: &R, tree: &Text) -> bool
         ensures place { self.new.place ≡ self.old.place }
         ensures outside { result ≡ true → (tree.now ≡ self.old.root)
@@ -478,11 +495,10 @@ impl Removals {
     }
 }
 
-/// Empties the queue of `removals` for `micros` microseconds. Sleeps for that time if there is no
-/// queue or the queue is empty.
+/// Empties the queue of `removals` for `micros` microseconds, or sleeps for that time.
 ///
-/// Returns the microseconds that passed, or `micros` if fewer passed. More than `micros` pass if
-/// the system takes long to remove an entry.
+/// It sleeps if there is no queue or the queue is empty. Returns the microseconds that passed, or
+/// `micros` if fewer passed. More than `micros` pass if the system takes long to remove an entry.
 pub fn rest<R: Files + Clock + AllocGlobal>(
     removals: &mut Option<Removals>,
     rt: &R,

@@ -3,10 +3,10 @@ use kt_base::Text;
 
 /// A queue of the directories below a root directory that are removed in short steps.
 ///
-/// A subdirectory with entries is moved into the queue directory, and renamed to `0`, `1` and so on
-/// there. So is the directory of a case that takes too long to empty. The directories of the queue
-/// are emptied in the order of their numbers. Each path stays short in this way, even for deeply
-/// nested directories.
+/// A subdirectory with entries is moved into the queue directory, where its name is a number: `0`,
+/// `1` and so on. The directory of a case that takes too long to empty is moved, too. The
+/// directories of the queue are emptied in the order of their numbers. Each path stays short in
+/// this way, even for deeply nested directories.
 ///
 /// If the root was removed or replaced by another directory, nothing is removed. If the queue
 /// directory was removed or replaced, no directory is moved into it, and its entries are left. The
@@ -14,7 +14,7 @@ use kt_base::Text;
 /// directory.
 #[derive(Drop)]
 pub struct Removals {
-    /// The path of the root directory.
+    /// The path of the root directory, below which directories are removed.
     pub root: Text,
     /// The path of the queue directory, which is an entry of the root.
     pub place: Text,
@@ -22,11 +22,13 @@ pub struct Removals {
     pub(crate) root_identity: DirIdentity,
     /// The identity of the queue directory when it was created.
     pub(crate) queue_identity: DirIdentity,
-    /// The number that the next moved directory gets.
+    /// The number that the next directory gets when it is moved into the queue. The first number is
+    /// 0.
     pub(crate) moved: u64,
-    /// The number of the queue's directory that is emptied next.
+    /// The number of the directory in the queue that is emptied next, or `moved` if the queue is
+    /// empty.
     pub(crate) done: u64,
-    /// The numbers of the queue that have no directory, because the move to them failed.
+    /// The numbers that no directory in the queue has, because the move to them failed.
     pub(crate) gaps: Vec<u64>,
     /// `true` if an entry of the directory that is being emptied was removed or moved.
     pub(crate) progress: bool,

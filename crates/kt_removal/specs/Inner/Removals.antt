@@ -25,13 +25,13 @@ IsCaseDirectory root path = (name : List ℕ) × (utf8 path ≡ utf8 root ++ 47 
 abbrev pub HasNextDirectory : Removals → Type 0
 HasNextDirectory r = (r.done < r.moved) × (list_any (λ n. n == r.done) r.gaps.items ≡ false)
 
--- `IsRemovable r path`: for the removals `r`, `path` is a case's directory, the queue directory or
--- the next directory of the queue.
+-- `IsRemovable r path`: `path` is a case's directory, the queue directory or the next directory of
+-- the queue `r`.
 abbrev pub IsRemovable : Removals → List ℕ → Type 0
 IsRemovable r path = IsCaseDirectory r.root path ⊎ (path ≡ r.place) ⊎ (HasNextDirectory r × (path ≡ queued_dir r.place r.done))
 
--- `MayEmpty r path`: a step of the removals `r` may remove the entries of `path`. It is the root, a
--- case's directory, the queue directory or the next directory of the queue.
+-- `MayEmpty r path`: a step of the queue `r` may remove the entries of `path`. `path` is the root,
+-- a case's directory, the queue directory or the next directory of the queue.
 abbrev pub MayEmpty : Removals → List ℕ → Type 0
 MayEmpty r path = (path ≡ r.root) ⊎ IsRemovable r path
 
@@ -44,13 +44,14 @@ is_entry_name name = not (bytes_eq name []) && not (bytes_eq name (codes ".")) &
 abbrev pub IsEntryOf : List ℕ → List ℕ → Type 0
 IsEntryOf directory path = (name : List ℕ) × (path ≡ utf8 directory ++ 47 ∷ name) × (is_entry_name name ≡ true)
 
--- `MayRemove r path`: a step of the removals `r` may remove or move `path`. It is an entry of a
+-- `MayRemove r path`: a step of the queue `r` may remove or move `path`. `path` is an entry of a
 -- directory that the step may empty (`MayEmpty`), or that directory itself if it isn't the root.
 abbrev pub MayRemove : Removals → List ℕ → Type 0
 MayRemove r path = (directory : List ℕ) × ((IsRemovable r directory × (path ≡ utf8 directory)) ⊎ (MayEmpty r directory × IsEntryOf directory path))
 
--- `KeepsQueue old new`: a step takes the removals from `old` to `new`, with the same root, queue
--- directory and next number. If `old` has a next directory, so has `new`.
+-- `KeepsQueue old new`: a step changes the queue from `old` to `new`. The root, the queue directory
+-- and the number of the next directory stay the same. If `old` has a next directory, `new` has one,
+-- too.
 pub record KeepsQueue (old new : Removals) : Type 0 where
   pub root : new.root ≡ old.root
   pub place : new.place ≡ old.place
@@ -58,6 +59,7 @@ pub record KeepsQueue (old new : Removals) : Type 0 where
   pub moved : HasNextDirectory old → HasNextDirectory new
 
 -- `waiting moved done`: the number of directories in the queue, at most 2^32 - 1. `moved` is the
--- number that the next moved directory gets, and `done` that of the directory that is emptied next.
+-- number that the next moved directory gets, and `done` is the number of the directory that is
+-- emptied next. A number that was skipped after a failed move counts, too.
 abbrev pub waiting : ℕ → ℕ → ℕ
 waiting moved done = min (moved - done) (2 ^ 32 - 1)
