@@ -23,7 +23,8 @@ use Rattle.kt_claim.specs.declared.evidence.Evidence.TheVariants as evidence
 use Rattle.kt_status.specs.declared.cleanup_end.CleanupEnd.{CleanupEnd}
 use Rattle.kt_status.specs.declared.cleanup_end.CleanupEnd.TheVariants as cleanup
 
--- `claim_fault_text fault`: the text in a reason for the error `fault` of a result file.
+-- `claim_fault_text fault`: the part of a reason's text that names the error `fault` of a result
+-- file.
 abbrev pub claim_fault_text : ClaimFault → List ℕ
 claim_fault_text result.TooLong = codes "too long"
 claim_fault_text result.Empty = codes "empty"
@@ -34,7 +35,7 @@ claim_fault_text result.BadNumber = codes "bad number"
 claim_fault_text result.UnexpectedReason = codes "unexpected reason"
 claim_fault_text result.NoReason = codes "no reason"
 
--- `tap_fault_text fault`: the text in a reason for the error `fault` of TAP output.
+-- `tap_fault_text fault`: the part of a reason's text that names the error `fault` of TAP output.
 abbrev pub tap_fault_text : TapFault → List ℕ
 tap_fault_text stream.Unreadable = codes "output could not be read"
 tap_fault_text stream.TooLong = codes "output too long"
@@ -119,8 +120,8 @@ pub data CleanupRow : ℕ → VerdictValue → CleanupEnd → VerdictValue → T
   cleanup_failed : (body : VerdictValue) (ending : Outcome) → CleanupRow 4 body (cleanup.Ended ending) (verdict.broken (codes "Test case cleanup did not terminate successfully"))
   cleanup_not_started : (body : VerdictValue) → CleanupRow 5 body cleanup.Refused (verdict.broken (codes "Test case cleanup could not be started"))
 
--- `IsFirstRow Row verdict`: the first row of the table `Row` that fits gives `verdict`. `Row number
--- verdict` holds for the least `number` of a row that fits.
+-- `IsFirstRow Row verdict`: the first row of the table `Row` that fits gives `verdict`.
+-- `Row number other` holds if the row `number` fits and gives the verdict `other`.
 pub record IsFirstRow (Row : ℕ → VerdictValue → Type 0) (verdict : VerdictValue) : Type 0 where
   pub number : ℕ
   pub fits : Row number verdict

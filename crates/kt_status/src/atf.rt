@@ -4,8 +4,8 @@ ghost use Rattle.kt_status.specs.Common.{outcome_text, phrase_text, broken, clai
 use kt_base::{Outcome, Phrase, Reason, Verdict};
 use kt_claim::{Claim, ClaimFault};
 
-/// Returns the phrase for the error `fault` in a result file. It is the reason of a `broken`
-/// verdict.
+/// Returns the phrase for a result file with the error `fault`. The phrase is the reason of the
+/// `broken` verdict.
 fn fault_phrase(fault: ClaimFault) -> Phrase
     ensures { phrase_text result ≡ codes "Invalid result file: " ++ claim_fault_text fault }
 {
@@ -21,7 +21,7 @@ fn fault_phrase(fault: ClaimFault) -> Phrase
     }
 }
 
-/// Returns the `broken` verdict on a case whose result file is missing or contradicts its outcome,
+/// Returns the `broken` verdict on a case whose result file is missing or contradicts the outcome
 /// `ending`.
 ///
 /// The reason is `phrase`, followed by the exit status or the signal.
@@ -33,8 +33,8 @@ fn contradiction_verdict(phrase: Phrase, ending: Outcome) -> Verdict
 
 /// Returns the verdict on the body of an ATF case (this profile).
 ///
-/// `claim` is the claim of its result file, and `ending` is its outcome. The first matching row of
-/// the ATF table (`AtfRow`) decides. The call doesn't allocate.
+/// `claim` is the claim of the case's result file, and `ending` is the outcome of the body. The
+/// first matching row of the ATF table (`AtfRow`) decides. The call doesn't allocate.
 pub fn atf_verdict(claim: Claim, ending: Outcome) -> Verdict
     ensures { result ≡ atf_verdict claim ending }
 {

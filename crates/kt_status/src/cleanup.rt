@@ -4,7 +4,7 @@ ghost use Rattle.kt_status.specs.Common.{VerdictValue, IsVerdictAfterCleanup, ve
 use crate::CleanupEnd;
 use kt_base::{Outcome, Phrase, Reason, Verdict};
 
-/// Returns the verdict on a case after its cleanup, if `body`, the verdict on its body, is good.
+/// Returns the verdict on a case after its cleanup, if the verdict `body` on its body is a success.
 ///
 /// `end` is the result of the cleanup. The verdict is `body` if the cleanup exited with 0,
 /// otherwise `broken`.

@@ -4,7 +4,8 @@ ghost use Rattle.kt_status.specs.Common.{phrase_text, tap_fault_text, tap_verdic
 use kt_base::{Outcome, Phrase, Reason, Verdict};
 use kt_claim::{Tap, TapFault};
 
-/// Returns the phrase for the error `fault` in TAP output. It is the reason of a `broken` verdict.
+/// Returns the phrase for TAP output with the error `fault`. The phrase is the reason of the
+/// `broken` verdict.
 fn fault_phrase(fault: TapFault) -> Phrase
     ensures { phrase_text result ≡ codes "TAP test program yielded invalid data: "
         ++ tap_fault_text fault }
@@ -20,8 +21,8 @@ fn fault_phrase(fault: TapFault) -> Phrase
 
 /// Returns the verdict on the case of a TAP program (this profile).
 ///
-/// `tap` is the result of its TAP output, and `ending` is its outcome. The first matching row of
-/// the TAP table (`TapRow`) decides. The call doesn't allocate.
+/// `tap` is the result of the program's TAP output, and `ending` is the outcome of the program. The
+/// first matching row of the TAP table (`TapRow`) decides. The call doesn't allocate.
 pub fn tap_verdict(tap: Tap, ending: Outcome) -> Verdict
     ensures { result ≡ tap_verdict tap ending }
 {

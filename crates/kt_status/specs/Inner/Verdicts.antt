@@ -23,18 +23,18 @@ abbrev pub exits_with : ℕ → Outcome → Bool
 exits_with n (Exited code) = nat_eq code n
 exits_with n _ = false
 
--- `exit_claim_verdict due reason ending`: the verdict if the result file claims an expected exit
--- for `reason`, and the outcome is `ending`. The claimed status is `due`, or any status if `due` is
--- `None`.
+-- `exit_claim_verdict due reason ending`: the verdict on an ATF case whose result file claims an
+-- expected exit for `reason`, and whose body has the outcome `ending`. The claimed status is `due`,
+-- or any status if `due` is `None`.
 abbrev pub exit_claim_verdict : Option ℕ → List ℕ → Outcome → VerdictValue
 exit_claim_verdict None reason (Exited _) = expected_failure reason
 exit_claim_verdict (Some due) reason (Exited code) =
     if nat_eq due code then expected_failure reason else failed (codes "Expected exit code " ++ decimal due ++ codes " but got " ++ decimal code)
 exit_claim_verdict _ _ ending = broken (codes "Expected clean exit but " ++ outcome_text ending)
 
--- `signal_claim_verdict due reason ending`: the verdict if the result file claims an expected
--- signal for `reason`, and the outcome is `ending`. The claimed signal is `due`, or any signal if
--- `due` is `None`.
+-- `signal_claim_verdict due reason ending`: the verdict on an ATF case whose result file claims an
+-- expected signal for `reason`, and whose body has the outcome `ending`. The claimed signal is
+-- `due`, or any signal if `due` is `None`.
 abbrev pub signal_claim_verdict : Option ℕ → List ℕ → Outcome → VerdictValue
 signal_claim_verdict None reason (Signaled _ _) = expected_failure reason
 signal_claim_verdict (Some due) reason (Signaled signal _) =
@@ -108,8 +108,8 @@ verdict_of evidence.Plain ending = plain_verdict ending
 abbrev pub verdict_of_refusal : Refused → VerdictValue
 verdict_of_refusal r = broken (reason_text (refused_reason r))
 
--- `verdict_if_body_good body end`: the verdict on a case whose body has the good verdict `body`,
--- after a cleanup with the result `end`.
+-- `verdict_if_body_good body end`: the verdict on a case after a cleanup with the result `end`. The
+-- verdict on its body, `body`, counts as a success.
 abbrev pub verdict_if_body_good : VerdictValue → CleanupEnd → VerdictValue
 verdict_if_body_good body (cleanup.Ended (Exited code)) = if nat_eq code 0 then body else broken (codes "Test case cleanup did not terminate successfully")
 verdict_if_body_good body (cleanup.Ended TimedOut) = broken (codes "Test case cleanup timed out")
@@ -117,6 +117,6 @@ verdict_if_body_good body (cleanup.Ended _) = broken (codes "Test case cleanup d
 verdict_if_body_good body cleanup.Refused = broken (codes "Test case cleanup could not be started")
 
 -- `verdict_after_cleanup body end`: the verdict on a case whose body has the verdict `body`, after
--- a cleanup with the result `end`. A bad verdict on the body is kept.
+-- a cleanup with the result `end`. A verdict on the body that does not count as a success is kept.
 abbrev pub verdict_after_cleanup : VerdictValue → CleanupEnd → VerdictValue
 verdict_after_cleanup body end = if good body.kind then verdict_if_body_good body end else body
