@@ -4,7 +4,7 @@ use Rattle.std.specs.Prelude.{◌⊎◌, ⊤, ℕ, List, codes}
 use Rattle.kt_store.specs.Types.{IsRolledBack, IsUnchanged, NoMemory, State, Store, StoreFault}
 
 -- `IsUnchangedOrRolledBack old new`: from state `old` to state `new` of a connection, nothing
--- changed or the open transaction was rolled back
+-- changed, or the open transaction was rolled back
 abbrev pub IsUnchangedOrRolledBack : State → State → Type 0
 IsUnchangedOrRolledBack old new = IsUnchanged old new ⊎ IsRolledBack old new
 

@@ -5,8 +5,9 @@ use Rattle.kt_store.specs.Runs.{IsSchema2Of, IsAnySchemaOf}
 use Rattle.kt_store.specs.Stands.{StandsFor, RepresentsInSchema1, IsEmpty, StoresSchemaNumber, HasTables, Leaves}
 use Rattle.kt_store.specs.Types.{HasCleanDisk, Run, State, StoreFault, Survives}
 
--- The state of a database before it is attached. `Blank` has no tables. `Schema2` has `runs` in
--- schema 2, and `Schema1` has them in schema 1. `Numbered` has the schema number `n` and any other
+-- A description of a database before its tables are created, checked or migrated by
+-- `Results::attach`. `Blank` has no tables. `Schema2` has the runs `runs` in schema 2, and
+-- `Schema1` has the runs `runs` in schema 1. `Numbered` has the schema number `n` and any other
 -- content.
 pub data InitialDatabase : Type 0 where
   Blank : InitialDatabase
@@ -14,30 +15,34 @@ pub data InitialDatabase : Type 0 where
   Schema1 : (runs : List Run) → InitialDatabase
   Numbered : (n : ℤ) → InitialDatabase
 
--- `Describes was s`: `was` describes the database of a connection in state `s`
+-- `Describes was s`: `was` describes the database of a connection in state `s`. Each description
+-- holds for a closed connection, or if the disk has returned wrong data.
 abbrev pub Describes : InitialDatabase → State → Type 0
 Describes Blank s = IsEmpty s
 Describes (Schema2 runs) s = StandsFor s runs
 Describes (Schema1 runs) s = RepresentsInSchema1 s runs
 Describes (Numbered n) s = StoresSchemaNumber n s
 
--- `AttachSucceeds was old new`: attaching a database that `was` describes took its connection from
--- `old` to `new`. The tables of `new` represent the runs of `was` (none if blank), and a crash
--- leaves only these runs. A crash during the call leaves what it left before or, if the call wrote,
--- these runs. For `Numbered`, the schema number is 1 or 2, and SQLite can prepare the queries of
--- this schema, unless the disk has returned wrong data.
+-- `AttachSucceeds was old new`: the effect of a successful `Results::attach`, which led a
+-- connection from state `old` to `new`. The database in `old` is as `was` describes. In `new`, the
+-- tables represent the runs of `was` (no runs for `Blank`), and a crash leaves only these runs. A
+-- crash during the call leaves what a crash in `old` leaves or, if the call wrote, these runs. For
+-- `Numbered`, the schema number is 1 or 2, and SQLite can prepare the queries of this schema,
+-- unless the disk has returned wrong data.
 abbrev pub AttachSucceeds : InitialDatabase → State → State → Type 0
 AttachSucceeds Blank old new = StandsFor new [] × Leaves new (IsSchema2Of []) × Survives old new (IsSchema2Of [])
 AttachSucceeds (Schema2 runs) old new = StandsFor new runs × Leaves new (IsSchema2Of runs) × Survives old new (λ _. ⊥)
 AttachSucceeds (Schema1 runs) old new = StandsFor new runs × Leaves new (IsSchema2Of runs) × Survives old new (IsSchema2Of runs)
 AttachSucceeds (Numbered n) old new = HasCleanDisk new → ((n ≡ pos 1) ⊎ (n ≡ pos 2)) × HasTables n old
 
--- `AttachFails was old new fault`: an attach to a database that `was` describes failed with `fault`,
--- and led the connection from `old` to `new`. The database is unchanged. Unless the disk returned
--- wrong data, `fault` reports that memory ran out or that the database failed. If the connection
--- was open and `was` has runs, a crash leaves these runs, for `Schema1` in schema 1 or 2. For
--- `Numbered n`, the database is unchanged or rolled back if `n` is not 1. `Survives` is about a
--- crash during the call.
+-- `AttachFails was old new fault`: the effect of a failed `Results::attach`, which led a connection
+-- from state `old` to `new`. The database in `old` is as `was` describes, and `fault` is the error.
+-- For the first three descriptions, the database in `new` is also as `was` describes. Unless the
+-- disk has returned wrong data, `fault` then reports that memory ran out or that the database
+-- failed. If the connection was open, a crash in `new` leaves the runs of `was`, for `Schema1` in
+-- schema 1 or 2. For `Numbered n` with `n` other than 1, nothing changed or the open transaction
+-- was rolled back, unless the disk has returned wrong data. A crash during the call leaves what a
+-- crash in `old` leaves or, for `Blank` and `Schema1`, the runs of `was` in schema 2.
 abbrev pub AttachFails : InitialDatabase → State → State → StoreFault → Type 0
 AttachFails Blank old new fault = IsEmpty new × Survives old new (IsSchema2Of []) × (HasCleanDisk new → IsDatabaseFault fault)
 AttachFails (Schema2 runs) old new fault = StandsFor new runs × Survives old new (λ _. ⊥) × (HasCleanDisk new → IsDatabaseFault fault) × (IsTrue old.is_open → Leaves new (IsSchema2Of runs))

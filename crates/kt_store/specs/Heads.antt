@@ -8,8 +8,8 @@ use Rattle.kt_store.specs.Types.{CaseOutputs, Entry, Run, RunHead, Variable, fin
 abbrev pub head_of : Run → RunHead
 head_of r = record { number = r.number; started = r.started; total = r.total; finished = r.finished }
 
--- `head_at runs number`: the head of the run in `runs` with `number`, or of the last run if
--- `number` is `None`; `None` if there is no such run
+-- `head_at runs number`: the head of the run in `runs` with the number `number`, or of the last run
+-- if `number` is `None`. `None` if there is no such run.
 abbrev pub head_at : List Run → Option ℕ → Option RunHead
 head_at runs number = option_map head_of (run_at runs (unwrap_or number (length runs)))
 
@@ -17,7 +17,7 @@ head_at runs number = option_map head_of (run_at runs (unwrap_or number (length 
 abbrev pub IsNumbered : Option ℕ → RunHead → Type 0
 IsNumbered number head = IfSome number (λ n. head.number ≡ n)
 
--- the output of a body or a cleanup that printed nothing
+-- `no_output`: the output of a body or a cleanup whose standard output and standard error are empty
 abbrev pub no_output : Output
 no_output = record { out = []; err = [] }
 

@@ -5,7 +5,7 @@ use Rattle.kt_store.specs.Tables.{schema_1, schema_2}
 use Rattle.std.specs.Str.{chars, IsUtf8}
 use Rattle.kt_store.specs.Types.{AllByRecursion, BadPosition, Blob, Broken, Database, Entry, ExpectedFailure, Failed, Incomplete, Int, IsAscending, IsDatabase, NoRun, Null, Passed, RepeatedPosition, Row, Run, RunClosed, Skipped, StoreFault, Text, Trees, Variable, greatest_run_number, list_any, utf8}
 
--- `kind_code kind`: the number that represents `kind` in the tables
+-- `kind_code kind`: the number, 0 to 4, that represents the verdict kind `kind` in the tables
 abbrev pub kind_code : Kind → ℕ
 kind_code Passed = 0
 kind_code Skipped = 1
@@ -13,12 +13,13 @@ kind_code ExpectedFailure = 2
 kind_code Failed = 3
 kind_code Broken = 4
 
--- `flag finished`: the number that represents `finished` in the tables: 1 for `true`, 0 for `false`
+-- `flag finished`: the number that represents `finished`, which is `true` for a finished run, in
+-- the table `runs`: 1 for `true`, 0 for `false`
 abbrev pub flag : Bool → ℤ
 flag finished = if finished then pos 1 else pos 0
 
--- `run_row r`: the row of run `r` as SQLite stores it: the rowid, NULL in the column of the rowid,
--- and the other columns
+-- `run_row r`: the row of run `r` in the table `runs` as SQLite stores it. It has the rowid, NULL
+-- in the column of the rowid, and the other columns.
 abbrev pub run_row : Run → Row
 run_row r = Int (pos r.number) ∷ Null ∷ Int (pos r.started) ∷ Int (pos r.total) ∷ Int (flag r.finished) ∷ []
 
@@ -51,12 +52,13 @@ pair_rows run e = pair_rows_from run e.position 0 e.meta
 abbrev pub prop_rows : List Run → List Row
 prop_rows runs = flat_map (λ r. flat_map (pair_rows r.number) r.entries) runs
 
--- `AreNumbered n runs`: the numbers of `runs` are `n`, `n` + 1, and so on
+-- `AreNumbered n runs`: the numbers of `runs` are `n`, `n` + 1, and so on, in the order of `runs`
 abbrev pub AreNumbered : ℕ → List Run → Type 0
 AreNumbered n [] = ⊤
 AreNumbered n (r ∷ runs) = (r.number ≡ n) × AreNumbered (suc n) runs
 
--- `IsEncodable text`: UTF-8 can represent the characters of `text`, so decoding its bytes returns `text`
+-- `IsEncodable text`: the characters of `text` are representable in UTF-8, so decoding the encoded
+-- bytes returns `text`
 abbrev pub IsEncodable : List ℕ → Type 0
 IsEncodable text = (chars (utf8 text) ≡ text) × IsUtf8 (utf8 text)
 
@@ -64,8 +66,8 @@ IsEncodable text = (chars (utf8 text) ≡ text) × IsUtf8 (utf8 text)
 abbrev pub IsEncodableProperty : Variable → Type 0
 IsEncodableProperty v = IsEncodable v.name × IsEncodable v.value
 
--- `IsValidEntry e`: the texts of entry `e` are representable in UTF-8, and its reason is empty if the
--- case passed
+-- `IsValidEntry e`: the texts of entry `e` are representable in UTF-8, and the reason of its
+-- verdict is empty if the case passed
 pub record IsValidEntry (e : Entry) : Type 0 where
   pub program : IsEncodable e.program
   pub case_name : IsEncodable e.case_name
@@ -73,9 +75,9 @@ pub record IsValidEntry (e : Entry) : Type 0 where
   pub passed : e.verdict.kind ≡ Passed → e.verdict.reason ≡ []
   pub meta : AllByRecursion IsEncodableProperty e.meta
 
--- `IsValidRun r`: the total of run `r` is below 2^32. Its entries meet `IsValidEntry`, ascend by position
--- without a repetition, and have positions below the total. A finished run has as many entries as
--- its total.
+-- `IsValidRun r`: the total of run `r` is below 2^32. Its entries meet `IsValidEntry`, ascend by
+-- position without a repetition, and have positions below the total. If `r` is finished, it has as
+-- many entries as its total.
 pub record IsValidRun (r : Run) : Type 0 where
   pub small : r.total < 4294967296
   pub ordered : IsAscending (λ (a b : Entry). a.position < b.position) r.entries
@@ -83,8 +85,8 @@ pub record IsValidRun (r : Run) : Type 0 where
   pub sound : AllByRecursion IsValidEntry r.entries
   pub whole : r.finished ≡ true → length r.entries ≡ r.total
 
--- `AreValidRuns runs`: `runs` are numbered from 1, each of them meets `IsValidRun`, and there are at most
--- 1,000,000
+-- `AreValidRuns runs`: `runs` are numbered from 1, each run meets `IsValidRun`, and there are at
+-- most 1,000,000 runs
 pub record AreValidRuns (runs : List Run) : Type 0 where
   pub numbered : AreNumbered 1 runs
   pub each : AllByRecursion IsValidRun runs
@@ -141,12 +143,13 @@ abbrev pub IsSchema2OfOne : List (List Run) → Trees → Type 0
 IsSchema2OfOne [] trees = ⊥
 IsSchema2OfOne (runs ∷ others) trees = IsSchema2Of runs trees ⊎ IsSchema2OfOne others trees
 
--- `new_run runs total started`: the run that a begin appends to `runs`. It has the next number,
--- `total` cases and the timestamp `started`, is unfinished, and has no entries.
+-- `new_run runs total started`: the run that `ResultStore::begin` appends to `runs`. It has the
+-- next number, `total` cases and the timestamp `started`, is unfinished, and has no entries.
 abbrev pub new_run : List Run → ℕ → ℕ → Run
 new_run runs total started = record { number = suc (length runs); started = started; total = total; finished = false; entries = [] }
 
--- `run_at runs number`: the run at index `number` - 1 of `runs`, or `None` if there is none
+-- `run_at runs number`: the run at the index `number` - 1 of the list `runs`. `None` if `number` is
+-- 0 or greater than the number of runs.
 abbrev pub run_at : List Run → ℕ → Option Run
 run_at runs zero = None
 run_at runs (suc k) = slice_get runs k
@@ -172,7 +175,7 @@ abbrev pub has_position : ℕ → List Entry → Bool
 has_position position es = list_any (λ (e : Entry). e.position == position) es
 
 -- `put_refusal_of r e`: the first error that applies to a put of entry `e` into run `r`, or `None`
--- if the run accepts the entry; `r` is `None` if there is no such run
+-- if the run accepts the entry. `r` is `None` if there is no such run; the error is then `NoRun`.
 abbrev pub put_refusal_of : Option Run → Entry → Option StoreFault
 put_refusal_of None e = Some NoRun
 put_refusal_of (Some r) e = if r.finished then Some RunClosed else if nat_le r.total e.position then Some BadPosition else if has_position e.position r.entries then Some RepeatedPosition else None
@@ -183,7 +186,7 @@ abbrev pub put_refusal : List Run → ℕ → Entry → Option StoreFault
 put_refusal runs run e = put_refusal_of (run_at runs run) e
 
 -- `finish_refusal_of r`: the first error that keeps run `r` from being finished, or `None` if it
--- can be finished; `r` is `None` if there is no such run
+-- can be finished. `r` is `None` if there is no such run; the error is then `NoRun`.
 abbrev pub finish_refusal_of : Option Run → Option StoreFault
 finish_refusal_of None = Some NoRun
 finish_refusal_of (Some r) = if r.finished then Some RunClosed else if nat_lt (length r.entries) r.total then Some Incomplete else None

@@ -35,11 +35,11 @@ Agrees runs (Outputs number position (Ok outputs)) = (e : Entry) × (entry_at (r
 Agrees runs (Outputs number position (Err fault)) = IsDatabaseFault fault ⊎ ((fault ≡ NoRun) × (entry_at (run_at runs number) position ≡ None))
 
 module _ {R : Type 0} (LeavesOne : R → List (List Run) → Type 0) where
-  -- `SurvivesCrash LeavesOne call runs may old new`: a crash after `call` leaves permitted runs, if
-  -- `call` takes a store with `runs` from the state `old` to `new`. `LeavesOne s lists`: in state
-  -- `s`, a crash leaves one of `lists`. `may` are lists of runs that a crash might leave before the
-  -- call. After a successful call that writes, only the changed runs are possible. A failed call
-  -- adds the changed runs to the lists. A call that reads adds nothing.
+  -- `SurvivesCrash LeavesOne call runs may old new`: a crash after `call` leaves only permitted
+  -- runs. The call leads a store with `runs` from the state `old` to `new`. `LeavesOne s lists`: in
+  -- state `s`, a crash leaves one of `lists`. `may` are lists of runs that a crash might leave
+  -- before the call. After a successful call that writes, only the changed runs are permitted. A
+  -- failed call that writes adds the changed runs to the lists. A call that reads adds nothing.
   abbrev pub SurvivesCrash : StoreCall → List Run → List (List Run) → R → R → Type 0
   SurvivesCrash (Began total moment (Ok number)) runs may old new = LeavesOne new ((runs ++ new_run runs total moment ∷ []) ∷ [])
   SurvivesCrash (Began total moment (Err fault)) runs may old new = LeavesOne old (runs ∷ may) → LeavesOne new (runs ∷ (runs ++ new_run runs total moment ∷ []) ∷ may)
@@ -61,15 +61,15 @@ pub record Serves {R : Type 0} (r : store.Ghosts R) (call : StoreCall) (old new 
   pub crash : (runs : List Run) (may : List (List Run)) → r.stands old runs → SurvivesCrash r.leaves call runs may old new
 
 -- `Reads r old new`: a call that only reads leads a store with the specification `r` from `old` to
--- `new`. `new` represents the runs that `old` represents. If `new` is sound, `old` was sound. A
--- crash leaves only what it left before.
+-- `new`. If `old` represents runs, `new` represents the same runs. If `new` is then sound, `old`
+-- was sound. A crash leaves only what a crash before the call leaves.
 pub record Reads {R : Type 0} (r : store.Ghosts R) (old new : R) : Type 0 where
   pub stands : (runs : List Run) → r.stands old runs → r.stands new runs
   pub earlier : (runs : List Run) → r.stands old runs → r.sound new → r.sound old
   pub crash : (runs : List Run) (may : List (List Run)) → r.stands old runs → r.leaves old may → r.leaves new may
 
 -- `results g`: the specification of the store `Results` over connections with the specification
--- `g`; its relation `answers` is trivial, since other clauses state each result
+-- `g`. Its relation `answers` always holds, since other clauses state the results of calls.
 abbrev pub results : {S : Type 0} → Ghosts S → store.Ghosts (Held S)
 results g = record {
   answers = λ _ _ _. Unit {0};

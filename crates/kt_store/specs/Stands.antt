@@ -8,8 +8,8 @@ use Rattle.kt_store.specs.Tables.{no_schema, schema_with_meta, select_runs_sql, 
 use Rattle.kt_store.specs.Runs.{HasSchemaNumber, Tables, IsSchema1Database}
 use Rattle.kt_store.specs.Types.{Database, Ghosts, HasCleanDisk, Held, Run, State, Trees, state, understood}
 
--- `IsSettled P s`: in state `s` of a connection no transaction is open, the visible database is
--- that of the last commit, and `P` holds for this database
+-- `IsSettled P s`: in state `s` of a connection, no transaction is open, and the connection shows
+-- the database of the last commit. `P` holds for this database.
 pub record IsSettled (P : Database → Type 0) (s : State) : Type 0 where
   pub autocommit : s.in_transaction ≡ false
   pub settled : s.committed ≡ s.now
@@ -32,8 +32,8 @@ abbrev pub StandsFor : State → List Run → Type 0
 StandsFor s runs = IsSettledWhileOpen (λ db. Tables db runs) s
 
 -- `HoldsForRuns g old new P`: `P` holds for the runs that the tables of connection `old` represent.
--- `new` is the connection after a call. Nothing is stated if the disk has returned wrong data by
--- then. `g` is the specification of connections.
+-- `new` is the connection after a call. Nothing is stated if the disk has returned wrong data up to
+-- `new`. `g` is the specification of connections.
 abbrev pub HoldsForRuns : {S : Type 0} → Ghosts S → Held S → Held S → (List Run → Type 0) → Type 0
 HoldsForRuns g old new P = (runs : List Run) → StandsFor (state g old) runs → HasCleanDisk (state g new) → P runs
 
@@ -49,13 +49,13 @@ RepresentsInSchema1 s runs = IsSettledWhileOpen (λ db. IsSchema1Database db run
 abbrev pub IsEmpty : State → Type 0
 IsEmpty s = IsSettledWhileOpen (λ db. db.schema ≡ no_schema) s
 
--- `Leaves s P`: a crash in state `s` leaves B-trees for which `P` holds, unless the disk has
--- returned wrong data
+-- `Leaves s P`: a crash in state `s` of a connection leaves B-trees for which `P` holds, unless the
+-- disk has returned wrong data
 abbrev pub Leaves : State → (Trees → Type 0) → Type 0
 Leaves s P = HasCleanDisk s → (trees : Trees) → s.may_leave trees → P trees
 
--- `ListsSchemaNumber n s`: in state `s` the first table is `meta`, and its schema number is `n`;
--- any other tables may follow
+-- `ListsSchemaNumber n s`: in state `s` of a connection, the first table of the database is `meta`,
+-- and it has the schema number `n`. Other tables may follow.
 pub record ListsSchemaNumber (n : ℤ) (s : State) : Type 0 where
   pub others : List Table
   pub indexes : List Index
@@ -63,17 +63,19 @@ pub record ListsSchemaNumber (n : ℤ) (s : State) : Type 0 where
   pub schema : s.now.schema ≡ schema_with_meta others indexes views
   pub marked : HasSchemaNumber n s.now.trees
 
--- `StoresSchemaNumber n s`: in state `s` of a connection, the first table is `meta`, and its schema
--- number is `n`. Nothing is stated for a closed connection or a disk that returned wrong data.
+-- `StoresSchemaNumber n s`: in state `s` of a connection, the first table of the database is
+-- `meta`, and it has the schema number `n`. Nothing is stated for a closed connection or a disk
+-- that returned wrong data.
 abbrev pub StoresSchemaNumber : ℤ → State → Type 0
 StoresSchemaNumber n s = HasCleanDisk s → IsTrue s.is_open → ListsSchemaNumber n s
 
--- `IsPreparable s sql`: SQLite can prepare the statement `sql` over the tables of state `s`
+-- `IsPreparable s sql`: SQLite can prepare the statement `sql` over the tables in state `s` of a
+-- connection
 abbrev pub IsPreparable : State → List ℕ → Type 0
 IsPreparable s sql = (c : Compiled) × (understood s.now.schema sql ≡ Ok c)
 
--- `HasTables n s`: in state `s` SQLite can prepare the queries of schema `n`: for runs, for entries
--- and, in schema 2, for properties
+-- `HasTables n s`: in state `s` of a connection, SQLite can prepare the queries of schema `n`.
+-- These are the queries for runs, for entries and, if `n` is 2, for properties.
 pub record HasTables (n : ℤ) (s : State) : Type 0 where
   pub runs : IsPreparable s select_runs_sql
   pub entries : IsPreparable s select_entries_sql

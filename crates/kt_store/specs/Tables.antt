@@ -21,7 +21,7 @@ use Rattle.sqlite_sql.specs.declared.ops.CompareOp.TheVariants.{Eq, Ge, Le}
 abbrev pub no_schema : Schema
 no_schema = record { tables = []; indexes = []; views = [] }
 
--- the statement that creates the table `meta`, which has the schema number
+-- the SQL statement that creates the table `meta`, which stores the schema number
 abbrev pub create_meta_sql : List ℕ
 create_meta_sql = codes "CREATE TABLE meta (name TEXT PRIMARY KEY, value INTEGER NOT NULL) STRICT"
 
@@ -33,8 +33,8 @@ create_runs_sql = codes "CREATE TABLE runs (id INTEGER PRIMARY KEY, started INTE
 abbrev pub create_entries_sql : List ℕ
 create_entries_sql = codes "CREATE TABLE entries (run INTEGER NOT NULL REFERENCES runs (id), position INTEGER NOT NULL, program TEXT NOT NULL, case_name TEXT NOT NULL, kind INTEGER NOT NULL CHECK (kind BETWEEN 0 AND 4), reason TEXT NOT NULL, started INTEGER NOT NULL, millis INTEGER NOT NULL, body_out BLOB NOT NULL, body_err BLOB NOT NULL, clean_out BLOB NOT NULL, clean_err BLOB NOT NULL, PRIMARY KEY (run, position)) STRICT"
 
--- `column name kind not_null`: a column with `name` that accepts only values of `kind`, and NULL
--- only if `not_null` is `false`
+-- `column name kind not_null`: a column named `name` of a STRICT table, which accepts only values
+-- of the type `kind`. It accepts NULL only if `not_null` is `false`.
 abbrev pub column : List ℕ → Kind → Bool → Column
 column name kind not_null = record { name = name; kind = kind; is_strict = true; not_null = not_null; default = Null; collation = Binary }
 
@@ -42,12 +42,13 @@ column name kind not_null = record { name = name; kind = kind; is_strict = true;
 abbrev pub no_time_defaults : Stamps
 no_time_defaults = record { places = []; terms = []; formats = [] }
 
--- `bare_table name columns`: a table with `name` and `columns`, without a key, check or reference
+-- `bare_table name columns`: a table named `name` with `columns`, without a key, a check or a
+-- reference, before SQLite assigns a B-tree to it
 abbrev pub bare_table : List ℕ → List Column → Table
 bare_table name columns =
     record { name = name; tree = 0; columns = columns; key = None; primary = []; uniques = []; orders = []; checks = []; references = []; computed = []; stamps = no_time_defaults; is_counted = false }
 
--- the table `meta`, which has the schema number, before SQLite assigns a B-tree to it
+-- the table `meta`, which stores the schema number, before SQLite assigns a B-tree to it
 abbrev pub meta : Table
 meta = record (bare_table (codes "meta") (column (codes "name") Text true ∷ column (codes "value") Integer true ∷ [])) { primary = 1 ∷ []; uniques = (1 ∷ []) ∷ []; orders = plain ∷ [] }
 
@@ -142,7 +143,7 @@ select_run_sql = codes "SELECT total, finished FROM runs WHERE id = ?1"
 abbrev pub finish_run_sql : List ℕ
 finish_run_sql = codes "UPDATE runs SET finished = 1 WHERE id = ?1"
 
--- the query for all runs, ordered by number
+-- the query for the heads of all runs, ordered by number
 abbrev pub select_runs_sql : List ℕ
 select_runs_sql = codes "SELECT id, started, total, finished FROM runs ORDER BY id"
 
@@ -150,7 +151,7 @@ select_runs_sql = codes "SELECT id, started, total, finished FROM runs ORDER BY 
 abbrev pub select_entry_sql : List ℕ
 select_entry_sql = codes "SELECT position FROM entries WHERE run = ?1 AND position = ?2 ORDER BY position"
 
--- the statement that inserts an entry
+-- the statement that inserts an entry into the table `entries`, without its properties
 abbrev pub insert_entry_sql : List ℕ
 insert_entry_sql = codes "INSERT INTO entries (run, position, program, case_name, kind, reason, started, millis, body_out, body_err, clean_out, clean_err) VALUES (?1, ?2, ?3, ?4, ?5, ?6, ?7, ?8, ?9, ?10, ?11, ?12)"
 

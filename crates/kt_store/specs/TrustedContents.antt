@@ -8,13 +8,14 @@ use Rattle.kt_store.specs.Runs.{IsSchema2Of}
 use Rattle.kt_store.specs.Tables.{create_meta_sql, create_runs_sql, create_entries_sql, create_props_sql}
 use Rattle.kt_store.specs.Types.{HoldsDatabase, Image, Int, Null, PageMap, Recovers, Row, Run, Text, Trees}
 
--- `table_object id name sql`: the row of table `name` in SQLite's schema list, without the root
--- page: rowid `id`, type, name, table name and the SQL text `sql`
+-- `table_object id name sql`: the row of the table named `name` in SQLite's schema list, without
+-- the root page. It has the rowid `id`, the type, the name, the table name and the SQL text `sql`.
 abbrev pub table_object : ℕ → List ℕ → List ℕ → Row
 table_object id name sql = Int (pos id) ∷ Text (codes "table") ∷ Text name ∷ Text name ∷ Text sql ∷ []
 
--- `key_object id name table`: the row of index `name`, of the primary key of `table`, in SQLite's
--- schema list, without the root page: rowid `id`, type, name, table name, and NULL as the SQL text
+-- `key_object id name table`: the row of the index named `name` in SQLite's schema list, without
+-- the root page. The index is that of the primary key of the table named `table`. The row has the
+-- rowid `id`, the type, the name, the table name, and NULL as the SQL text.
 abbrev pub key_object : ℕ → List ℕ → List ℕ → Row
 key_object id name table = Int (pos id) ∷ Text (codes "index") ∷ Text name ∷ Text table ∷ Null ∷ []
 
@@ -35,8 +36,9 @@ ListsObjects size pages = map unrooted (rows_at size (in_use size pages) Table 1
 abbrev pub ListsTables : Image → Type 0
 ListsTables image = (size : ℕ) × (pages : PageMap) × Recovers size image pages × ListsObjects size pages
 
--- `IsTrustedImage image`: if the results file and its log, with the content `image`, list the tables of
--- schema 2, they contain a database with some runs. Other files always meet `IsTrustedImage`.
+-- `IsTrustedImage image`: if files with the content `image` list the tables of schema 2, they
+-- contain a database of schema 2 with some runs. `image` is the content of the results file and its
+-- log. Files that don't list these tables always meet `IsTrustedImage`.
 abbrev pub IsTrustedImage : Image → Type 0
 IsTrustedImage image = (size : ℕ) (pages : PageMap) → Recovers size image pages → ListsObjects size pages
     → (runs : List Run) × (db : Trees) × HoldsDatabase image db × IsSchema2Of runs db

@@ -1,12 +1,12 @@
 /// A kind of access to a results file: to add a run, or to read runs.
 ///
-/// With both kinds, a missing file is created, schema 1 is migrated, and commits in the log are
-/// copied into the file.
+/// With both kinds, a missing file is created, and the older tables of schema 1 are migrated to
+/// schema 2. Commits in the log are copied into the file.
 #[derive(Clone, Copy)]
 pub enum Access {
     /// Access to add a run.
     Record,
-    /// Access to read runs. No run is added.
+    /// Access to read recorded runs, without adding a run.
     Read,
 }
 

@@ -9,7 +9,8 @@ use sqlite::{Alter, Connection};
 
 // The statements that create the tables (docs/formats/store.md).
 
-/// The statement that creates the table `meta`, which stores the schema number.
+/// The SQL statement that creates the table `meta`, which stores the number of the schema of a
+/// results file: 1 or 2.
 pub const CREATE_META: &str =
     "CREATE TABLE meta (name TEXT PRIMARY KEY, value INTEGER NOT NULL) STRICT";
 
@@ -25,7 +26,8 @@ pub const CREATE_ENTRIES: &str =
 pub const CREATE_PROPS: &str =
     "CREATE TABLE props (run INTEGER NOT NULL, position INTEGER NOT NULL, place INTEGER NOT NULL, name TEXT NOT NULL, value TEXT NOT NULL, PRIMARY KEY (run, position, place)) STRICT";
 
-/// Theorem: the visible and the committed content of an open connection are valid databases.
+/// Theorem: while a connection is open, both the database that it shows and the database of its
+/// last commit are valid.
 // No effect: the call states the fact for the prover.
 pub fn lives<S: Alter>(conn: &Connection<S>)
     ensures { IsLive (state S.Store conn.now) }
@@ -33,7 +35,8 @@ pub fn lives<S: Alter>(conn: &Connection<S>)
     let _ = conn.schema();
 }
 
-/// Creates the tables of schema 2 in a database without tables, in one commit.
+/// Creates the tables of schema 2 in a database without tables, in one commit. Fails if a statement
+/// fails, or if a transaction is open already.
 pub(crate) fn create_tables<S: Alter>(conn: &mut Connection<S>) -> Result<(), StoreFault>
     ensures taken { Describes Blank (state S.Store conn.old)
         → OnOk result (AttachSucceeds Blank (state S.Store conn.old) (state S.Store conn.new)) }
@@ -60,8 +63,8 @@ pub(crate) fn is_blank<S: Alter>(conn: &Connection<S>) -> bool
     conn.schema().tables.len() == 0
 }
 
-/// Reads the schema number from the table `meta`. Fails with `UnknownSchema` if the table has no
-/// schema number.
+/// Reads the schema number of a results file from its table `meta`. Fails with `UnknownSchema` if
+/// the table has no schema number. Also fails if the query fails or the number isn't an integer.
 pub(crate) fn read_schema_number<S: Alter>(conn: &mut Connection<S>) -> Result<i64, StoreFault>
     ensures asks { ReadsSchemaNumber S.Store conn.old conn.new }
     ensures same { OnOk result (KeepsDatabase S.Store conn.old conn.new) }
@@ -82,8 +85,9 @@ pub(crate) fn read_schema_number<S: Alter>(conn: &mut Connection<S>) -> Result<i
     Ok(number)
 }
 
-/// Checks that SQLite can prepare the queries for runs, for entries and for properties. The last
-/// query is skipped if `old` is `true`: the tables have schema 1, which has no table of properties.
+/// Checks that SQLite can prepare the queries for runs, for entries and for properties over the
+/// tables of `conn`. If `old` is `true`, the tables have schema 1, which has no table of
+/// properties. The query for properties is then not checked.
 pub(crate) fn check_tables<S: Alter>(
     conn: &mut Connection<S>,
     old: bool,
@@ -116,9 +120,9 @@ pub(crate) fn check_tables<S: Alter>(
     Ok(())
 }
 
-/// Returns `true` if the tables have schema 1, and `false` if they have schema 2. Fails with
-/// `UnknownSchema` if the schema number is missing or neither 1 nor 2. Also fails if the tables
-/// can't be queried.
+/// Returns `true` if the tables of the database have schema 1, and `false` if they have schema 2.
+/// Fails with `UnknownSchema` if the schema number is missing or neither 1 nor 2. Also fails if the
+/// tables can't be queried.
 pub(crate) fn has_schema_1<S: Alter>(conn: &mut Connection<S>) -> Result<bool, StoreFault>
     ensures asks { ReadsSchemaNumber S.Store conn.old conn.new }
     ensures same { OnOk result (KeepsDatabase S.Store conn.old conn.new) }
@@ -140,7 +144,8 @@ pub(crate) fn has_schema_1<S: Alter>(conn: &mut Connection<S>) -> Result<bool, S
     Ok(old)
 }
 
-/// Migrates a database of schema 1 to schema 2, in one commit.
+/// Migrates a database from schema 1 to schema 2, in one commit. Fails if a statement fails, or if
+/// a transaction is open already.
 pub(crate) fn migrate<S: Alter>(conn: &mut Connection<S>) -> Result<(), StoreFault>
     ensures taken { (runs : _) → Describes (Schema1 runs) (state S.Store conn.old)
         → OnOk result (AttachSucceeds (Schema1 runs) (state S.Store conn.old) (state S.Store

@@ -5,20 +5,22 @@ use crate::statements::step;
 use crate::store_fault::{DATABASE_FAILURE, DatabaseError};
 use sqlite::{Alter, Connection, Transaction};
 
-/// An interface to statements that are executed in order and committed together.
+/// An interface to a list of SQL statements that are executed in order and committed together.
 pub(crate) trait Batch {
     ghost use Rattle.std.specs.Prelude.{List, ◌≡◌, OnOk};
     ghost use Rattle.kt_store.specs.Common.{Statement, CommitsNothingYet, ExecutesAll};
 
-    /// The statements with their parameters.
+    /// The SQL statements of a batch with the values of their parameters, in the order of
+    /// execution.
     ghost statements: { Self → List Statement };
 
-    /// The condition for a call of `fill`. Each statement creates a table of the store or can be
-    /// prepared over these tables. The fields of the batch are consistent and in range.
+    /// The condition that a batch must meet before `fill` is called, which each implementation
+    /// defines. It implies that each statement creates a table of the store or can be prepared over
+    /// these tables.
     ghost is_ready: { Self → Type 0 };
 
-    /// Executes the statements in order inside a transaction, without committing. Fails with the
-    /// error of the first statement that fails.
+    /// Executes the statements of the batch in order in the open transaction `tx`, without
+    /// committing it. Fails with the error of the first statement that fails.
     fn fill<S: Alter>(&self, tx: &mut Transaction<'_, S>) -> Result<(), DatabaseError>
         requires { is_ready self.now }
         ensures same_reference { tx.new.conn.ghost_name ≡ tx.old.conn.ghost_name }

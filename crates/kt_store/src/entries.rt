@@ -12,8 +12,8 @@ use kt_base::Entry;
 use sqlite::{Alter, Connection, Row};
 use std::alloc::Global;
 
-/// Reads the rows of the entries of run `run`, ordered by position. Returns no rows if there is no
-/// such run.
+/// Reads the rows of the entries of run `run` from the table `entries`, ordered by position.
+/// Returns no rows if there is no such run.
 pub(crate) fn entry_rows<S: Alter>(
     conn: &mut Connection<S>,
     run: u32,
@@ -34,8 +34,8 @@ pub(crate) fn entry_rows<S: Alter>(
     )
 }
 
-/// Reads the rows of the properties of the entry at `position` of run `run`, in their recorded
-/// order. Returns no rows if there is no such entry.
+/// Reads the name and the value of each property of the entry at `position` of run `run`, in their
+/// recorded order. Returns no rows if there is no such entry.
 fn pair_rows<S: Alter>(
     conn: &mut Connection<S>,
     run: u32,
@@ -55,7 +55,8 @@ fn pair_rows<S: Alter>(
     )
 }
 
-/// Reads an entry of run `run` from its row `row`, and its properties from the table `props`.
+/// Reads an entry of run `run` from `row`, which has the columns of the query for entries. The
+/// properties of the entry are read from the table `props`.
 fn read_entry<S: Alter>(
     conn: &mut Connection<S>,
     alloc: Global,
@@ -74,8 +75,8 @@ fn read_entry<S: Alter>(
     entry_from_row(alloc, row, meta)
 }
 
-/// Reads the entries of run `run` from their rows `rows`, and their properties from the table
-/// `props`.
+/// Reads the entries of run `run` from `rows`, which have the columns of the query for entries. The
+/// properties of the entries are read from the table `props`.
 fn read_entries<S: Alter>(
     conn: &mut Connection<S>,
     alloc: Global,

@@ -23,12 +23,13 @@ pub fn add<T: Drop>(items: &mut Vec<T>, item: T) -> Result<(), NoMemory>
     Ok(())
 }
 
-/// Reads the head of a run from its row of the table `runs`. A head is a run without its entries.
+/// Reads the head of a run from its row. A head is a run without its entries. The first four
+/// columns of `row` are the number, the start, the total and the finished flag.
 ///
 /// # Errors
 ///
 /// - `NoMemory`: an allocation failed.
-/// - `Failed`: a column isn't a number in range.
+/// - `Failed`: a column isn't an integer, or is outside the range of its field.
 pub fn head_from_row(row: &Row) -> Result<RunHead, DatabaseError>
     requires { 4 ≤ length row.now }
     ensures head { (r : Stored) → row.now ≡ head_columns r → IfOk result (λ h. h ≡ head_of r) }
@@ -45,12 +46,14 @@ pub fn head_from_row(row: &Row) -> Result<RunHead, DatabaseError>
     })
 }
 
-/// Reads the heads of runs from their rows of the table `runs`, in the same order.
+/// Reads the heads of runs from their rows, in the same order. A head is a run without its entries.
+/// The columns of a row are those of [`head_from_row`].
 ///
 /// # Errors
 ///
 /// - `NoMemory`: an allocation failed.
-/// - `Failed`: a column isn't a number in range, or the runs are not numbered from 1.
+/// - `Failed`: a column isn't an integer, or is outside the range of its field, or the runs are not
+///   numbered from 1.
 pub fn heads_from_rows(alloc: Global, rows: &[Row]) -> Result<Vec<RunHead>, DatabaseError>
     requires { AreWide 4 rows.now }
     ensures heads { (runs : List Stored) → rows.now ≡ map head_columns runs
@@ -66,7 +69,8 @@ pub fn heads_from_rows(alloc: Global, rows: &[Row]) -> Result<Vec<RunHead>, Data
     Ok(heads)
 }
 
-/// Reads the heads of all runs, ordered by number.
+/// Reads the heads of all runs of the store, ordered by number. A head is a run without its
+/// entries.
 pub(crate) fn read_heads<S: Alter>(
     conn: &mut Connection<S>,
     alloc: Global,

@@ -10,8 +10,8 @@ use sqlite::{Alter, Connection};
 /// The maximum number of runs in a store (this profile).
 pub const MAX_RUNS: u32 = 1_000_000;
 
-/// Reads the number of selected cases and the finished flag of the run with the key `run`. The flag
-/// is 1 for a finished run, else 0. Returns `None` if there is no such run.
+/// Reads the number of selected cases and the finished flag of the run with the key `run` in the
+/// tables. The flag is 1 for a finished run, else 0. Returns `None` if there is no such run.
 pub(crate) fn find<S: Alter>(
     conn: &mut Connection<S>,
     run: u32,
@@ -37,8 +37,8 @@ pub(crate) fn find<S: Alter>(
     Ok(Some((total, finished)))
 }
 
-/// Returns the key of the run with number `run` in the tables. The key is the number, or 0 for a
-/// number above 1,000,000. No run has the key 0.
+/// Returns the key of the run with number `run` in the tables: the number itself, or 0 for a number
+/// above 1,000,000. No run has the key 0. Allocates nothing.
 pub fn key(run: u64) -> u32
     ensures low { result ≤ greatest_run_number }
     ensures same { run ≤ greatest_run_number → result ≡ run }
@@ -51,7 +51,7 @@ pub fn key(run: u64) -> u32
     }
 }
 
-/// Returns the number of selected cases of run `run`, and whether the run is finished. Fails with
+/// Returns the number of selected cases of run `run`, and `true` if the run is finished. Fails with
 /// `NoRun` if no run has this number.
 pub(crate) fn look_up_run<S: Alter>(
     conn: &mut Connection<S>,

@@ -14,7 +14,7 @@ use kt_base::{Bytes, Entry, Output, Text, Variable, Variables, Verdict};
 use sqlite::Row;
 use std::alloc::Global;
 
-/// Reads a text from column `at` of a row.
+/// Reads a text from the column with the index `at` of a row. Fails if the column has no text.
 fn get_text(row: &Row, at: usize) -> Result<Text, DatabaseError>
     requires { at < length row.now }
     ensures text { (t : List ℕ) → IsEncodable t → column row.now at ≡ Words (utf8 t)
@@ -24,7 +24,7 @@ fn get_text(row: &Row, at: usize) -> Result<Text, DatabaseError>
     Ok(Text::from_string(string))
 }
 
-/// Reads a property from its row: the name, then the value.
+/// Reads a property of an entry from `row`, whose first two columns are the name and the value.
 fn property_from_row(row: &Row) -> Result<Variable, DatabaseError>
     requires { 2 ≤ length row.now }
     ensures { (v : StoredPair) → IsEncodableProperty v → row.now ≡ pair_columns v
@@ -35,7 +35,8 @@ fn property_from_row(row: &Row) -> Result<Variable, DatabaseError>
     Ok(Variable { name, value })
 }
 
-/// Reads the properties of an entry from their rows, in the same order.
+/// Reads the properties of an entry from `rows`, in the same order. The first two columns of a row
+/// are the name and the value of a property.
 ///
 /// # Errors
 ///
@@ -64,7 +65,7 @@ pub fn no_output(alloc: Global) -> Output
     }
 }
 
-/// Reads the bytes of the blob in column `at` of a row.
+/// Reads the bytes of the blob in the column with the index `at` of a row. Fails if it has no blob.
 fn get_bytes(row: &Row, at: usize) -> Result<Bytes, DatabaseError>
     requires { at < length row.now }
     ensures bytes { IfOk result (λ b. column row.now at ≡ Blob b) }
@@ -73,8 +74,8 @@ fn get_bytes(row: &Row, at: usize) -> Result<Bytes, DatabaseError>
     Ok(Bytes::from_vec(items))
 }
 
-/// Reads an output from a row. `out` and `err` are the columns of standard output and standard
-/// error.
+/// Reads the output of a body or a cleanup from a row. `out` and `err` are the indexes of the
+/// columns of standard output and standard error.
 fn get_output(row: &Row, out: usize, err: usize) -> Result<Output, DatabaseError>
     requires { (out < length row.now) × (err < length row.now) }
     ensures output { (o : Pair) → column row.now out ≡ Blob o.out → column row.now err ≡ Blob o.err
@@ -85,7 +86,8 @@ fn get_output(row: &Row, out: usize, err: usize) -> Result<Output, DatabaseError
     Ok(Output { out, err })
 }
 
-/// Reads an entry from its row, without its properties and outputs.
+/// Reads an entry from its row, without the entry's properties and outputs. The first seven columns
+/// of `row` are those of [`outline_from_rows`].
 fn entry_outline_from_row(alloc: Global, row: &Row) -> Result<Entry, DatabaseError>
     requires { 7 ≤ length row.now }
     ensures { (e : Stored) (more : Values) → IsValidEntry e → row.now ≡ entry_columns e ++ more
@@ -112,12 +114,16 @@ fn entry_outline_from_row(alloc: Global, row: &Row) -> Result<Entry, DatabaseErr
     })
 }
 
-/// Reads entries from their rows, without their properties and outputs, in the same order.
+/// Reads entries from their rows, without their properties and outputs, in the order of the rows.
+///
+/// A row begins with the position, the program, the name of the case, and the number of the
+/// verdict's kind. The reason, the start and the duration follow.
 ///
 /// # Errors
 ///
 /// - `NoMemory`: an allocation failed.
-/// - `Failed`: a column has a wrong type or range, or the kind isn't 0 to 4.
+/// - `Failed`: a column has a wrong type or is out of range, or the number of the verdict's kind is
+///   above 4.
 pub fn outline_from_rows(alloc: Global, rows: &[Row]) -> Result<Vec<Entry>, DatabaseError>
     requires { AreWide 7 rows.now }
     ensures { (es : List Stored) → AllByRecursion IsValidEntry es → rows.now ≡ map entry_columns es
@@ -131,7 +137,8 @@ pub fn outline_from_rows(alloc: Global, rows: &[Row]) -> Result<Vec<Entry>, Data
     Ok(entries)
 }
 
-/// Reads an entry with its outputs from its row, and sets its properties to `meta`.
+/// Reads an entry with its outputs from `row`, which has the columns of the query for entries. Sets
+/// the properties of the entry to `meta`.
 pub(crate) fn entry_from_row(
     alloc: Global,
     row: &Row,

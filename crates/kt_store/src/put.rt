@@ -25,8 +25,8 @@ pub fn reason_of(alloc: Global, entry: &Entry) -> Result<Text, NoMemory>
     Ok(reason)
 }
 
-/// Inserts the property `pair` into the table `props`, inside a transaction. `place` is its index
-/// among the properties of the entry at `position` of run `run`.
+/// Inserts the property `pair` into the table `props`, inside a transaction. `place` is the index
+/// of `pair` among the properties of the entry at `position` of run `run`.
 fn insert_property<S: Alter>(
     tx: &mut Transaction<'_, S>,
     run: u32,
@@ -154,8 +154,9 @@ pub(crate) fn add_entry<S: Alter>(
     commit(conn, &EntryInsert { run, entry, reason })
 }
 
-/// Checks that the run with the number `run` accepts `entry`. Fails with the first of `NoRun`,
-/// `RunClosed`, `BadPosition` and `RepeatedPosition` that applies.
+/// Checks that the run with the number `run` accepts `entry`: the run exists, it isn't finished,
+/// and the entry's position is valid and free. Fails with the first of `NoRun`, `RunClosed`,
+/// `BadPosition` and `RepeatedPosition` that applies.
 pub(crate) fn check<S: Alter>(
     conn: &mut Connection<S>,
     run: u64,

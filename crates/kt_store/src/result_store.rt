@@ -1,7 +1,7 @@
 use crate::StoreFault;
 use kt_base::{Entry, Output, Variables};
 
-/// A run without its entries.
+/// A head of a run: the run without its entries.
 #[derive(Clone, Copy)]
 pub struct RunHead {
     /// The number of the run, from 1.
@@ -10,7 +10,7 @@ pub struct RunHead {
     pub started: u64,
     /// The number of the run's selected cases, called its total.
     pub total: u32,
-    /// `true` if the run is finished: each selected case has an entry, and none can be added.
+    /// `true` if the run is finished: each selected case has an entry, and no entry can be added.
     pub finished: bool,
 }
 
@@ -30,8 +30,8 @@ pub trait StoreSpec {
     ghost use Rattle.kt_store.specs.Runs.{AreNumbered, AreOrdered};
     ghost use Rattle.kt_store.specs.StoreCalls.{StoreCall};
 
-    /// `answers old call new`: `call` with its result may change the store from `old` to `new`. The
-    /// relation also holds for a store that returns wrong data.
+    /// `answers old call new`: `call`, a call with its result, may change the store from `old` to
+    /// `new`. The relation also holds for a store that returns wrong data.
     ghost answers: { Self → StoreCall → Self → Type 0 };
 
     /// `stands store runs`: `store` represents `runs`.
@@ -40,13 +40,15 @@ pub trait StoreSpec {
     /// `sound store`: so far, `store` has returned exactly the data that was written.
     ghost sound: { Self → Type 0 };
 
-    /// `leaves store lists`: after a crash now, the results file has the runs of one of `lists`.
+    /// `leaves store lists`: a crash in the state `store` leaves a results file with the runs of
+    /// one of `lists`.
     ghost leaves: { Self → List (List Run) → Type 0 };
 
-    /// The runs of a store are numbered from 1, in their order.
+    /// The runs that a store represents are numbered 1, 2, 3 and so on, in their order.
     ghost numbered: { (s : Self) (runs : List Run) → Self.stands s runs → AreNumbered 1 runs };
 
-    /// If the store is sound, the entries of each run ascend by position without a repetition.
+    /// If the store has returned exactly the data that was written, the entries of each run ascend
+    /// by position without a repetition.
     ghost ordered: { (s : Self) (runs : List Run) → Self.stands s runs → Self.sound s
         → AreOrdered runs };
 }
@@ -60,8 +62,8 @@ pub trait ResultStore: StoreSpec {
     ghost use Rattle.std.specs.Prelude.{IfErr, IfOk, IfSome};
     ghost use Rattle.kt_store.specs.Common.{IsMoment, IsNumbered, IsStorable, IsDatabaseFault, Serves, Began, Put, Finished, Head, Outline, Pairs, Outputs, map_success};
 
-    /// Adds an unfinished run of `total` cases, and returns its number. `moment` is its start, in
-    /// milliseconds since 1970-01-01 UTC.
+    /// Adds an unfinished run of `total` cases, and returns the number of the run. `moment` is the
+    /// start of the run, in milliseconds since 1970-01-01 UTC.
     ///
     /// # Errors
     ///
@@ -80,10 +82,10 @@ pub trait ResultStore: StoreSpec {
     ///
     /// The first of these that applies:
     ///
-    /// - `NoRun`: no run has the number.
+    /// - `NoRun`: no run has the number `run`.
     /// - `RunClosed`: the run is finished.
-    /// - `BadPosition`: the position is not below the run's total.
-    /// - `RepeatedPosition`: the run has an entry at the position.
+    /// - `BadPosition`: the entry's position is not below the run's number of selected cases.
+    /// - `RepeatedPosition`: the run has an entry at the entry's position.
     ///
     /// `NoMemory` (memory ran out) or `Store` (the database failed) may be returned instead.
     fn put(&mut self, run: u64, entry: &Entry) -> Result<(), StoreFault>
@@ -96,9 +98,9 @@ pub trait ResultStore: StoreSpec {
     ///
     /// The first of these that applies:
     ///
-    /// - `NoRun`: no run has the number.
+    /// - `NoRun`: no run has the number `run`.
     /// - `RunClosed`: the run is finished already.
-    /// - `Incomplete`: the run has fewer entries than its total.
+    /// - `Incomplete`: the run has fewer entries than selected cases.
     ///
     /// `NoMemory` (memory ran out) or `Store` (the database failed) may be returned instead.
     fn finish(&mut self, run: u64) -> Result<(), StoreFault>
@@ -122,7 +124,7 @@ pub trait ResultStore: StoreSpec {
     ///
     /// # Errors
     ///
-    /// - `NoRun`: no run has the number.
+    /// - `NoRun`: no run has the number `run`.
     /// - `NoMemory`: memory ran out.
     /// - `Store`: the database failed.
     fn outline(&mut self, run: u64) -> Result<Vec<Entry>, StoreFault>
@@ -139,7 +141,8 @@ pub trait ResultStore: StoreSpec {
     fn pairs(&mut self, run: u64, position: u32) -> Result<Variables, StoreFault>
         ensures { Serves Self.StoreSpec (Pairs run position result) self.old self.new };
 
-    /// Returns the outputs of the body and the cleanup of the entry at `position` of run `run`.
+    /// Returns the outputs of the body and the cleanup of the entry at `position` of the run with
+    /// the number `run`.
     ///
     /// # Errors
     ///

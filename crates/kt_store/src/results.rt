@@ -10,17 +10,17 @@ use sqlite::{Alter, Connection};
 use std::alloc::Global;
 use std::marker::Model;
 
-/// A store of runs in the tables of a database (docs/formats/store.md).
+/// A store of recorded runs in the tables of an SQLite database (docs/formats/store.md).
 ///
-/// The program attaches a file whose tables don't have schema 2: a new file or one of schema 1. The
-/// program then reads and writes the file as a `RunsFile` (kt_dbfile). In contracts, the value of a
-/// `Results` is its connection. The clauses about runs hold while the disk returns the data that
-/// was written, no other process writes the database, and the connection is open.
+/// The program opens a file as `Results` if its tables don't have schema 2: a new file or one of
+/// schema 1. The program then reads and writes the file as a `RunsFile` (kt_dbfile). In contracts,
+/// the value of a `Results` is its connection. The clauses about runs hold while the disk returns
+/// the data that was written, no other process writes the database, and the connection is open.
 #[derive(Drop)]
 pub struct Results<S: Alter> {
     /// The connection to the database.
     conn: Connection<S>,
-    /// The allocator of the entries and heads that are read.
+    /// The allocator for the entries and heads that the store returns.
     alloc: Global,
 }
 
@@ -85,8 +85,8 @@ impl<S: Alter> Results<S> {
         conn
     }
 
-    /// Adds an unfinished run of `total` cases, and returns its number. `moment` is its start, in
-    /// milliseconds since 1970-01-01 UTC.
+    /// Adds an unfinished run of `total` cases, and returns the number of the run. `moment` is the
+    /// start of the run, in milliseconds since 1970-01-01 UTC.
     ///
     /// # Errors
     ///
@@ -107,7 +107,7 @@ impl<S: Alter> Results<S> {
     ///
     /// # Errors
     ///
-    /// Those of [`ResultStore::put`](crate::ResultStore).
+    /// The errors of [`ResultStore::put`](crate::ResultStore).
     pub fn put(&mut self, run: u64, entry: &Entry) -> Result<(), StoreFault>
         requires { IsStorable entry.now }
         ensures { Serves (results S.Store) (Put run entry.now result) self.old self.new }
@@ -121,7 +121,7 @@ impl<S: Alter> Results<S> {
     ///
     /// # Errors
     ///
-    /// Those of [`ResultStore::finish`](crate::ResultStore).
+    /// The errors of [`ResultStore::finish`](crate::ResultStore).
     pub fn finish(&mut self, run: u64) -> Result<(), StoreFault>
         ensures { Serves (results S.Store) (Finished run result) self.old self.new }
     {
@@ -149,7 +149,7 @@ impl<S: Alter> Results<S> {
     ///
     /// # Errors
     ///
-    /// Those of [`Results::runs`].
+    /// The errors of [`Results::runs`].
     pub fn head(&mut self, number: Option<u64>) -> Result<Option<RunHead>, StoreFault>
         ensures served { Serves (results S.Store) (Head number result) self.old self.new }
         // Holds for any tables: the returned head has the requested number.

@@ -9,7 +9,7 @@ use crate::store_fault::DatabaseError;
 use crate::value::int;
 use sqlite::{Alter, Connection};
 
-/// Returns `true` if the store has 1,000,000 runs, the maximum.
+/// Returns `true` if the store has 1,000,000 runs, the maximum (this profile).
 pub(crate) fn is_full<S: Alter>(conn: &mut Connection<S>) -> Result<bool, DatabaseError>
     ensures full { HoldsForRuns S.Store conn.old conn.new (λ runs.
         IfOk result (λ full. (full ≡ true → greatest_run_number ≤ length runs) × (full ≡ false
@@ -47,8 +47,9 @@ pub(crate) fn add_run<S: Alter>(
     Ok(conn.last_insert_rowid().unsigned_abs())
 }
 
-/// Checks that the run with the number `run` can be finished. Fails with the first of `NoRun`,
-/// `RunClosed` and `Incomplete` that applies.
+/// Checks that the run with the number `run` can be finished: it exists, is unfinished, and has an
+/// entry for each selected case. Fails with the first of `NoRun`, `RunClosed` and `Incomplete` that
+/// applies.
 pub(crate) fn check<S: Alter>(conn: &mut Connection<S>, run: u64) -> Result<(), StoreFault>
     ensures small { OnOk result (run ≤ greatest_run_number) }
     ensures looked { OnlyReadsRuns S.Store conn.old conn.new }
@@ -70,7 +71,7 @@ pub(crate) fn check<S: Alter>(conn: &mut Connection<S>, run: u64) -> Result<(), 
 }
 
 /// Marks the run with the key `run` in the tables as finished, in one commit. The caller has
-/// checked that the run has all its entries.
+/// checked that the run has an entry for each selected case.
 pub(crate) fn mark_finished<S: Alter>(
     conn: &mut Connection<S>,
     run: u32,

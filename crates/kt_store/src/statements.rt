@@ -6,8 +6,8 @@ use sqlite::types::FromSql;
 use sqlite::{Alter, Connection, Row, Transaction};
 use sqlite_value::value::ValueRef;
 
-/// Reads a value of type `T` from column `at` of a row. Fails if the value has another type or is
-/// out of range.
+/// Reads a value of type `T` from the column with the index `at` of a row. Fails if the value has
+/// another type or is out of range for `T`.
 pub(crate) fn get_column<T: FromSql>(row: &Row, at: usize) -> Result<T, DatabaseError>
     requires { at < length row.now }
     ensures value { IfOk result (T.FromSql.reads_as (column row.now at)) }
@@ -32,8 +32,9 @@ pub(crate) fn check_sql<S: Alter>(conn: &mut Connection<S>, sql: &str) -> Result
     Ok(())
 }
 
-/// Executes the query `sql` and returns its rows. `params` are the values of its parameters. Fails
-/// without running the query if SQLite can't prepare it, as on a closed connection.
+/// Executes the query `sql` and returns its rows. `params` are the values of the query's
+/// parameters. Fails before the execution if SQLite can't prepare the query, for example on a
+/// closed connection.
 pub(crate) fn execute_query<S: Alter>(
     conn: &mut Connection<S>,
     sql: &str,
@@ -53,7 +54,8 @@ pub(crate) fn execute_query<S: Alter>(
     Ok(rows)
 }
 
-/// Checks that each of `rows` has at least `width` columns. Fails with `Failed` if a row has fewer.
+/// Checks that each of `rows` has at least `width` columns. Fails with `Failed` if a row has fewer
+/// columns.
 fn check_columns(rows: &[Row], width: usize) -> Result<(), DatabaseError>
     requires { 0 < width }
     ensures wide { OnOk result (AreWide width rows.now) }
@@ -67,7 +69,7 @@ fn check_columns(rows: &[Row], width: usize) -> Result<(), DatabaseError>
 }
 
 /// Executes the query `sql` over the tables of a store and returns its rows. `params` are the
-/// values of its parameters. Fails if a row has fewer than `width` columns.
+/// values of the query's parameters. Fails if a row has fewer than `width` columns.
 pub(crate) fn query<S: Alter>(
     conn: &mut Connection<S>,
     sql: &str,
@@ -87,7 +89,8 @@ pub(crate) fn query<S: Alter>(
     Ok(rows)
 }
 
-/// Executes the statement `sql`, which returns no rows. `params` are the values of its parameters.
+/// Executes the statement `sql`, which returns no rows. `params` are the values of the statement's
+/// parameters.
 pub(crate) fn execute<S: Alter>(
     conn: &mut Connection<S>,
     sql: &str,
@@ -106,8 +109,8 @@ pub(crate) fn execute<S: Alter>(
     Ok(())
 }
 
-/// Executes the statement `sql` inside a transaction, without committing. `params` are the values
-/// of its parameters.
+/// Executes the statement `sql` in the open transaction `tx`, without committing it. `params` are
+/// the values of the statement's parameters.
 pub(crate) fn step<S: Alter>(
     tx: &mut Transaction<'_, S>,
     sql: &str,
@@ -123,7 +126,7 @@ pub(crate) fn step<S: Alter>(
     Ok(())
 }
 
-/// Returns `true` if a query returned at least one row.
+/// Returns `true` if `rows`, the result of a query, has at least one row.
 pub(crate) fn has_rows(rows: &[Row]) -> bool
     ensures { result ≡ nat_lt 0 (length rows.now) }
 {

@@ -21,17 +21,18 @@ pub enum StoreFault {
     Store(DatabaseFailure),
     /// No run has the requested number, or the run has no entry at the requested position.
     NoRun,
-    /// The run is finished, so it can't be changed.
+    /// The run is finished, so no entry can be added and it can't be finished again.
     RunClosed,
-    /// The run has an entry at this position already.
+    /// The run has an entry at the position of the new entry already.
     RepeatedPosition,
     /// The store has 1,000,000 runs, the maximum (this profile).
     StoreFull,
-    /// The schema number of the tables is missing or neither 1 nor 2.
+    /// The schema number in the table `meta` is missing, is neither 1 nor 2, or isn't 2 although
+    /// the tables are those of schema 2.
     UnknownSchema,
-    /// The position of the entry is not below the total of the run.
+    /// The position of the new entry is not below the number of selected cases of the run.
     BadPosition,
-    /// The run has fewer entries than its total.
+    /// The run has fewer entries than selected cases, so it can't be finished.
     Incomplete,
 }
 
@@ -39,7 +40,7 @@ impl StoreFault {
     ghost use Rattle.std.specs.Prelude.{◌≡◌};
     ghost use Rattle.kt_store.specs.Ask.{fault_message};
 
-    /// Returns the message that a command prints for the fault (this profile). Allocates nothing.
+    /// Returns the message that a command prints for the error (this profile). Allocates nothing.
     pub fn message(&self) -> &'static str
         ensures { result.now ≡ fault_message self.now }
     {
@@ -77,17 +78,19 @@ impl From<DatabaseError> for StoreFault {
     }
 }
 
-/// A witness that an allocation failed, in the allocator or in SQLite. Only this module creates
-/// witnesses.
+/// A witness that an allocation failed, in the program's allocator or in SQLite. Only this module
+/// creates witnesses.
 #[derive(Clone, Copy, Debug)]
 pub struct AllocationFailure(AllocationSeal);
 
-/// A witness that the database failed. A statement, an open or a close failed, a transaction is
-/// already open, a B-tree is damaged, or a row doesn't obey the schema. Only this module creates
-/// witnesses. Other modules can copy the one in [`DATABASE_FAILURE`].
+/// A witness that the database of a results store failed.
+///
+/// A statement, an open or a close failed, a transaction is already open, a B-tree is damaged, or a
+/// row doesn't obey the schema. Only this module creates witnesses. Other modules can copy the
+/// witness in [`DATABASE_FAILURE`].
 #[derive(Clone, Copy, Debug)]
 pub struct DatabaseFailure {
-    /// `true` if the file can't be opened because another process uses it.
+    /// `true` if the results file can't be opened because another process uses it.
     is_in_use: bool,
 }
 
@@ -96,7 +99,7 @@ pub const DATABASE_FAILURE: DatabaseError = DatabaseError::Failed(DatabaseFailur
     is_in_use: false,
 });
 
-/// The field of an `AllocationFailure`. The type is private, so that no other module can create an
+/// A private type for the field of [`AllocationFailure`], so that no other module can create an
 /// `AllocationFailure`.
 #[derive(Clone, Copy, Debug)]
 struct AllocationSeal;
@@ -173,7 +176,8 @@ impl From<WriteError> for DatabaseError {
     }
 }
 
-/// Converts `error`, the error of opening the results file and its log, to a `DatabaseError`.
+/// Converts `error`, an error of opening the results file and its log, to a `DatabaseError`. The
+/// result states whether memory ran out, and whether another process uses the file.
 pub fn unopened(error: &OpenError) -> DatabaseError
     ensures short { IsAllocationFailure result → IsOutOfMemory error.now }
 {
@@ -190,7 +194,7 @@ pub fn unopened(error: &OpenError) -> DatabaseError
     }
 }
 
-/// Checks that `is_sound`, the result of a check of stored data, is `true`.
+/// Checks that `is_sound`, the result of a check of stored data, is `true`. Allocates nothing.
 ///
 /// # Errors
 ///

@@ -29,8 +29,8 @@ pub fn blob(bytes: &Bytes) -> ValueRef<'_>
     ValueRef::Blob(bytes.as_slice())
 }
 
-/// Returns the number that represents the kind of verdict `kind` in the tables
-/// (docs/formats/store.md).
+/// Returns the number, 0 to 4, that represents the verdict kind `kind` in the tables
+/// (docs/formats/store.md). Allocates nothing.
 pub fn code(kind: Kind) -> u64
     ensures value { result ≡ kind_code kind }
     ensures low { result < 5 }
@@ -44,7 +44,7 @@ pub fn code(kind: Kind) -> u64
     }
 }
 
-/// Returns the kind of verdict that a number in the tables represents, or `None` if the number is
+/// Returns the verdict kind that the number `code` represents in the tables, or `None` if `code` is
 /// above 4.
 pub(crate) fn kind_from_code(code: u64) -> Option<Kind>
     ensures { (k : Sort) → code ≡ kind_code k → result ≡ Some k }

@@ -44,12 +44,12 @@ IsOutOfMemory (opening.Io error) = error_kind error ≡ kind.OutOfMemory
 IsOutOfMemory opening.Busy = ⊥
 IsOutOfMemory opening.HotJournal = ⊥
 
--- `MatchesRecoverError error trouble`: `trouble` reports that memory ran out if and only if the
--- recovery error `error` does
+-- `MatchesRecoverError error trouble`: `trouble` reports that memory ran out if and only if
+-- `error`, an error of opening the database files, does
 abbrev pub MatchesRecoverError : RecoverError → DatabaseError → Type 0
 MatchesRecoverError error trouble = (IsAllocationFailure trouble × (error ≡ recovery.OutOfMemory)) ⊎ (IsDatabaseFailure trouble × (error ≢ recovery.OutOfMemory))
 
--- `MatchesWriteError error trouble`: `trouble` reports that memory ran out only if the write error
--- `error` comes from a B-tree that reports the same
+-- `MatchesWriteError error trouble`: `trouble` reports that memory ran out only if `error`, an
+-- error of writing rows, is a B-tree's report of this
 abbrev pub MatchesWriteError : WriteError → DatabaseError → Type 0
 MatchesWriteError error trouble = IsAllocationFailure trouble → error ≡ write.Failed OutOfMemory

@@ -12,8 +12,8 @@ AreNumberedFrom n (head ∷ heads) = (head.number ≡ n) × AreNumberedFrom (suc
 abbrev pub head_columns : Run → Row
 head_columns r = Int (pos r.number) ∷ Int (pos r.started) ∷ Int (pos r.total) ∷ Int (flag r.finished) ∷ []
 
--- `entry_columns e`: the first seven columns of entry `e` in the result of the query for entries:
--- all but the outputs
+-- `entry_columns e`: the first seven columns of entry `e` in the result of the query for entries,
+-- which are all columns except the outputs
 abbrev pub entry_columns : Entry → Row
 entry_columns e =
     Int (pos e.position) ∷ Text (utf8 e.program) ∷ Text (utf8 e.case_name) ∷ Int (pos (kind_code e.verdict.kind)) ∷ Text (utf8 e.verdict.reason) ∷ Int (pos e.started) ∷ Int (pos e.millis) ∷ []

@@ -6,12 +6,13 @@ use Rattle.sqlite.specs.Given.{IsPlain}
 use Rattle.kt_store.specs.Tables.{schema_2, insert_entry_sql, create_meta_sql, create_runs_sql, create_entries_sql, create_props_sql, insert_schema_sql, update_schema_sql}
 use Rattle.kt_store.specs.Types.{AllByRecursion, Entry, ExecutesInside, Ghosts, HasCleanDisk, Held, KeepsCommit, Row, Shows, State, Trees, Variable, state, understood}
 
--- a statement: its SQL text, the values of its parameters, and the texts among these values
+-- a statement: its SQL text, the values of its parameters, and the texts among these values, in
+-- characters
 abbrev pub Statement : Type 0
 Statement = List ℕ × Row × List (List ℕ)
 
 -- `IsOurs sql`: the statement `sql` creates one of the four tables of schema 2, or SQLite can
--- prepare it over schema 2
+-- prepare it over the tables of schema 2
 abbrev pub IsOurs : List ℕ → Type 0
 IsOurs sql = (sql ≡ create_meta_sql) ⊎ (sql ≡ create_runs_sql) ⊎ (sql ≡ create_entries_sql) ⊎ (sql ≡ create_props_sql) ⊎ IsPlain (understood schema_2 sql)
 
@@ -86,8 +87,8 @@ module _ {S : Type 0} (g : Ghosts S) where
   ExecutesAll statements old new = HasCleanDisk (state g new) → IsTrue (state g old).in_transaction → ExecutesInOrder statements old new
 
   -- `CommitsNothingYet g old new`: from connection `old` to `new` nothing was committed, unless the
-  -- disk has returned wrong data. A crash leaves only what it left before. `g` is the specification
-  -- of connections.
+  -- disk has returned wrong data. A crash of `new` leaves only what a crash of `old` leaves. `g` is
+  -- the specification of connections.
   pub record CommitsNothingYet (old new : Held S) : Type 0 where
     pub keeps : HasCleanDisk (state g new) → KeepsCommit (state g old) (state g new)
     pub survives : CommitsNothing g old new
@@ -104,7 +105,7 @@ module _ {S : Type 0} (g : Ghosts S) where
     abbrev pub MayCommit : Trees → Type 0
     MayCommit trees = (left : Held S) × ExecutesInOrder statements (begun old) left × (trees ≡ (state g left).now.trees)
 
-  -- `RollsBack g old new`: connection `new` is `old`, or everything that `old` had not committed is
-  -- undone. `g` is the specification of connections.
+  -- `RollsBack g old new`: connection `new` is equal to `old`, or everything that `old` had not
+  -- committed is undone in `new`. `g` is the specification of connections.
   abbrev pub RollsBack : Held S → Held S → Type 0
   RollsBack old new = (new ≡ old) ⊎ IsUndone (state g old) (state g new)
