@@ -32,8 +32,8 @@ Contains image P = ∥ ((db : Trees) × HoldsDatabase image db × P db) ∥₁
 
 -- `KeepsRuns before after`: `before` and `after` are contents of the results file and its log,
 -- earlier and later. The runs in `before` are also in `after`. If `before` has schema 1, `after`
--- has schema 1 or 2. If `before` has schema 2 and an open doesn't check all its trees, it isn't
--- stated that the trees in `after` are numbered.
+-- has schema 1 or 2. If `before` has schema 2 and doesn't meet `MustBeChecked`, the trees in
+-- `after` may be unnumbered.
 pub record KeepsRuns (before after : Image) : Type 0 where
   pub current : (runs : List Run) → HoldsRuns before runs → ∥ ((trees : Trees) × (HoldsDatabase after trees ⊎ HasTrees false trees after) × IsSchema2Of runs trees) ∥₁
   pub checked : (runs : List Run) → HoldsRuns before runs → MustBeChecked before → Contains after (IsSchema2Of runs)
@@ -42,9 +42,9 @@ pub record KeepsRuns (before after : Image) : Type 0 where
 module _ {D : Type 0} {g : Ghosts D} (was : Image → Type 0) (before : Image) (left : Leftover D g) where
   -- `LeavesRuns was before left fault`: an open of the results file and its log failed with
   -- `fault`. Their content was `before`, and `left` is what remains of them. Before the open, a
-  -- crash could leave the contents for which `was` holds. Now a crash leaves such a content, or one
-  -- with the runs in `before`. If `before` has runs, `fault` is not `UnknownSchema`. Nothing is
-  -- stated if the disk has returned wrong data.
+  -- crash could leave the contents for which `was` holds. Now a crash leaves such a content, or a
+  -- content with the runs in `before`. If `before` has runs, `fault` reports that memory ran out or
+  -- that the database failed. Nothing is stated if the disk has returned wrong data.
   pub record LeavesRuns (fault : StoreFault) : Type 0 where
     pub kept : AreClean g (files_left left).0 (files_left left).1 → (after : Image) → outcomes g (files_left left).0 (files_left left).1 after → was after ⊎ KeepsRuns before after
     pub known : AreClean g (files_left left).0 (files_left left).1 → (runs : List Run) → HoldsRuns before runs ⊎ HoldsInSchema1 before runs → IsDatabaseFault fault
@@ -62,7 +62,8 @@ module _ {D : Type 0} {g : Ghosts D} (was : Image → Type 0) (before : Image) (
 
   -- `FailsToOpen was before left fault`: an open of the results file and its log failed with
   -- `fault`. Their content was `before`, and `left` is what remains of them. Either they still have
-  -- their runs (`LeavesRuns`), or SQL failed to open them (`LeavesUnconnected`). Before the open, a
-  -- crash could leave the contents for which `was` holds.
+  -- their runs (`LeavesRuns`), or SQL failed to open them (`LeavesUnconnected`). In the second
+  -- case, `fault` reports that memory ran out or that the database failed. Before the open, a crash
+  -- could leave the contents for which `was` holds.
   abbrev pub FailsToOpen : StoreFault → Type 0
   FailsToOpen fault = LeavesRuns fault ⊎ (LeavesUnconnected × IsDatabaseFault fault)

@@ -38,8 +38,8 @@ fn create_row(alloc: Global, values: &[ValueRef<'_>]) -> Result<Row, NoMemory>
     Ok(row)
 }
 
-/// Creates the row of the property `pair`, without a rowid. `place` is its index among the
-/// properties of the entry at `position` of run `run`.
+/// Creates the row of the property `pair` for the table `props`, with NULL in place of the rowid.
+/// `place` is the index of `pair` among the properties of the entry at `position` of run `run`.
 fn pair_row(
     alloc: Global,
     run: u32,
@@ -65,8 +65,8 @@ fn pair_row(
     )
 }
 
-/// Creates the rows of `pairs`, the properties of the entry at `position` of run `run`, without
-/// rowids.
+/// Creates the rows of `pairs` for the table `props`, with NULL in place of the rowid. `pairs` are
+/// the properties of the entry at `position` of run `run`, in order.
 fn create_property_rows(
     alloc: Global,
     run: u32,
@@ -87,8 +87,8 @@ fn create_property_rows(
     Ok(rows)
 }
 
-/// Creates the row of the entry `entry` of run `run`, without a rowid. `reason` is the text of the
-/// reason of its verdict.
+/// Creates the row of the entry `entry` of run `run` for the table `entries`, with NULL in place of
+/// the rowid. `reason` is the text of the reason of the entry's verdict.
 fn create_entry_row<'a>(
     alloc: Global,
     run: u32,
@@ -139,9 +139,9 @@ fn find_next_number<S: Alter>(store: &mut S, alloc: Global) -> Result<u64, Store
     Ok(last + 1)
 }
 
-/// Writes an unfinished run after the last run, and returns its number. The run has `total`
-/// selected cases, and starts at `moment`, in milliseconds since 1970-01-01 UTC. Fails with
-/// `StoreFull` if there are 1,000,000 runs.
+/// Writes an unfinished run after the last run, without a commit, and returns its number. The run
+/// has `total` selected cases, and starts at `moment`, in milliseconds since 1970-01-01 UTC. Fails
+/// with `StoreFull` if there are 1,000,000 runs.
 pub(crate) fn write_run<S: Alter>(
     store: &mut S,
     alloc: Global,
@@ -192,8 +192,9 @@ fn has_entry_at<S: Store>(
     Ok(count > 0)
 }
 
-/// Checks that `entry` can be added to the run with the number `run`. Fails with the first of
-/// `NoRun`, `RunClosed`, `BadPosition` and `RepeatedPosition` that applies.
+/// Checks that `entry` can be added to the run with the number `run`. The run must exist and be
+/// unfinished, and the entry's position must be valid and free. Fails with the first of `NoRun`,
+/// `RunClosed`, `BadPosition` and `RepeatedPosition` that applies.
 fn check_can_put<S: Alter>(
     store: &mut S,
     alloc: Global,
@@ -221,9 +222,9 @@ fn check_can_put<S: Alter>(
     Ok(())
 }
 
-/// Writes `entry` and its properties to the run with the number `run`, after a check that the run
-/// accepts `entry`. Fails with the first of `NoRun`, `RunClosed`, `BadPosition` and
-/// `RepeatedPosition` that applies.
+/// Writes `entry` and its properties to the run with the number `run`, without a commit, after a
+/// check that the run accepts `entry`. Fails with the first of `NoRun`, `RunClosed`, `BadPosition`
+/// and `RepeatedPosition` that applies.
 pub(crate) fn write_entry<S: Alter>(
     store: &mut S,
     alloc: Global,
@@ -260,8 +261,8 @@ pub(crate) fn write_entry<S: Alter>(
     Ok(())
 }
 
-/// Creates a finished run's row from `row`, the row of the run while it is unfinished. The new row
-/// has the rowid as an extra first column.
+/// Creates the row of a finished run from `row`, the row of the run while it is unfinished. The
+/// created row has the rowid as an extra first column, which the edit of the table skips.
 fn create_finished_row(alloc: Global, row: &Row) -> Result<Row, NoMemory>
     ensures { (r : Run) → row.now ≡ run_row r → IfOk result (λ done. done ≡ finished_run_row r) }
 {
@@ -290,7 +291,8 @@ fn count_run_entries<S: Store>(store: &mut S, alloc: Global, run: u32) -> Result
 }
 
 /// Checks that the run with the number `run` can be finished, and returns its row in the table
-/// `runs`. Fails with the first of `NoRun`, `RunClosed` and `Incomplete` that applies.
+/// `runs`. A run can be finished once if it has an entry for each selected case. Fails with the
+/// first of `NoRun`, `RunClosed` and `Incomplete` that applies.
 fn check_can_finish<S: Alter>(store: &mut S, alloc: Global, run: u64) -> Result<Row, StoreFault>
     ensures small { OnOk result (run ≤ greatest_run_number) }
     ensures refused { HoldsForTrees S.Store store.old store.new (λ runs.
@@ -311,8 +313,8 @@ fn check_can_finish<S: Alter>(store: &mut S, alloc: Global, run: u64) -> Result<
     Ok(row)
 }
 
-/// Marks the run with the number `run` as finished, in its row of the table `runs`. Fails with the
-/// first of `NoRun`, `RunClosed` and `Incomplete` that applies.
+/// Marks the run with the number `run` as finished, in its row of the table `runs`, without a
+/// commit. Fails with the first of `NoRun`, `RunClosed` and `Incomplete` that applies.
 pub(crate) fn mark_run_finished<S: Alter>(
     store: &mut S,
     alloc: Global,

@@ -25,7 +25,7 @@ use sqlite_value::value::ValueRef;
 use std::alloc::Global;
 use std::cmp::Ordering;
 
-/// A head with the number 0, which replaces the head of the last run if there are no runs.
+/// A run head with the number 0, which replaces the head of the last run if there are no runs.
 pub(crate) const NO_RUN: RunHead = RunHead {
     number: 0,
     started: 0,
@@ -33,10 +33,10 @@ pub(crate) const NO_RUN: RunHead = RunHead {
     finished: false,
 };
 
-/// Returns the run and the position in the last key of the index of `table` that isn't above `key`.
-/// Both values are NULL if there is no such key. Only the values in `key` are compared, so an empty
-/// `key` finds the last key of all. Fails if the row of the found key is missing or has another
-/// key.
+/// Returns the run number and the position in the greatest key of the index of `table` that isn't
+/// above `key`. Both values are NULL if there is no such key. Only as many columns as `key` has are
+/// compared, so an empty `key` finds the greatest key of the index. Fails if the row of the found
+/// key is missing or has another key.
 fn find_last_key<S: Store>(
     store: &mut S,
     alloc: Global,
@@ -53,8 +53,8 @@ fn find_last_key<S: Store>(
     Ok(copy_columns(alloc, &place, &[0, 1])?)
 }
 
-/// Returns `true` if the index of `table` has the key of the table's last row exactly once, or if
-/// the table is empty.
+/// Returns `true` if the index of `table` has exactly one entry for the key of the table's last
+/// row, or if the table is empty.
 fn is_last_row_indexed<S: Store>(
     store: &mut S,
     alloc: Global,
@@ -70,8 +70,9 @@ fn is_last_row_indexed<S: Store>(
     Ok(count == 1)
 }
 
-/// Returns the run and the position in the last key of the index of `table`. Fails unless the index
-/// has the key of the table's last row exactly once.
+/// Returns the run number and the position in the greatest key of the index of `table`, or two
+/// NULLs if the index is empty. Fails unless the index has exactly one entry for the key of the
+/// table's last row.
 fn read_last_key<S: Store>(
     store: &mut S,
     alloc: Global,
@@ -83,9 +84,10 @@ fn read_last_key<S: Store>(
     find_last_key(store, alloc, table, &Row::new(alloc))
 }
 
-/// Returns `true` if `end` can be the last key of the index of entries, when `last` is the head of
-/// the last run. If this run is finished and has cases, `end` must be the key of its last position.
-/// Otherwise, `end` can be any key below that of the run's first invalid position, its total.
+/// Returns `true` if `end` can be the greatest key of the index of the table `entries`. `last` is
+/// the head of the last run. If this run is finished and has cases, `end` must be the key of its
+/// last position. Otherwise, `end` must be below the key of the position `last.total`, at which the
+/// run can't have an entry.
 fn is_possible_last_key(alloc: Global, end: &Row, last: RunHead) -> Result<bool, NoMemory>
     ensures { last.number ≤ greatest_run_number → IfOk result (λ is. is ≡ ends_with last end.now) }
 {
@@ -98,8 +100,8 @@ fn is_possible_last_key(alloc: Global, end: &Row, last: RunHead) -> Result<bool,
     Ok(end.cmp_prefix(Order::PLAIN, &past) == Ordering::Less)
 }
 
-/// Returns `true` if the entry of a property exists, or if there is no property. `pair` has the run
-/// and the position of the entry, or two NULLs if there is no property.
+/// Returns `true` if the entry to which a property belongs exists, or if there is no property.
+/// `pair` has the run number and the position of the entry, or two NULLs if there is no property.
 fn has_entry<S: Store>(store: &mut S, alloc: Global, pair: &Row) -> Result<bool, DatabaseError>
     ensures looks { ReadsUnbrokenStore S.Store store.old store.new result }
 {
@@ -107,8 +109,8 @@ fn has_entry<S: Store>(store: &mut S, alloc: Global, pair: &Row) -> Result<bool,
     Ok(count == 1 || matches!(pair.get(0), ValueRef::Null))
 }
 
-/// Checks that the index of entries has the last row of its table, and that the last key of the
-/// index is possible. `last` is the head of the last run.
+/// Checks that the index of the table `entries` has the last row of the table. The greatest key of
+/// the index must also be possible for the last run, whose head is `last`. Fails otherwise.
 fn check_last_entry<S: Store>(
     store: &mut S,
     alloc: Global,
@@ -120,8 +122,8 @@ fn check_last_entry<S: Store>(
     ensure_sound(is_possible_last_key(alloc, &end, last)?)
 }
 
-/// Checks that the index of properties has the last row of its table, and that the entry of the
-/// last key of the index exists.
+/// Checks that the index of the table `props` has the last row of the table. The last property in
+/// the index must also belong to an existing entry. Fails otherwise.
 fn check_last_property<S: Store>(store: &mut S, alloc: Global) -> Result<(), DatabaseError>
     ensures looks { ReadsUnbrokenStore S.Store store.old store.new result }
 {
@@ -129,9 +131,9 @@ fn check_last_property<S: Store>(store: &mut S, alloc: Global) -> Result<(), Dat
     ensure_sound(has_entry(store, alloc, &pair)?)
 }
 
-/// Checks that the indexes of entries and of properties have the last rows of their tables. Also
-/// checks that the last key of the index of entries is possible for the last run, whose head is
-/// `last`. The last property must have an entry.
+/// Checks that the indexes of the tables `entries` and `props` have the last rows of the tables.
+/// The greatest key of the first index must be possible for the last run, whose head is `last`. The
+/// last property in the second index must belong to an existing entry. Fails otherwise.
 pub(crate) fn check_last_rows<S: Store>(
     store: &mut S,
     alloc: Global,
@@ -143,8 +145,8 @@ pub(crate) fn check_last_rows<S: Store>(
     check_last_property(store, alloc)
 }
 
-/// Returns the head of run `number`, which must exist. Fails if the run is missing or its row has
-/// another number.
+/// Returns the head of run `number`, which must exist. A head is a run without its entries. Fails
+/// if the run is missing or its row has another number.
 pub(crate) fn require_head<S: Store>(
     store: &mut S,
     alloc: Global,
@@ -221,8 +223,8 @@ fn is_possible_entry_list(head: RunHead, entries: &[Entry]) -> bool
     }
 }
 
-/// Returns the number of properties that the index of `table` has for `entries`, the entries of run
-/// `run`.
+/// Returns the number of properties that the index of `table`, the table `props`, has for
+/// `entries`, which are entries of run `run`.
 fn count_properties<S: Store>(
     store: &mut S,
     alloc: Global,
@@ -240,8 +242,9 @@ fn count_properties<S: Store>(
     Ok(count)
 }
 
-/// Returns `true` if each property of the run with the head `head` belongs to one of `entries`. A
-/// finished run has all its entries, so only the entry of its last property is looked up.
+/// Returns `true` if each property of the run with the head `head` belongs to one of `entries`, the
+/// entries of the run. A finished run has all its entries, so only the entry of its last property
+/// is looked up.
 fn properties_have_entries<S: Store>(
     store: &mut S,
     alloc: Global,

@@ -11,16 +11,20 @@ use sqlite_pager::Options;
 use std::alloc::Global;
 use std::marker::PhantomData;
 
-/// A witness that an open failed after it had consumed a value of `S`. Only [`open_both`] creates
-/// witnesses.
+/// A witness that the results file couldn't be opened, although the open has consumed its argument
+/// of type `S`.
+///
+/// The argument represents the initial content of the file, in contracts alone. The method
+/// `returned` of `TrustedContents` exchanges the witness for the argument, so that the open can be
+/// retried. Only [`open_both`] creates witnesses.
 #[derive(Drop)]
 pub struct OpenFailure<S> {
     marker: PhantomData<S>,
 }
 
-/// Opens the results file at the path `file` and its log, and creates the missing ones. On failure,
-/// returns the error with a witness of the failed open. Only contracts use `start`: it represents
-/// the initial contents of both files.
+/// Opens the results file at the path `file` and its log, and creates each of the two files that is
+/// missing. On failure, returns the error with a witness of the failed open. `start` represents the
+/// initial contents of both files, in contracts alone.
 pub(crate) fn open_both<S: Start>(
     rt: &HostRuntime,
     file: &Text,
@@ -41,9 +45,9 @@ pub(crate) fn open_both<S: Start>(
     }
 }
 
-/// Opens the database in `files` by SQL, and checks each of its pages and rows. Creates the
-/// database if the database file is empty. On failure, returns the error with what is left of the
-/// files.
+/// Opens a connection to the database in `files`, the results file and its log, and checks each
+/// page and row. Creates the database if the database file is empty. On failure, returns the error
+/// with what is left of the files.
 pub(crate) fn connect<D: Disk + Drop>(
     alloc: Global,
     files: Files<D>,

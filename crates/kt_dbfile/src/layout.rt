@@ -52,8 +52,8 @@ fn has_columns(table: &Table, names: &[&str]) -> bool
     true
 }
 
-/// Returns `true` if the table at the index `at` of `schema` has this name, the tree with the
-/// number `tree`, and exactly the columns `columns`.
+/// Returns `true` if the table at the index `at` of `schema` is the one named `name`. It must also
+/// have the B-tree with the number `tree`, and exactly the columns `columns`, in this order.
 fn has_table(schema: &Schema, name: &str, at: usize, tree: u32, columns: &[&str]) -> bool
     ensures { (t : TableOf) → table_named schema.now name.now ≡ Some at
         → slice_get schema.now.tables at ≡ Some t → t.tree ≡ tree
@@ -68,7 +68,8 @@ fn has_table(schema: &Schema, name: &str, at: usize, tree: u32, columns: &[&str]
         && has_columns(table, columns)
 }
 
-/// Returns `true` if `schema` has the index `name`, and its tree has the number `tree`.
+/// Returns `true` if `schema` has an index named `name`, and this index is stored in the B-tree
+/// with the number `tree`.
 fn has_index(schema: &Schema, name: &str, tree: u32) -> bool
     ensures { (at : ℕ) (i : IndexOf) → index_named schema.now name.now ≡ Some at
         → slice_get schema.now.indexes at ≡ Some i → i.tree ≡ tree → result ≡ true }
@@ -83,8 +84,8 @@ fn has_index(schema: &Schema, name: &str, tree: u32) -> bool
 }
 
 /// Returns `true` if `schema` has the tables `runs`, `entries` and `props` at the expected indexes,
-/// and the key indexes of `entries` and `props`. Each must have the expected tree. Other tables can
-/// follow.
+/// and the key indexes of `entries` and `props`. Each table and key index must have the B-tree with
+/// the expected number. Other tables can follow.
 pub(crate) fn has_tables(schema: &Schema) -> bool
     ensures { schema.now ≡ schema_2 → result ≡ true }
 {

@@ -6,8 +6,8 @@ use std::os::fd::AsRawFd;
 use std::rt::Files;
 use std::str;
 
-/// The maximum number of bytes that are read from the start of a file's `fdinfo`. The mount's
-/// number is in the third line.
+/// The maximum number of bytes that are read from the start of a file's `fdinfo`
+/// (proc_pid_fdinfo(5)). The number of the mount is in the third line.
 const MAX_INFO_BYTES: usize = 256;
 
 /// Returns the mount number in `info`, the text of a file's `fdinfo` (proc_pid_fdinfo(5)), or

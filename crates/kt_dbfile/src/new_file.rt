@@ -49,9 +49,9 @@ fn first_page() -> [u8; PAGE_SIZE]
     page
 }
 
-/// Creates an empty file at `path`, and opens it for reads and writes. Fails if something has this
-/// path. `path` is `results`, the path of the results file, or `results` with `-new` appended. The
-/// umask applies, but the owner then gets the rights to read and write.
+/// Creates an empty file at `path`, and opens it for reads and writes. Fails if a file of any type
+/// exists at `path`. `path` is `results`, the path of the results file, or `results` with `-new`
+/// appended. The umask applies, but the owner then gets the rights to read and write.
 // Tested, not proved: results_file_creation_is_atomic.
 fn create_file<R: Files>(rt: &R, results: &Text, path: &Text) -> io::Result<R::File>
     requires { IsOwnName results.now path.now }
@@ -87,8 +87,9 @@ fn new_path(file: &Text) -> Result<Text, NoMemory>
     path_with_suffix(file, "-new")
 }
 
-/// Returns `true` if the log of the results file `file` can have a frame, isn't a regular file, or
-/// can't be examined. SQLite would replay the frames of such a log into a new file.
+/// Returns `true` if the log of the results file `file` may have a frame. Such a log has at least
+/// 56 bytes, isn't a regular file, or can't be examined. SQLite would replay the frames of such a
+/// log into a new file.
 // Tested, not proved: results_file_creation_is_atomic.
 fn may_have_frames<R: Files>(rt: &R, file: &Text) -> Result<bool, NoMemory> {
     let log = path_with_suffix(file, "-wal")?;
@@ -98,9 +99,9 @@ fn may_have_frames<R: Files>(rt: &R, file: &Text) -> Result<bool, NoMemory> {
     })
 }
 
-/// Opens the unfinished results file `name`, to which the first page is written. Creates the file,
-/// unless a killed process left one. `results` is the path of the finished file. Returns `None` if
-/// something other than a regular file has the path, or if the open fails.
+/// Opens the unfinished results file at the path `name`, to which the first page is written.
+/// Creates the file, unless a killed process left one. `results` is the path of the finished file.
+/// Returns `None` if something other than a regular file has the path `name`, or if the open fails.
 // Tested, not proved: results_file_creation_is_atomic.
 fn open_new<R: Files<File = File>>(rt: &R, results: &Text, name: &Text) -> Option<File>
     requires { IsNewNameOf results.now name.now }
@@ -151,7 +152,8 @@ fn remove_new_file<R: Files>(rt: &R, results: &Text, name: &Text)
 }
 
 /// Creates an empty database at the path `file`, and returns `true` on success. The file gets this
-/// path once it is complete and on the disk.
+/// path once it is complete and on the disk. Returns `false` if an older log is present or a step
+/// fails.
 fn create_database<R: Files<File = File>>(rt: &R, file: &Text) -> Result<bool, NoMemory> {
     if may_have_frames(rt, file)? {
         return Ok(false);
@@ -266,10 +268,10 @@ fn remove_new_paths<R: Files + AllocGlobal + Clone + Drop>(
 /// Creates the results file at the path `file` if it doesn't exist. If it exists, removes its other
 /// paths in the same directory that end in `-new`.
 ///
-/// The new file is an empty database. If a database can't be created, the file is empty: the file
-/// system has no links, or an older log is present. The later open turns an empty file into a
-/// database with larger pages. The content of an existing file isn't changed. A failure is reported
-/// by the later open, which also creates the log, with the file's permissions.
+/// The new file is an empty database. The file is empty if a database can't be created, for example
+/// without hard links in the file system, or next to an older log. The later open turns an empty
+/// file into a database with larger pages. The content of an existing file isn't changed. A failure
+/// is reported by the later open, which also creates the log, with the file's permissions.
 pub(crate) fn create_missing_file<R: Files<File = File> + AllocGlobal + Clone + Drop>(
     rt: &R,
     file: &Text,

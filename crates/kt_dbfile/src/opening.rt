@@ -38,23 +38,26 @@ use sqlite_wal::{PageSize, probe_first_page, probe_page_size};
 use std::alloc::Global;
 use std::hash::{BuildHasher, RandomState};
 
-/// Bytes 20 to 23 of a database whose pages end in checksums.
+/// Bytes 20 to 23 of a database whose pages end in checksums, as a big-endian number.
 const CHECKSUM_MARK: u32 = 0x0840_2020;
 
-/// The number of the tree of the table `meta`, which has the schema number.
+/// The number of the B-tree of the table `meta`, which has the schema number.
 const META: u32 = 0;
 
-/// The layout of a table's tree: its shape, and no column of the type REAL.
+/// The layout of a table's B-tree: the shape of a table, and an empty set of columns of the type
+/// REAL.
 const TABLE: (Shape, u64) = (Shape::Table, 0);
 
-/// The layout of a key index's tree: its shape, and no column of the type REAL.
+/// The layout of a key index's B-tree: the shape of an index, and an empty set of columns of the
+/// type REAL.
 const KEY: (Shape, u64) = (Shape::Index(Order::PLAIN), 0);
 
-/// The layouts of the trees of schema 2, in the order of their numbers.
+/// The layouts of the B-trees of schema 2, in the order of their numbers. A layout is a shape and a
+/// bit mask of the columns of the type REAL.
 const LAYOUTS: [(Shape, u64); 7] = [TABLE, KEY, TABLE, TABLE, KEY, TABLE, KEY];
 
-/// Returns the options of a store that caches at most `pages` read pages. Returns `None` if the
-/// system provides no random number.
+/// Returns the options of a store that caches at most `pages` pages that it has read. Returns
+/// `None` if the system provides no random number.
 pub(crate) fn options(rt: &HostRuntime, pages: usize) -> Option<Options>
     ensures pages { IfSome result (CachesPages pages) }
 {
@@ -83,10 +86,12 @@ fn page_size_without_sums<D: Disk>(alloc: Global, files: &mut Files<D>) -> Optio
     Some(size)
 }
 
-/// Returns `true` if the open must check all pages and trees of `files`.
+/// Returns `true` if the open must check all pages and trees of `files`, the results file and its
+/// log.
 ///
-/// They are checked if the database file has at most 16 MiB, which takes about 60 ms. They are also
-/// checked if the log can have frames: then a runner was killed or the machine lost power.
+/// It checks them if the database file has at most 16 MiB, since the check then takes at most about
+/// 60 ms. It also checks them if the log can have frames: then a runner was killed or the machine
+/// lost power. Fails if the size of a file can't be read.
 fn is_full_check<D: Disk>(files: &mut Files<D>) -> Result<bool, DatabaseError>
     requires log { IsTrue (D.Disk.is_usable files.old.log) }
     requires db { IsTrue (D.Disk.is_usable files.old.db) }
@@ -100,8 +105,8 @@ fn is_full_check<D: Disk>(files: &mut Files<D>) -> Result<bool, DatabaseError>
     Ok(size <= MAX_CHECKED_BYTES || MIN_LOG_BYTES <= log)
 }
 
-/// Creates an unopened store over `files`, with the page size `size` and without checksums. Returns
-/// the files if an allocation fails.
+/// Creates a store over `files` that isn't opened yet, with the page size `size` and without
+/// checksums. Returns the files if an allocation fails.
 fn create_unopened<D: Disk + Drop>(
     alloc: Global,
     files: Files<D>,
@@ -171,8 +176,8 @@ fn is_schema_2(rows: &[Row]) -> bool
     of_meta & of_runs & of_entries & of_props
 }
 
-/// Reads SQLite's schema list in `files`, and returns `true` if it is that of schema 2. Then
-/// `files` has the listed schema.
+/// Reads SQLite's schema list in `files`, and returns `true` if it is the list of schema 2. If it
+/// is, the later open of `files` uses schema 2.
 fn list_schema<D: Disk>(alloc: Global, files: &mut Unopened<D>) -> Result<bool, DatabaseError>
     requires { AreUsable files.old }
     ensures honest { IsTrue (state_of files.new).is_clean → IsTrue (state_of files.old).is_clean }
@@ -223,9 +228,9 @@ fn with_database_error<T, L>(returned: Result<T, (OpenError, L)>) -> Result<T, (
     }
 }
 
-/// Opens files that contain a database of their listed schema. Checks all pages and trees if
-/// `is_full_check` is `true`. Otherwise, checks only the pages of the schema and the free pages. On
-/// failure, returns the error with the files.
+/// Opens `files`, which contain a database of the schema that they list. Checks all pages and trees
+/// if `is_full_check` is `true`. Otherwise, checks only the pages of the schema and the free pages.
+/// On failure, returns the error with the files.
 fn open_sound_files<D: Disk + Drop>(
     files: Unopened<D>,
     is_full_check: bool,
@@ -254,8 +259,8 @@ fn open_sound_files<D: Disk + Drop>(
 }
 
 /// Opens `files`, the results file and its log, if they list the tables of schema 2 in pages
-/// without checksums. Recovers the log. Returns the files, which were only read, if they aren't
-/// recognized as such. On failure, returns the error with what is left of the files.
+/// without checksums. Recovers the log. If the files aren't recognized, only reads them and returns
+/// them as the inner error. On failure, returns the error with what is left of the files.
 pub(crate) fn open_known_files<D: Disk + Drop>(
     alloc: Global,
     mut files: Files<D>,
@@ -303,7 +308,7 @@ pub(crate) fn open_known_files<D: Disk + Drop>(
 }
 
 /// Checks that the schema number in the table `meta` is 2. Fails with `UnknownSchema` if it is
-/// another number.
+/// another number, and with `Store` if the table doesn't have exactly one schema number.
 pub(crate) fn check_schema_number<S: Store>(store: &mut S, alloc: Global) -> Result<(), StoreFault>
     ensures ours { OnOk result (IsClean (S.Store.view store.new)
         → HasSchemaNumber (pos 2) (S.Store.view store.old).trees) }
@@ -320,8 +325,8 @@ pub(crate) fn check_schema_number<S: Store>(store: &mut S, alloc: Global) -> Res
     }
 }
 
-/// Copies the log into the database file, and closes both. Uncommitted changes are lost. On
-/// failure, returns the error with the store.
+/// Copies the log of `store` into the database file, and closes both files. Uncommitted changes are
+/// lost. On failure, returns the error with the store.
 pub(crate) fn close_store<D: Disk + Drop>(
     mut store: FileStore<D>,
 ) -> Result<(), (DatabaseError, FileStore<D>)>
@@ -350,5 +355,6 @@ fn stored_schema_number<S: Store>(store: &mut S, alloc: Global) -> Result<i64, D
     present(number_in(settings.as_slice()))
 }
 
-/// The size of the largest file whose pages and trees are all checked, in bytes.
+/// The size of the largest database file whose pages and trees are all checked during an open, in
+/// bytes.
 const MAX_CHECKED_BYTES: usize = 16 * 1_048_576;

@@ -11,9 +11,11 @@ ghost use Rattle.sqlite_wal.specs.Recovery.{Image};
 
 use sqlite_disk::Disk;
 
-/// Theorem: a process that opens the results file finds the runs that the previous process left.
+/// Theorem: after a process has closed the results file, the next process that opens the file finds
+/// the runs of the last commit. The premises are `OpensAndCloses` for the first process and `Finds`
+/// for the next process.
 ///
-/// The premises of `OpensAndCloses` are clauses of [`RunsFile`](crate::RunsFile), of its open, its
+/// The facts in `OpensAndCloses` are clauses of [`RunsFile`](crate::RunsFile), of its open, its
 /// calls and its close, except `checked` and `honest`. After a close, the files hold the runs of
 /// the last commit, with the log and without it. The assumption on opened files (`IsTrustedImage`)
 /// holds for these files. A store that finds the files has these runs, and a crash leaves the runs.

@@ -19,19 +19,22 @@ use std::alloc::Global;
 /// An edit of a table: the rows that it removes, and the rows that it adds.
 #[derive(Clone, Copy)]
 pub(crate) struct TableEdit<'a> {
-    /// The index of the table in the schema.
+    /// The index of the edited table in the list of tables of the schema.
     pub(crate) place: usize,
-    /// The rowids of the rows that are removed.
+    /// The rowids of the rows that the edit removes from the table.
     pub(crate) gone: &'a [i64],
-    /// Whether an added row without a rowid gets one.
+    /// `Chosen` if an added row with NULL in place of the rowid gets the next rowid, and `Given` if
+    /// each added row has a rowid.
     pub(crate) rowids: Rowids,
-    /// The index of the first column of a source that is part of the added row: 0 or 1.
+    /// The index of the first column of each of `sources` that is copied to an added row: 0 or 1.
+    /// The columns before it are skipped.
     pub(crate) from: usize,
-    /// The sources of the rows that are added, one for each row.
+    /// The rows from which the added rows are made, one for each added row.
     pub(crate) sources: &'a [Row],
 }
 
-/// Returns the indexes of the tables of `schema`, in the form that the library takes.
+/// Returns the indexes of all tables of `schema`, as the functions [`write`] and [`are_kept`]
+/// require them.
 fn list_indexes(alloc: Global, schema: &Schema) -> Result<Vec<Index<'_>>, NoMemory>
     ensures { IfOk result (λ all. IsCatalogOf schema.now all.items) }
 {
@@ -39,18 +42,18 @@ fn list_indexes(alloc: Global, schema: &Schema) -> Result<Vec<Index<'_>>, NoMemo
     Ok(all)
 }
 
-/// A workspace for one edit of a table.
+/// A workspace for one edit of a table: reused buffers, and the steps of the edit.
 #[derive(Drop)]
 struct EditWorkspace {
-    /// The memory for rows that the library reuses.
+    /// The buffers for rows, which the functions [`write`] and [`are_kept`] reuse.
     space: Workspace,
     /// The steps of the edit so far: the rows that each step removed and added.
     touched: Items<Touched>,
 }
 
-/// Applies `edit` to its table and to the indexes of that table, and checks each rule of `schema`.
-/// `indexes` are the indexes of `schema`, and `work` is a workspace without steps. Fails if a rule
-/// is broken.
+/// Applies `edit` to its table and to the indexes of that table, and checks each constraint of
+/// `schema`. `indexes` are the indexes of `schema`, and `work` is a workspace without steps. Fails
+/// if a constraint isn't met. Commits nothing.
 ///
 /// Separate for the prover: this function owns nothing, since values that are dropped on failure
 /// are slow to prove.
@@ -109,8 +112,8 @@ fn apply_edit<S: Alter>(
     Ok(())
 }
 
-/// Applies `edit` to its table, and checks each rule of `schema`. Fails if a rule is broken.
-/// Commits nothing.
+/// Applies `edit` to its table and to the indexes of that table, and checks each constraint of
+/// `schema`. Fails if a constraint isn't met. Commits nothing.
 pub(crate) fn put_rows<S: Alter>(
     store: &mut S,
     alloc: Global,

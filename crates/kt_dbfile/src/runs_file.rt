@@ -32,11 +32,11 @@ use std::marker::Model;
 use std::thread;
 use std::time::Duration;
 
-/// An open results file: recorded runs in an SQLite database (docs/formats/store.md).
+/// An open results file: recorded runs in an SQLite database of schema 2 (docs/formats/store.md).
 ///
-/// Reads find rows by seeks in the B-trees of the file. Writes follow the rules of the schema. In
-/// contracts, the value is the store of the B-trees. The clauses hold while the disk returns the
-/// data that was written and no other process writes the database.
+/// Reads find rows by seeks in the B-trees of the file. Writes follow the constraints of the
+/// schema. In contracts, the value is the store of the B-trees. The clauses hold while the disk
+/// returns the data that was written and no other process writes the database.
 #[derive(Drop)]
 pub struct RunsFile<S: Alter> {
     store: S,
@@ -56,8 +56,8 @@ impl<S: Alter> Model for RunsFile<S> {
     ghost invariant = { λ r. IsSettledStore (S.Store.view r.store) r.schema };
 }
 
-/// Returns the schema in the schema list of `store`, or `None` if the list doesn't describe a
-/// schema.
+/// Returns the schema that SQLite's schema list in `store` describes, or `None` if the list doesn't
+/// describe a schema.
 fn load_schema<S: Alter>(store: &S, alloc: Global) -> Result<Option<Schema>, NoMemory>
     requires { IsClean (S.Store.view store.now) → (S.Store.view store.now).is_broken ≡ false }
     ensures { IsClean (S.Store.view store.now) → IfOk result (λ found. IfSome found
@@ -67,8 +67,8 @@ fn load_schema<S: Alter>(store: &S, alloc: Global) -> Result<Option<Schema>, NoM
     Ok(found)
 }
 
-/// Returns the schema of `store`. Fails if the store is broken, or if its schema lacks the tables
-/// of a results file.
+/// Returns the schema of `store`. Fails if the store is broken by an earlier failed call, or if its
+/// schema lacks the tables of a results file.
 fn schema_of_results<S: Alter>(store: &S, alloc: Global) -> Result<Schema, DatabaseError>
     ensures { IsClean (S.Store.view store.now) → IfOk result (λ schema.
         ((S.Store.view store.now).is_broken ≡ false)
@@ -80,9 +80,9 @@ fn schema_of_results<S: Alter>(store: &S, alloc: Global) -> Result<Schema, Datab
     Ok(schema)
 }
 
-/// Creates a `RunsFile` over `store`, which shows its last commit. Fails if the store is broken or
-/// lacks the tables of a results file, and returns the store with the error. The caller guarantees
-/// that the store obeys its schema.
+/// Creates a `RunsFile` over `store`, which has no uncommitted changes. Fails if the store is
+/// broken by an earlier failed call, or lacks the tables of a results file. The store is returned
+/// with the error. The caller guarantees that the store obeys its schema.
 fn wrap_store<S: Alter>(alloc: Global, store: S) -> Result<RunsFile<S>, (DatabaseError, S)>
     requires settled { IsClean (S.Store.view store) → (S.Store.view store).is_broken ≡ false
         → (S.Store.view store).trees ≡ (S.Store.view store).committed }
@@ -101,7 +101,7 @@ fn wrap_store<S: Alter>(alloc: Global, store: S) -> Result<RunsFile<S>, (Databas
     }
 }
 
-/// Returns the store of `connection`. Uncommitted changes are lost.
+/// Converts `connection` to its store of B-trees. Uncommitted changes are lost.
 fn detach_store<S: Alter + Drop>(connection: Connection<S>) -> S
     ensures from { IsConvertedFrom S.Store connection result }
     ensures undone { IsRolledBack (S.Store.view connection.store) (S.Store.view result) }
@@ -109,8 +109,8 @@ fn detach_store<S: Alter + Drop>(connection: Connection<S>) -> S
     connection.into_store()
 }
 
-/// Converts `connection`, with attached results, to a `RunsFile`. Uncommitted changes are lost. On
-/// failure, returns the error with the store of the connection.
+/// Converts `connection`, on which [`Results::attach`] has succeeded, to a `RunsFile`. Uncommitted
+/// changes are lost. On failure, returns the error with the store of the connection.
 fn convert_connection<S: Alter + Drop>(
     alloc: Global,
     connection: Connection<S>,
@@ -134,12 +134,13 @@ impl<S: Alter + Drop> RunsFile<S> {
     ghost use Rattle.sqlite_trees.specs.Tree.{Trees};
     ghost use Rattle.sqlite_trees.specs.View.{IsClean};
 
-    /// Converts `results`, which were attached to a connection, to a `RunsFile`. Uncommitted
-    /// changes of the connection are lost.
+    /// Converts `results`, the result of [`Results::attach`], to a `RunsFile`. Uncommitted changes
+    /// of the connection are lost.
     ///
     /// # Errors
     ///
-    /// - `Store`: the connection is broken, or the database lacks the tables of a results file.
+    /// - `Store`: an earlier failed call has broken the connection, or the database lacks the
+    ///   tables of a results file.
     /// - `NoMemory`: memory ran out.
     pub fn of(results: Results<S>) -> Result<RunsFile<S>, StoreFault>
         ensures stands { IfOk result (λ r. (runs : List Run)
@@ -183,7 +184,7 @@ impl<D: Disk + Drop> RunsFile<FileStore<D>> {
     /// # Errors
     ///
     /// The store is returned with the error. Its file and its log have the runs of the last commit.
-    /// If a call failed after it, they may have the change of that call, too.
+    /// If a call failed after this commit, they may also have the change of that call.
     ///
     /// - `Store`: the log can't be copied into the file.
     /// - `NoMemory`: memory ran out.
@@ -206,9 +207,10 @@ impl<D: Disk + Drop> RunsFile<FileStore<D>> {
     }
 }
 
-/// Attaches the tables of the database that `connection` opened, and converts the results to a
-/// `RunsFile`. Fails with `UnknownSchema` if the schema number is missing or neither 1 nor 2. On
-/// failure, returns the error with the store of the connection.
+/// Creates, checks or migrates the tables of the database that `connection` opened, by
+/// [`Results::attach`]. Converts the connection to a `RunsFile`. Fails with `UnknownSchema` if the
+/// schema number is missing or neither 1 nor 2. On failure, returns the error with the store of the
+/// connection.
 fn attach_and_convert<S: Alter + Drop>(
     alloc: Global,
     connection: Connection<S>,
@@ -226,9 +228,10 @@ fn attach_and_convert<S: Alter + Drop>(
     }
 }
 
-/// Attaches the tables of the database in the files of `connection`, and converts the results to a
-/// `RunsFile`. Fails with `UnknownSchema` if the schema number is missing or neither 1 nor 2. On
-/// failure, returns the error with the store.
+/// Creates, checks or migrates the tables of the database in the files of `connection`, by
+/// [`Results::attach`]. Converts the connection to a `RunsFile`. Fails with `UnknownSchema` if the
+/// schema number is missing or neither 1 nor 2. On failure, returns the error with the store of the
+/// connection.
 ///
 /// Separate for the prover: functions that depend on how a store over files is read are slow to
 /// prove.
@@ -243,9 +246,9 @@ fn attach_files_and_convert<D: Disk + Drop>(
     attach_and_convert(alloc, connection)
 }
 
-/// Creates a `RunsFile` over `store`, which lists the tables of schema 2. Fails with
-/// `UnknownSchema` if the table `meta` has another schema number. Returns the store, which was only
-/// read, with the error.
+/// Creates a `RunsFile` over `store`, whose schema list is the list of schema 2. Fails with
+/// `UnknownSchema` if the table `meta` has another schema number. The store, which was only read,
+/// is returned with the error.
 ///
 /// Separate for the prover: functions that depend on how a store over files is read are slow to
 /// prove.
@@ -270,10 +273,10 @@ fn wrap_schema_2<S: Alter>(alloc: Global, mut store: S) -> Result<RunsFile<S>, (
     }
 }
 
-/// Opens `files`, the results file and its log, if they list the tables of schema 2. Returns the
-/// files, which were only read, if they aren't recognized as such. Fails with `UnknownSchema` if
-/// the table `meta` has another schema number. On failure, returns the error with what is left of
-/// the files.
+/// Opens `files`, the results file and its log, if they list the tables of schema 2. If the files
+/// aren't recognized, only reads them and returns them as the inner error. Fails with
+/// `UnknownSchema` if the table `meta` has another schema number. On failure, returns the error
+/// with what is left of the files.
 fn open_known_results<D: Disk + Drop>(
     alloc: Global,
     files: Files<D>,
@@ -299,9 +302,11 @@ fn open_known_results<D: Disk + Drop>(
     }
 }
 
-/// Opens `files`, the results file and its log. If they list other tables than those of schema 2,
-/// attaches these by [`Results::attach`]. Fails with `UnknownSchema` if the schema number is
-/// missing or neither 1 nor 2. On failure, returns the error with what is left of the files.
+/// Opens `files`, the results file and its log. If they don't list the tables of schema 2, the
+/// tables are created, checked or migrated by [`Results::attach`]. Fails with `UnknownSchema` if
+/// the files list the tables of schema 2, but the schema number isn't 2. For other tables, fails
+/// with `UnknownSchema` if the schema number is missing or neither 1 nor 2. On failure, returns the
+/// error with what is left of the files.
 fn open_results<D: Disk + Drop>(
     alloc: Global,
     files: Files<D>,
@@ -333,7 +338,7 @@ fn open_results<D: Disk + Drop>(
 /// The maximum number of retries of an open while another process uses the results file.
 const MAX_RETRIES: usize = 100;
 
-/// The pause before a retry, in milliseconds.
+/// The pause before an open is retried, in milliseconds.
 const PAUSE_MILLIS: u64 = 50;
 
 /// Pauses for 50 ms if `fault` reports that another process uses the results file. Returns any
@@ -349,7 +354,8 @@ fn pause(rt: &HostRuntime, fault: StoreFault) -> Result<(), StoreFault>
 }
 
 /// Opens the results file at the path `file` and its log, without a retry. Creates the results file
-/// if it doesn't exist. On failure, returns the error with a witness of the failed open.
+/// if it doesn't exist. On failure, returns the error with a witness of the failed open. `start`
+/// represents the initial content of the file, in contracts alone.
 fn try_open<S: TrustedContents>(
     rt: &HostRuntime,
     file: &Text,
@@ -368,8 +374,9 @@ fn try_open<S: TrustedContents>(
 }
 
 /// Opens the results file at the path `file` and its log. Creates the results file if it doesn't
-/// exist. While another process uses the file, retries for 5 seconds. Returns the value of `S` only
-/// if the open fails, so at most one pair of files is opened.
+/// exist. While another process uses the file, retries for 5 seconds. `start` represents the
+/// initial content of the file, in contracts alone. It is returned with the error, and consumed on
+/// success, so it serves at most one successful open.
 fn open_files<S: TrustedContents>(
     rt: &HostRuntime,
     file: &Text,
@@ -398,7 +405,7 @@ fn open_files<S: TrustedContents>(
     }
 }
 
-/// Returns `true` if SQLite opens the path as a file, not as `:memory:` or a URI.
+/// Returns `true` if SQLite opens `path` as the path of a file, not as `:memory:` or as a URI.
 fn is_path(path: &str) -> bool
     ensures { result ≡ false → (path.now ≡ codes ":memory:") ⊎ IsUri path.now }
 {
@@ -406,8 +413,8 @@ fn is_path(path: &str) -> bool
 }
 
 /// Checks the path `file` of a results file, and returns the options of its store. Fails if SQLite
-/// doesn't open the path as a file, or if the file is mounted alone. Also fails if the system
-/// provides no random number.
+/// doesn't open the path as a file, or if the file is mounted as a single file. Also fails if the
+/// system provides no random number.
 fn options_of_path(
     rt: &HostRuntime,
     file: &Text,
@@ -435,10 +442,12 @@ impl<S: TrustedContents> RunsFile<FileStore<FileFrom<S>>> {
     /// `start` is returned instead.
     ///
     /// - `NoMemory`: memory ran out.
-    /// - `Store`: another process uses the file for 5 seconds, the file can't be created, read or
-    ///   written, it is damaged or has other tables, `file` is `:memory:` or a URI, it is mounted
-    ///   as a single file, or `start` is `None`.
-    /// - `UnknownSchema`: the schema number is missing or neither 1 nor 2.
+    /// - `Store`: another process uses the file for 5 seconds, or the file can't be created, read
+    ///   or written, is damaged or has other tables. Also returned if `file` is `:memory:` or a
+    ///   URI, or is mounted as a single file. Also returned if `start` is `None`, or if the system
+    ///   provides no random number.
+    /// - `UnknownSchema`: the file lists the tables of schema 2, but the schema number isn't 2. For
+    ///   other tables: the schema number is missing or neither 1 nor 2.
     pub fn open(
         rt: &HostRuntime,
         file: &Text,
@@ -492,8 +501,9 @@ impl<S: Alter> StoreSpec for RunsFile<S> {
     ghost ordered = { λ s runs h sound. h.2 sound };
 }
 
-/// Commits the written rows, and returns the value of `written`. If `written` is an error, rolls the
-/// transaction back. A commit that fails rolls it back itself.
+/// Commits the rows that were written to `store`, and returns the value of `written`, the result of
+/// the writes. If `written` is an error, rolls the transaction back. A failed commit rolls the
+/// transaction back itself.
 fn end_transaction<S: Alter, T: Drop>(
     store: &mut S,
     written: Result<T, StoreFault>,

@@ -18,7 +18,7 @@ use sqlite_trees::store::{Shape, Store};
 use sqlite_value::row;
 use std::alloc::Global;
 
-/// Returns the number of the last run, or 0 if there is none.
+/// Returns the number of the last run, or 0 if there are no runs.
 pub(crate) fn read_last_number<S: Store>(store: &mut S, alloc: Global) -> Result<u64, DatabaseError>
     ensures last { HoldsForTrees S.Store store.old store.new (λ runs.
         IfOk result (λ n. n ≡ length runs)) }
@@ -31,9 +31,9 @@ pub(crate) fn read_last_number<S: Store>(store: &mut S, alloc: Global) -> Result
     Ok(number)
 }
 
-/// Returns the head of run `number`, or of the last run if `number` is `None`. Returns `None` if
-/// there is no such run. Fails if `number` is at most that of the last run, but the file lacks the
-/// run.
+/// Returns the head of run `number`, or of the last run if `number` is `None`. A head is a run
+/// without its entries. Returns `None` if there is no such run. Fails if `number` is at most the
+/// number of the last run, but the file lacks the run.
 pub(crate) fn head<S: Store>(
     store: &mut S,
     alloc: Global,
@@ -79,7 +79,8 @@ pub(crate) fn find_run_row<S: Store>(
     Ok(row)
 }
 
-/// Returns the head of run `run`. Fails with `NoRun` if no run has this number.
+/// Returns the head of run `run`. A head is a run without its entries. Fails with `NoRun` if no run
+/// has this number.
 pub(crate) fn find_run_head<S: Store>(
     store: &mut S,
     alloc: Global,
@@ -99,7 +100,8 @@ pub(crate) fn find_run_head<S: Store>(
     Ok(head)
 }
 
-/// Reads the entries of run `run` without their properties and outputs, ordered by position.
+/// Reads the entries of the run with the key `run`, ordered by position, without their properties
+/// and outputs. Returns no entries if there is no such run.
 fn read_outlines<S: Store>(
     store: &mut S,
     alloc: Global,
@@ -134,8 +136,9 @@ pub(crate) fn outline<S: Store>(
     Ok(found)
 }
 
-/// Returns an index key below that of the entry at `position` of run `run`. This is the key of the
-/// previous position or, for position 0, of the previous run.
+/// Returns a key in the index of the table `entries` or `props` that is below each key of the entry
+/// at `position` of run `run`. It is the key of the previous position or, for position 0, of the
+/// previous run. For position 0 of run 0, which doesn't exist, it is the key of run 0.
 fn key_before_entry(alloc: Global, run: u32, position: u32) -> Result<row::Row, NoMemory>
     ensures { IfOk result (λ key. key ≡ key_before run position) }
 {

@@ -22,10 +22,10 @@ pub(crate) const ENTRIES_AT: usize = 2;
 /// schema.
 pub(crate) const PROPS_AT: usize = 3;
 
-/// The number of the tree of the table `runs`.
+/// The number of the B-tree of the table `runs`.
 pub(crate) const RUNS_TREE: u32 = 2;
 
-/// Returns the description of the table `entries` and of its key index.
+/// Returns the description of the table `entries` and of the index of its key.
 pub(crate) fn entry_table() -> TreeTable<'static>
     ensures tree { result.tree ≡ 3 }
     ensures index { result.index ≡ 4 }
@@ -38,8 +38,8 @@ pub(crate) fn entry_table() -> TreeTable<'static>
     }
 }
 
-/// Returns the description of the table `props`, which has the properties of entries, and of its
-/// key index.
+/// Returns the description of the table `props`, which has the properties of entries, and of the
+/// index of its key.
 pub(crate) fn property_table() -> TreeTable<'static>
     ensures tree { result.tree ≡ 5 }
     ensures index { result.index ≡ 6 }
@@ -52,8 +52,8 @@ pub(crate) fn property_table() -> TreeTable<'static>
     }
 }
 
-/// Creates the index key of the entry at `position` of run `run`. The keys of the entry's
-/// properties begin with this key.
+/// Creates the index key of the entry at `position` of run `run`: both numbers, in the order run,
+/// position. The keys of the entry's properties begin with this key.
 pub(crate) fn create_entry_key(alloc: Global, run: u32, position: u32) -> Result<Row, NoMemory>
     ensures { IfOk result (λ place. place ≡ Int (pos run) ∷ Int (pos position) ∷ []) }
 {
@@ -62,8 +62,8 @@ pub(crate) fn create_entry_key(alloc: Global, run: u32, position: u32) -> Result
     Ok(place)
 }
 
-/// Returns the row with the highest rowid in the table whose tree has the number `tree`, or `None`
-/// if the table is empty. Fails if the tree doesn't have the shape of a table.
+/// Returns the row with the highest rowid in the table whose B-tree has the number `tree`, or
+/// `None` if the table is empty. Fails if the B-tree isn't that of a table.
 pub(crate) fn read_last_row<S: Store>(
     store: &mut S,
     alloc: Global,
@@ -82,8 +82,8 @@ pub(crate) fn read_last_row<S: Store>(
     Ok(Some(row))
 }
 
-/// Returns the head of the run that `row`, a stored row of the table `runs`, represents. Fails if a
-/// column isn't a number in range.
+/// Returns the head of the run that `row`, a stored row of the table `runs`, represents. A head is
+/// a run without its entries. Fails if a column isn't a number in the range of its field.
 pub(crate) fn head_from_stored_row(alloc: Global, row: &Row) -> Result<RunHead, DatabaseError>
     ensures head { (r : Run) → row.now ≡ run_row r → IfOk result (λ h. h ≡ head_of r) }
 {

@@ -22,16 +22,16 @@ use sqlite_value::value::ValueRef;
 use std::alloc::Global;
 use std::cmp::Ordering;
 
-/// A description of a table that has an index of its key.
+/// A description of a table and of the index of its key, by the numbers of their B-trees.
 #[derive(Clone, Copy)]
 pub(crate) struct TreeTable<'a> {
-    /// The number of the table's tree.
+    /// The number of the B-tree of the table.
     pub(crate) tree: u32,
-    /// The number of the index's tree.
+    /// The number of the B-tree of the index.
     pub(crate) index: u32,
-    /// The positions of the key columns in a row, which has the rowid at position 0.
+    /// The indexes of the key's columns in a stored row, which has the rowid at index 0.
     pub(crate) key: &'a [usize],
-    /// The positions of the blob columns in a row.
+    /// The indexes of the blob columns in a stored row, which has the rowid at index 0.
     pub(crate) blobs: &'a [usize],
 }
 
@@ -48,7 +48,7 @@ pub(crate) fn copy_blob(alloc: Global, row: &row::Row, at: usize) -> Result<Byte
     }
 }
 
-/// Returns the rowid of a row. Fails unless the rowid is above 0.
+/// Returns the rowid of a stored row. Fails unless the rowid is an integer above 0.
 pub(crate) fn positive_rowid(row: &row::Row) -> Result<u64, DatabaseError>
     ensures { (n : ℕ) → rowid row.now ≡ Int (pos n) → IfOk result (λ number. number ≡ n) }
 {
@@ -58,7 +58,7 @@ pub(crate) fn positive_rowid(row: &row::Row) -> Result<u64, DatabaseError>
     }
 }
 
-/// Creates an index key that consists of the value `number`.
+/// Creates an index key of one column, with the value `number`.
 pub(crate) fn create_number_key(alloc: Global, number: u32) -> Result<row::Row, NoMemory>
     ensures { IfOk result (λ key. key ≡ Int (pos number) ∷ []) }
 {
@@ -109,8 +109,8 @@ fn index_entry_rowid(place: &row::Row) -> Option<i64>
     }
 }
 
-/// Returns `true` if the trees of `table` have the expected shapes: that of a table, and that of an
-/// index whose columns ascend by bytes.
+/// Returns `true` if the two B-trees of `table` have the expected shapes. The first must be the
+/// tree of a table. The second must be the tree of an index whose columns ascend by their bytes.
 pub(crate) fn have_shapes<S: Store>(store: &S, table: &TreeTable) -> bool
     ensures table { IsTrue result
         → (S.Store.view store.now).shape table.now.tree ≡ kind.Table }
@@ -130,10 +130,10 @@ fn has_blobs(row: &row::Row, columns: &[usize]) -> bool
         .all(|at| matches!(row.get(*at), ValueRef::Blob(_)))
 }
 
-/// Reads the next index entry of cursor 0 into `place`, and the row of the entry into `row`.
-/// Returns `true` if the entry begins with `key`, and `false` if it doesn't or if there is no
-/// entry. Fails if the row is missing, if it has another key than the entry, or if a blob column of
-/// the row has no blob.
+/// Reads the next index entry of the store's cursor 0 into `place`, and the row of this entry into
+/// `row`. Returns `true` if the entry begins with `key`, and `false` if it doesn't or if there is
+/// no entry. Fails if the row is missing, if it has another key than the entry, or if a blob column
+/// of the row has no blob.
 pub(crate) fn read_next_row<S: Store>(
     store: &mut S,
     alloc: Global,
@@ -191,7 +191,7 @@ pub(crate) fn find_row_by_key<S: Store>(
 }
 
 /// Reads the values in `columns` of each row whose index entry begins with `key`, in the order of
-/// the index. Holds one stored row at a time.
+/// the index. Keeps at most one stored row in memory at a time.
 fn read_rows_by_key<S: Store>(
     store: &mut S,
     alloc: Global,
@@ -225,8 +225,8 @@ fn read_rows_by_key<S: Store>(
 }
 
 /// Reads the values in `columns` of each row whose index entry begins with `key`, in the order of
-/// the index. First compares the last index entry at or before the key `before` with its row,
-/// because the row of a damaged entry could belong to `key`.
+/// the index. First compares the last index entry at or before the key `before` with its row. If
+/// this entry is damaged, its row could belong to `key`.
 pub(crate) fn read_rows_after<S: Store>(
     store: &mut S,
     alloc: Global,

@@ -1,11 +1,12 @@
 use crate::files::OpenFailure;
 use sqlite::{Start, Unknown};
 
-/// An interface to a value that represents the initial content of a results file in contracts. The
-/// content is assumed to contain valid runs if it lists the tables of schema 2. Nothing is assumed
-/// of other contents.
+/// An interface to a value that represents the initial content of a results file and its log, in
+/// contracts alone.
 ///
-/// An open consumes a value of the type, so each open needs another value.
+/// The content is assumed to contain valid runs if it lists the tables of schema 2. Nothing is
+/// assumed of other contents. An open consumes a value of the type, so each open needs another
+/// value.
 pub trait TrustedContents: Start {
     ghost use Rattle.sqlite_wal.specs.Files.{image_at};
     ghost use Rattle.kt_store.specs.TrustedContents.{IsTrustedImage};

@@ -10,21 +10,22 @@ use Rattle.sqlite_value.specs.declared.value.Value.{Value}
 use Rattle.kt_store.specs.Types.{AllByRecursion, Blob, Ghosts, Int, IsClean, IsIndex, IsShaped, KeepsSchema, Row, Trees, View, column, from_key, has_rowid, rowid}
 use Rattle.kt_store.specs.declared.result_store.RunHead.{RunHead}
 
--- `ends_with last end`: `true` if `end` can be the last key of the index of entries when `last` is
--- the head of the last run. If this run is finished and has cases, `end` must be the key of its
--- last position. Otherwise, `end` can be any key below that of the position `last.total`, at which
--- the run can't have an entry.
+-- `ends_with last end`: `true` if `end` can be the greatest key of the index of the table
+-- `entries`. `last` is the head of the last run. If this run is finished and has cases, `end` must
+-- be the key of its last position. Otherwise, `end` must be below the key of the position
+-- `last.total`, at which the run can't have an entry.
 abbrev pub ends_with : RunHead → Row → Bool
 ends_with last end =
     if last.finished && nat_lt 0 last.total then is_eq (prefix_cmp plain end (Int (pos last.number) ∷ Int (pos (last.total - 1)) ∷ []))
     else is_lt (prefix_cmp plain end (Int (pos last.number) ∷ Int (pos last.total) ∷ []))
 
 -- `key_before run position`: the index key of the position before `position` in run `run`. For
--- position 0, it is the key of the previous run.
+-- position 0, it is the key of the run before `run`, or of run 0 if `run` is 0.
 abbrev pub key_before : ℕ → ℕ → Row
 key_before run' position = if position == 0 then Int (pos (run' - 1)) ∷ [] else Int (pos run') ∷ Int (pos (position - 1)) ∷ []
 
--- `has_prefix key e`: `true` if the index entry `e` begins with the values of `key`.
+-- `has_prefix key e`: `true` if the first columns of the index entry `e` equal the columns of
+-- `key`.
 abbrev pub has_prefix : Row → Row → Bool
 has_prefix key e = is_eq (prefix_cmp plain e key)
 
@@ -33,9 +34,10 @@ abbrev pub IsUniqueRow : List Row → Row → Type 0
 IsUniqueRow table row = (id : ℤ) × (rowid row ≡ Int id) × (filter (has_rowid id) table ≡ row ∷ [])
 
 -- `IndexesRows columns key mine table index`: `mine` are the rows of `table` whose entries in
--- `index` begin with `key`, in the order of `index` and without their rowids. These entries are the
--- first from `key` on, and no later entry begins with `key`. An entry has the values of its row in
--- the key columns `columns`, and the row's rowid. No other row of `table` has this rowid.
+-- `index` begin with `key`. The rows have the order of `index` and lack their rowids. Their entries
+-- are the first from `key` on, and no later entry begins with `key`. An entry has the values of its
+-- row in the key columns, whose indexes are `columns`, and the row's rowid. No other row of `table`
+-- has this rowid.
 pub record IndexesRows (columns : List ℕ) (key : Row) (mine table index : List Row) : Type 0 where
   pub rows : List Row
   pub are : map (drop 1) rows ≡ mine
@@ -60,16 +62,17 @@ abbrev pub SelectsColumns : List ℕ → List Row → List Row → Type 0
 SelectsColumns columns mine shown = (rows : List Row) × (map (drop 1) rows ≡ mine) × (shown ≡ map (selected_columns columns) rows)
 
 -- `SelectsUnderKey table index key columns trees shown`: `shown` has the values in `columns` of the
--- rows whose index entries begin with `key`, in the order of the index. `table` and `index` are the
--- numbers of a table's tree and of its index's tree in `trees`. Nothing is stated unless `IndexesRows`
--- holds for these trees.
+-- rows whose index entries begin with `key`. The rows have the order of the index. `table` and
+-- `index` are the numbers of a table's tree and of its index's tree in `trees`. Nothing is stated
+-- unless `IndexesRows` holds for these trees.
 abbrev pub SelectsUnderKey : ℕ → ℕ → Row → List ℕ → Trees → List Row → Type 0
 SelectsUnderKey table index key columns trees shown = (cs : List ℕ) (mine : List Row)
     → (IsShaped Table (trees table) → IsIndex plain (trees index) → IndexesRows cs key mine (trees table) (trees index)) → SelectsColumns columns mine shown
 
 -- `FindsFirstUnderKey table index key trees found`: `found` is the first row whose index entry
--- begins with `key`, or `None` if there is none. `table` and `index` are the numbers of a table's
--- tree and of its index's tree in `trees`. Nothing is stated unless `IndexesRows` holds for these trees.
+-- begins with `key`, or `None` if there is no such row. `table` and `index` are the numbers of a
+-- table's tree and of its index's tree in `trees`. Nothing is stated unless `IndexesRows` holds for
+-- these trees.
 abbrev pub FindsFirstUnderKey : ℕ → ℕ → Row → Trees → Option Row → Type 0
 FindsFirstUnderKey table index key trees found = (cs : List ℕ) (mine : List Row)
     → (IsShaped Table (trees table) → IsIndex plain (trees index) → IndexesRows cs key mine (trees table) (trees index)) → option_map (drop 1) found ≡ slice_get mine 0
@@ -96,20 +99,21 @@ abbrev pub IsLast : List Row → Option Row → Type 0
 IsLast rows None = rows ≡ []
 IsLast rows (Some row) = (front : List Row) × (rows ≡ front ++ row ∷ [])
 
--- `OnlyMovesCursors old new`: `old` and `new` are the views of a store before and after a call that
--- changed only cursors. The transaction of `old` was not broken.
+-- `OnlyMovesCursors old new`: `old` and `new` are the states of a store before and after a call
+-- that changed only cursors. The transaction of `old` was not broken by a failed call.
 abbrev pub OnlyMovesCursors : View → View → Type 0
 OnlyMovesCursors old new = (old.is_broken ≡ false) × (new ≡ record old { cursors = new.cursors })
 
--- `KeepsLastCommit old new`: `old` and `new` are the views of a store before and after a call. If `new`
--- is open, so is `old`, and both have the same last commit. The trees are then numbered in both or
--- in neither.
+-- `KeepsLastCommit old new`: `old` and `new` are the states of a store before and after a call. If
+-- the store is open in `new`, it is open in `old`, and both have the same last commit. The trees
+-- are then numbered (`HasTrees`) in both or in neither.
 abbrev pub KeepsLastCommit : View → View → Type 0
 KeepsLastCommit old new = IsTrue new.is_open → IsTrue old.is_open × (new.committed ≡ old.committed) × (new.is_numbered ≡ old.is_numbered)
 
 -- `OnlyReadsStore g old new`: `old` and `new` are a store before and after a call that only read
--- it. Unless `new` is broken, it shows the trees of `old`. A crash of `new` leaves only trees that
--- a crash of `old` may leave. `g` is the specification of the store.
+-- it. Unless `new` is broken by a failed call, it shows the trees of `old`. Both have the same last
+-- commit. A crash of `new` leaves only trees that a crash of `old` may leave. The first two facts
+-- are not stated if the disk has returned wrong data. `g` is the specification of the store.
 pub record OnlyReadsStore {S : Type 0} (g : Ghosts S) (old new : S) : Type 0 where
   pub clean : IsClean (g.view new) → IsClean (g.view old)
   pub schema : KeepsSchema (g.view old) (g.view new)
@@ -118,7 +122,8 @@ pub record OnlyReadsStore {S : Type 0} (g : Ghosts S) (old new : S) : Type 0 whe
   pub outcomes : (db : Trees) → g.recovers new db → g.recovers old db
 
 -- `ReadsUnbrokenStore g old new result`: `old` and `new` are a store before and after a call that
--- only read it, and returned `result`. On success, the transaction of `old` was not broken, and only
--- cursors moved, unless the disk has returned wrong data. `g` is the specification of the store.
+-- only read it, and returned `result`. If the call succeeded, the transaction of `old` was not
+-- broken by a failed call, and only cursors moved. This is not stated if the disk has returned
+-- wrong data. `g` is the specification of the store.
 abbrev pub ReadsUnbrokenStore : {S T E : Type 0} → Ghosts S → S → S → Result T E → Type 0
 ReadsUnbrokenStore g old new result = OnlyReadsStore g old new × (IsClean (g.view new) → OnOk result (OnlyMovesCursors (g.view old) (g.view new)))

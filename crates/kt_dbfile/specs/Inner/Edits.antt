@@ -19,33 +19,36 @@ use Rattle.kt_store.specs.StoreCalls.{StoreCall}
 use Rattle.kt_store.specs.Types.{Entry, Ghosts, Int, IsClean, Null, Row, Run, Trees, View}
 use Rattle.kt_store.specs.declared.store_fault.StoreFault.{StoreFault}
 
--- `ObeysSchema v schema`: in the view `v` of a store, the transaction is not broken, and the trees
--- list `schema` and obey it.
+-- `ObeysSchema v schema`: in the state `v` of a store, no failed call has broken the transaction,
+-- and the trees list `schema` and obey it.
 pub record ObeysSchema (v : View) (schema : Schema) : Type 0 where
   pub unbroken : v.is_broken ≡ false
   pub sound : IsSound schema v.trees
 
--- `IsSettledStore v schema`: a store with the view `v` shows its last commit, unless its
--- transaction is broken. If the store is open, the commit lists `schema` and obeys it.
+-- `IsSettledStore v schema`: in the state `v`, a store shows the trees of its last commit. This is
+-- not stated if the disk has returned wrong data, or if a failed call has broken the transaction.
+-- If the store is open, the trees of the last commit list `schema` and obey it.
 pub record IsSettledStore (v : View) (schema : Schema) : Type 0 where
   pub settled : IsClean v → v.is_broken ≡ false → v.trees ≡ v.committed
   pub sound : IsTrue v.is_open → IsSound schema v.committed
 
 module _ (schema : Schema) where
-  -- `PutsRows schema place gone rowids from sources old new`: `old` and `new` are the trees before
-  -- and after an edit of the table at the index `place` of `schema`. The table loses the rows with
-  -- the rowids `gone`, and gets a row for each of `sources`. A source is read from the column
-  -- `from` on. `rowids` decides whether a row without a rowid gets one. Foreign keys are enforced.
+  -- `PutsRows schema place gone rowids from sources old new`: an edit changed the trees from `old`
+  -- to `new`. It edited the table at the index `place` of `schema`: it removed the rows with the
+  -- rowids `gone`, and added a row for each of `sources`. The columns of a source before the index
+  -- `from` are skipped. `rowids` decides whether an added row without a rowid gets one. Foreign
+  -- keys are enforced. Nothing is stated if `schema` has no such table.
   abbrev pub PutsRows : ℕ → List ℤ → Rowids → ℕ → List Row → Trees → Trees → Type 0
   PutsRows place gone rowids from sources old new =
       (table : Table) → slice_get schema.tables place ≡ Some table → Writes schema Enforced old (edit_of old table gone rowids from sources) (Ok new)
 
--- `row_without_rowid row`: the values `row` after a NULL, which a rowid replaces when the row is written.
+-- `row_without_rowid row`: the values `row` after a NULL, which is replaced by a rowid when the row
+-- is written.
 abbrev pub row_without_rowid : Row → Row
 row_without_rowid row = Null ∷ row
 
--- `new_run_row total started`: the row of a new run without a rowid. The run selected `total`
--- cases, and began at the timestamp `started`.
+-- `new_run_row total started`: the row of a new, unfinished run for the table `runs`, with NULL in
+-- place of the rowid. The run has `total` selected cases, and began at the timestamp `started`.
 abbrev pub new_run_row : ℕ → ℕ → Row
 new_run_row total started = Null ∷ Null ∷ Int (pos started) ∷ Int (pos total) ∷ Int (pos 0) ∷ []
 
@@ -59,10 +62,12 @@ WritesEntryRows schema run' e old new =
     × PutsRows schema 3 [] Chosen 0 (map row_without_rowid (pair_rows run' e)) mid new)
 
 module _ {S : Type 0} (g : Ghosts S) (schema : Schema) where
-  -- `WritesRows g schema call old new result`: `call result` is a call of the store `old`, which
-  -- left the store `new`. The call wrote its rows or failed, and committed nothing. On success, the
-  -- trees obey `schema` and show the changed runs. The last commit is unchanged, and a crash leaves
-  -- only what it might leave before. `g` is the specification of the store.
+  -- `WritesRows g schema call old new result`: a call of the store `old` had the result `result`,
+  -- committed nothing, and left the store `new`. It wrote its rows or failed. `call result` is this
+  -- call. On success, the trees of `new` obey `schema` and represent the runs after the call. The
+  -- last commit is unchanged, and a crash leaves only what a crash of `old` may leave. Except for
+  -- the crash, nothing is stated if the disk has returned wrong data. `g` is the specification of
+  -- the store.
   pub record WritesRows {T : Type 0} (call : Result T StoreFault → StoreCall) (old new : S) (result : Result T StoreFault) : Type 0 where
     pub clean : IsClean (g.view new) → IsClean (g.view old)
     pub held : IsClean (g.view new) → KeepsLastCommit (g.view old) (g.view new)
@@ -73,9 +78,10 @@ module _ {S : Type 0} (g : Ghosts S) (schema : Schema) where
 
 module _ {S : Type 0} (g : Ghosts S) where
   -- `EndsTransaction g old new written result`: a call ended the transaction of the store `old`,
-  -- and left the store `new`. If `written`, the result of writing the rows, is a success, the rows
-  -- are committed. If `written` is an error, or if the commit fails, the transaction is rolled
-  -- back. `result` is the result of writing and committing. `g` is the specification of the store.
+  -- and left the store `new`. `written` is the result of writing the rows. If it is a success, the
+  -- rows are committed. If it is an error, or if the commit fails, the transaction is rolled back.
+  -- `result` is the result of writing and committing. The effect on the trees is not stated if the
+  -- disk has returned wrong data. `g` is the specification of the store.
   pub record EndsTransaction {T : Type 0} (old new : S) (written result : Result T StoreFault) : Type 0 where
     pub numbered : StaysNumbered (g.view old) (g.view new)
     pub value : IfOk result (λ value. written ≡ Ok value)

@@ -8,22 +8,23 @@ use Rattle.sqlite_schema.specs.Names.{column_named}
 use Rattle.sqlite_schema.specs.declared.schema.Table.{Table}
 use Rattle.kt_store.specs.Types.{Ghosts, IsClean, Run, Trees, View}
 
--- `HasRuns v runs`: a store with the view `v` shows the trees of a database with `runs`. Nothing is
--- stated if the store is broken, or if the disk has returned wrong data.
+-- `HasRuns v runs`: in the state `v`, a store shows the trees of a database of schema 2 with
+-- exactly `runs`. Nothing is stated if a failed call has broken the store, or if the disk has
+-- returned wrong data.
 abbrev pub HasRuns : View → List Run → Type 0
 HasRuns v runs = IsClean v → v.is_broken ≡ false → IsSchema2Of runs v.trees
 
 -- `HoldsForTrees g old new P`: `P` holds for the runs that the trees of the store `old` represent.
--- `new` is the store after a call. Nothing is stated if the disk has returned wrong data by then.
--- `g` is the specification of the store.
+-- `new` is the store after a call. Nothing is stated if the disk has returned wrong data up to
+-- `new`. `g` is the specification of the store.
 abbrev pub HoldsForTrees : {S : Type 0} → Ghosts S → S → S → (List Run → Type 0) → Type 0
 HoldsForTrees g old new P = (runs : List Run) → HasRuns (g.view old) runs → IsClean (g.view new) → P runs
 
 module _ {S : Type 0} (g : Ghosts S) where
-  -- `spec_over_trees g Has`: the specification of a results store over a store of trees. It
-  -- represents runs that are numbered from 1 if `Has` holds for its view and the runs. Unless the
-  -- disk has returned wrong data, the entries of each run ascend by position. `g` is the
-  -- specification of the store of trees.
+  -- `spec_over_trees g Has`: the specification of a results store over a store of B-trees. The
+  -- results store represents runs that are numbered from 1 if `Has` holds for the state of the
+  -- B-trees and these runs. Unless the disk has returned wrong data, the entries of each run ascend
+  -- by position. `g` is the specification of the store of B-trees.
   abbrev pub spec_over_trees : (View → List Run → Type 0) → store.Ghosts S
   spec_over_trees Has = record {
     answers = λ old _ new. StaysNumbered (g.view old) (g.view new);

@@ -24,8 +24,8 @@ use Rattle.kt_store.specs.declared.store_fault.StoreFault.{StoreFault}
 
 module _ {D : Type 0} {g : Ghosts D} (image : Image) (store : FileStore D g) where
   -- `OpensOver image store`: `store` was opened over the results file and its log, whose content
-  -- was `image`. If `image` has runs, `store` shows them unless it is broken, and a crash leaves
-  -- them.
+  -- was `image`. If `image` has runs, `store` shows these runs unless a failed call has broken it,
+  -- and a crash leaves these runs.
   pub record OpensOver : Type 0 where
     pub holds : (runs : List Run) → HoldsRuns image runs → (view store).is_broken ≡ false → IsSchema2Of runs (view store).trees
     pub leaves : (runs : List Run) → HoldsRuns image runs → (trees : Trees) → recovers store trees → IsSchema2Of runs trees
@@ -34,8 +34,8 @@ module _ {D : Type 0} {g : Ghosts D} (image : Image) (store : FileStore D g) whe
 abbrev pub HasOtherSchema : Trees → Type 0
 HasOtherSchema trees = (n : ℤ) × (n ≢ pos 2) × HasSchemaNumber n trees
 
--- `CachesPages pages options`: a store with `options` keeps at most `pages` read pages and 2,000
--- written pages in memory.
+-- `CachesPages pages options`: `options` limit the pages that a store keeps in memory. It keeps at
+-- most `pages` pages that it has read, and at most 2,000 pages that it has written.
 pub record CachesPages (pages : ℕ) (options : Options) : Type 0 where
   pub read : options.cache_pages ≡ pages
   pub written : options.spill_pages ≡ 2000
@@ -60,17 +60,18 @@ module _ {D : Type 0} (g : Ghosts D) (old left : Files D) where
 
 module _ {D : Type 0} {g : Ghosts D} (old new : Unopened D g) where
   -- `RecoversAsBefore old new`: `old` and `new` are an unopened store before and after a call. The
-  -- files of both recover to the same pages. Before the call, the disk had returned no wrong data.
+  -- files of both recover to the same pages. The disk had returned no wrong data up to `old`.
   pub record RecoversAsBefore : Type 0 where
     pub honest : IsTrue (state_of old).is_clean
     pub pages : PageMap
     pub found : Recovers (state_of old).page_size (image old) pages
     pub again : Recovers (state_of old).page_size (image new) pages
 
-  -- `ListsRuns old new`: `old` and `new` are an unopened store before and after it got the schema
-  -- in the schema list of its files. The files of both recover to the same pages, and these list
-  -- the tables of schema 2. If the files contain a database with runs, `new` has its schema, and
-  -- reads the pages as its trees.
+  -- `ListsRuns old new`: `old` and `new` are an unopened store before and after a call that read
+  -- the schema list of its files. The files of both recover to the same pages, and these list the
+  -- tables of schema 2. If the files of `old` contain a database with runs, `new` has the schema of
+  -- this database, and reads the pages as its trees. The disk had returned no wrong data up to
+  -- `old`.
   pub record ListsRuns : Type 0 where
     pub honest : IsTrue (state_of old).is_clean
     pub size : (state_of new).page_size ≡ (state_of old).page_size
@@ -81,24 +82,24 @@ module _ {D : Type 0} {g : Ghosts D} (old new : Unopened D g) where
     pub fits : (runs : List Run) (db : Trees) → HoldsAt (state_of old).page_size (image old) db → IsSchema2Of runs db
         → IsOurs (state_of old).page_size true (wanted_by new) pages × (db ≡ file_trees (state_of old).page_size (wanted_by new) pages)
 
--- `IsAttached g conn it`: the tables of the connection `conn` were attached as `results`, and `it`
--- is the store of `results`. It has their last commit, and a crash of `it` leaves only trees that a
--- crash of `results` may leave. Unless the disk has returned wrong data, the trees of `it` are
--- numbered. `g` is the specification of the store.
+-- `IsAttached g conn it`: `Results::attach` succeeded on the connection `conn` and led to a
+-- connection `results`. The store `it` has the last commit of `results`, and a crash of `it` leaves
+-- only trees that a crash of `results` may leave. Unless the disk has returned wrong data, the
+-- trees of `it` are numbered. `g` is the specification of the store.
 abbrev pub IsAttached : {S : Type 0} → StoreGhosts S → Held S → S → Type 0
 IsAttached g conn it = (results : Held _) × ((was : InitialDatabase) → Describes was (state g conn) → AttachSucceeds was (state g conn) (state g results))
     × ((runs : List Run) → StandsFor (state g results) runs → HasCommitted (g.view it) runs)
     × (IsClean (g.view it) → HasCleanDisk (state g results)) × ((trees : Trees) → g.recovers it trees → (state g results).may_leave trees)
     × (IsClean (g.view it) → IsTrue (g.view it).is_numbered)
 
--- `IsAttachedFiles conn it`: the tables of the connection `conn` over files were attached, and the
--- store `it` has the last commit of the results. It meets `Follows`.
+-- `IsAttachedFiles conn it`: `Results::attach` succeeded on the connection `conn` to files. The
+-- store `it` has the last commit of the connection after this call, as `Follows` states.
 abbrev pub IsAttachedFiles : {D : Type 0} {g : Ghosts D} → Held (FileStore D g) → FileStore D g → Type 0
 IsAttachedFiles conn it = (results : Held _) × ((was : InitialDatabase) → Describes was (file_state conn) → AttachSucceeds was (file_state conn) (file_state results)) × Follows results it
 
--- `IsConvertedFrom g held it`: `it` is the store of the connection `held`, after the end of the
--- connection. A crash of `it` leaves only trees that a crash of `held` may leave. Unless the disk
--- has returned wrong data, these are databases, and the trees of `it` are numbered. `g` is the
+-- `IsConvertedFrom g held it`: `it` is the store to which the connection `held` was converted. A
+-- crash of `it` leaves only trees that a crash of `held` may leave. Unless the disk has returned
+-- wrong data, these trees are databases, and the trees of `it` are numbered. `g` is the
 -- specification of the store.
 pub record IsConvertedFrom {S : Type 0} (g : StoreGhosts S) (held : Held S) (it : S) : Type 0 where
   pub earlier : IsClean (g.view it) → HasCleanDisk (state g held)
@@ -106,15 +107,15 @@ pub record IsConvertedFrom {S : Type 0} (g : StoreGhosts S) (held : Held S) (it 
   pub numbered : IsClean (g.view it) → IsTrue (g.view it).is_numbered
   pub sound : IsClean (g.view it) → AreDatabases (g.recovers it)
 
--- `FailsToAttach g conn fault it`: the tables of the connection `conn` were not attached, or the
--- attached results were not converted to a `RunsFile`. The error was `fault`, and `it` is the store
--- that remains. `g` is the specification of the store.
+-- `FailsToAttach g conn fault it`: `Results::attach` failed on the connection `conn`, or the
+-- resulting connection was not converted to a `RunsFile`. The error was `fault`, and `it` is the
+-- store that remains. `g` is the specification of the store.
 abbrev pub FailsToAttach : {S : Type 0} → StoreGhosts S → Held S → StoreFault → S → Type 0
 FailsToAttach g conn fault it = (held : Held _) × IsConvertedFrom g held it
     × (((was : InitialDatabase) → Describes was (state g conn) → AttachFails was (state g conn) (state g held) fault)
     ⊎ (((was : InitialDatabase) → Describes was (state g conn) → AttachSucceeds was (state g conn) (state g held)) × IsDatabaseFault fault))
 
--- `FailsToAttachFiles conn fault it`: `FailsToAttach` holds for the connection `conn` over files,
--- the error `fault` and the store `it`.
+-- `FailsToAttachFiles conn fault it`: `FailsToAttach` holds for the connection `conn` to files, the
+-- error `fault` and the store `it`.
 abbrev pub FailsToAttachFiles : {D : Type 0} {g : Ghosts D} → Held (FileStore D g) → StoreFault → FileStore D g → Type 0
 FailsToAttachFiles conn fault it = FailsToAttach over_files conn fault it
