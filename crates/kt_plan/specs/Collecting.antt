@@ -30,17 +30,18 @@ candidates_of program cases = map (candidate_of program) cases
 abbrev pub IsSelectable : List Filter → Program → Type 0
 IsSelectable filters program = (filters ≡ []) ⊎ ((one : Filter) × Contains filters one × MayMatch one program.path)
 
--- `ListsAtfCases config program replies cases`: `replies` is one call, which runs the ATF program
--- `program` for its list. `cases` are the program's test cases by this list. The program gets the
--- variables that the configuration `config` sets for its test suite.
+-- `ListsAtfCases config program replies cases`: `replies` is a list of one call, which runs the ATF
+-- program `program` so that it lists its cases. `cases` are the program's test cases by this list.
+-- The program gets the variables that the configuration `config` sets for its test suite.
 pub data ListsAtfCases (config : Values) (program : Program) : List Reply → List CaseDef → Type 0 where
   listed : (listing : Listing) (cases : List CaseDef) → AreCases program.props Atf (Some listing) cases
       → ListsAtfCases config program (Lists program (variables_for config program.suite) listing ∷ []) cases
 
--- `ListsProgramCases config filters program answers found`: `found` are the candidates of the program
--- `program`. `answers` are the calls for its list, and `config` is the configuration. An ATF
--- program lists its cases if there is no filter, or if one of `filters` may match a case of it.
--- Otherwise it has no cases here. A program with another interface has the case `main`.
+-- `ListsProgramCases config filters program answers found`: `found` are the candidates of the
+-- program `program`, and `answers` are the calls that list its cases. An ATF program is run to list
+-- its cases if there is no filter, or if one of `filters` may match a case of it. The run gets
+-- variables from the configuration `config`. Otherwise, an ATF program has no candidates and no
+-- calls. A program with another interface has the case `main`, without a call.
 pub data ListsProgramCases (config : Values) (filters : List Filter) (program : Program) : List Reply → List Candidate → Type 0 where
   listing : (answers : List Reply) (cases : List CaseDef) → program.interface ≡ Atf → IsSelectable filters program → ListsAtfCases config program answers cases
       → ListsProgramCases config filters program answers (candidates_of program cases)
@@ -49,16 +50,16 @@ pub data ListsProgramCases (config : Values) (filters : List Filter) (program : 
       → ListsProgramCases config filters program [] (candidates_of program cases)
 
 -- `ListsAllCases config filters programs answers found`: `found` are the candidates of the programs
--- `programs`, in order. `answers` are the calls for their lists, `config` is the configuration, and
--- `filters` are the filters of the command.
+-- `programs`, in order. `answers` are the calls that list the cases of the programs. `config` is
+-- the configuration, and `filters` are the filters of the command.
 pub data ListsAllCases (config : Values) (filters : List Filter) : List Program → List Reply → List Candidate → Type 0 where
   none : ListsAllCases config filters [] [] []
   one_and : (program : Program) (programs : List Program) (answers more : List Reply) (own others : List Candidate) → ListsProgramCases config filters program answers own
       → ListsAllCases config filters programs more others → ListsAllCases config filters (program ∷ programs) (answers ++ more) (own ++ others)
 
--- `IsAllListsPrefix config filters programs answers`: `answers` may be the calls for the lists of the
--- programs `programs`, in order, before an allocation failed. `config` is the configuration, and
--- `filters` are the filters of the command.
+-- `IsAllListsPrefix config filters programs answers`: `answers` may be the calls that list the
+-- cases of the programs `programs`, in order, before an allocation failed. `config` is the
+-- configuration, and `filters` are the filters of the command.
 pub data IsAllListsPrefix (config : Values) (filters : List Filter) : List Program → List Reply → Type 0 where
   no_further : (programs : List Program) → IsAllListsPrefix config filters programs []
   asks : (program : Program) (programs : List Program) (listing : Listing) (answers : List Reply) → program.interface ≡ Atf → IsSelectable filters program
@@ -66,8 +67,8 @@ pub data IsAllListsPrefix (config : Values) (filters : List Filter) : List Progr
   passes : (program : Program) (programs : List Program) (answers : List Reply) → (program.interface ≡ Atf → IsSelectable filters program → ⊥)
       → IsAllListsPrefix config filters programs answers → IsAllListsPrefix config filters (program ∷ programs) answers
 
--- `item_of candidate`: the item for the candidate `candidate`: the path of its program, and the
--- name of its case. Filters match items.
+-- `item_of candidate`: the item for the candidate `candidate`, which filters can match. It has the
+-- path of the candidate's program and the name of its case.
 abbrev pub item_of : Candidate → Item
 item_of candidate = record { path = candidate.path; case_name = candidate.case.name }
 
@@ -84,10 +85,10 @@ selection_of filters found = record {
   unmatched = unmatched_positions (map item_of found) filters;
 }
 
--- `Collects settings kyuafile asked answers result`: `result` has the cases that the settings
--- `settings` select from the tree of the Kyuafile `kyuafile`, or is the error that stops the
--- command. `asked` are the calls to the tree, and `answers` are the calls by which programs list
--- their cases.
+-- `Collects settings kyuafile asked answers result`: `result` is the result of a selection from the
+-- tree of the Kyuafile `kyuafile` with the settings `settings`. It has the selected cases, or is
+-- the error that stops the command. `asked` are the calls to the tree, and `answers` are the calls
+-- that list the cases of programs.
 pub data Collects (settings : Settings) (kyuafile : List ℕ) : List Asked → List Reply → Result CaseSelection SelectionError → Type 0 where
   unloaded : (asked : List Asked) (fault : SuiteFault) → Loads kyuafile asked (Err fault) → Collects settings kyuafile asked [] (Err (stop.Tree fault))
   too_many : (asked : List Asked) (answers : List Reply) (programs : List Program) (found : List Candidate) → Loads kyuafile asked (Ok programs)
@@ -97,9 +98,9 @@ pub data Collects (settings : Settings) (kyuafile : List ℕ) : List Asked → L
       → Collects settings kyuafile asked answers (Ok (selection_of settings.filters found))
 
 -- `IsCollectionPrefix settings kyuafile asked answers`: `asked` and `answers` may be the calls of a
--- selection before an allocation failed. They are calls to the tree, and then calls by which
--- programs list their cases. The selection has the settings `settings`, from the tree of the
--- Kyuafile `kyuafile`.
+-- selection before an allocation failed. `asked` are the calls to the tree of the Kyuafile
+-- `kyuafile`, and `answers` are the later calls that list the cases of programs. `settings` are the
+-- settings of the selection.
 pub data IsCollectionPrefix (settings : Settings) (kyuafile : List ℕ) : List Asked → List Reply → Type 0 where
   loading : (asked : List Asked) → IsLoadPrefix kyuafile asked → IsCollectionPrefix settings kyuafile asked []
   offering : (asked : List Asked) (answers : List Reply) (programs : List Program) → Loads kyuafile asked (Ok programs)

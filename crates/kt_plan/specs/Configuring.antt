@@ -18,28 +18,29 @@ use Rattle.kt_plan.specs.Reply.{Reply, ReadConfig}
 
 -- ---- arguments in order
 
--- `with_selection_error stop_for result`: the result `result`, with its error, if any, converted by
--- the function `stop_for`.
+-- `with_selection_error stop_for result`: `result`, where the function `stop_for` converts an error
+-- to the error of the command. A value is unchanged.
 abbrev pub with_selection_error : {A E : Type 0} → (E → SelectionError) → Result A E → Result A SelectionError
 with_selection_error stop_for (Ok meaning) = Ok meaning
 with_selection_error stop_for (Err fault) = Err (stop_for fault)
 
--- `cons_result first rest`: the value in `first`, followed by the values in `rest`. If `first` is
--- an error, the result is this error. Otherwise, if `rest` is an error, the result is the error in
--- `rest`.
+-- `cons_result first rest`: the list with the value in `first`, followed by the values in `rest`.
+-- If `first` is an error, the result is this error. Otherwise, if `rest` is an error, the result is
+-- the error in `rest`.
 abbrev pub cons_result : {A : Type 0} → Result A SelectionError → Result (List A) SelectionError → Result (List A) SelectionError
 cons_result (Err fault) rest = Err fault
 cons_result (Ok first) (Ok rest) = Ok (first ∷ rest)
 cons_result (Ok first) (Err fault) = Err fault
 
--- `results_of_each meaning words`: the values of the function `meaning` for the arguments `words`,
--- in order. If `meaning` has an error for an argument, the result is the first such error.
+-- `results_of_each meaning words`: the list of the values of the function `meaning` for the
+-- arguments `words`, in order. If `meaning` has an error for an argument, the result is the first
+-- such error.
 abbrev pub results_of_each : {A : Type 0} → (List ℕ → Result A SelectionError) → List (List ℕ) → Result (List A) SelectionError
 results_of_each meaning [] = Ok []
 results_of_each meaning (word ∷ words) = cons_result (meaning word) (results_of_each meaning words)
 
--- `values_after before result`: the values in `result` after the values `before`, or the error in
--- `result`.
+-- `values_after before result`: the list of the values `before`, followed by the values in
+-- `result`. If `result` is an error, the result is the same error.
 abbrev pub values_after : {A : Type 0} → List A → Result (List A) SelectionError → Result (List A) SelectionError
 values_after before (Ok more) = Ok (before ++ more)
 values_after before (Err fault) = Err fault
@@ -47,7 +48,8 @@ values_after before (Err fault) = Err fault
 -- ---- variables
 
 -- `argument_definition word`: the definition in `word`, an argument `NAME=VALUE` of `-v`, or the
--- error of this argument. Without an equals sign (61), the error is `BadValue`.
+-- error of this argument. If the argument lacks an equals sign (character 61), the error is
+-- `BadValue`.
 abbrev pub argument_definition : List ℕ → Result Definition SelectionError
 argument_definition word =
     with_selection_error (stop.Variable (before 61 word)) (option_map_or (definition_named (before 61 word)) (after 61 word) (Err BadValue))
@@ -59,7 +61,8 @@ argument_definitions words = results_of_each argument_definition words
 
 -- ---- the configuration
 
--- `IsReadFailure fault`: `fault`, an error of reading a file, is not a failed allocation.
+-- `IsReadFailure fault`: `fault`, an error of reading a file, is that the file is missing or can't
+-- be read. It is not a failed allocation.
 pub data IsReadFailure : ReadFault → Type 0 where
   missing : IsReadFailure Missing
   failed : IsReadFailure Failed
@@ -70,9 +73,9 @@ pub data IsConfiguration (bytes : List ℕ) : Result (List Definition) Selection
   refused : (fault : ConfigFault) → HasFault bytes fault → IsConfiguration bytes (Err (stop.Configuration fault))
   read : (stmts : List Stmt) (definitions : List Definition) → Spells bytes stmts → definitions_of_file stmts ≡ Ok definitions → IsConfiguration bytes (Ok definitions)
 
--- `ReadsConfig path replies meant`: `replies` is one call, which reads the configuration file at
--- `path`. `meant` has the definitions in the file, or is the error of the command. If `path` is
--- `None`, there are no definitions and no calls.
+-- `ReadsConfig path replies meant`: `replies` is a list of one call, which reads the configuration
+-- file at `path`. `meant` has the definitions in the file, or is the error of the command. If
+-- `path` is `None`, there are no calls and no definitions.
 pub data ReadsConfig : Option (List ℕ) → List Reply → Result (List Definition) SelectionError → Type 0 where
   none : ReadsConfig None [] (Ok [])
   unread : (path : List ℕ) (fault : ReadFault) → IsReadFailure fault → ReadsConfig (Some path) (ReadConfig path (Err fault) ∷ []) (Err stop.UnreadableConfiguration)
@@ -80,15 +83,16 @@ pub data ReadsConfig : Option (List ℕ) → List Reply → Result (List Definit
       → ReadsConfig (Some path) (ReadConfig path (Ok bytes) ∷ []) meant
 
 -- `Configures options answers meant`: `meant` has the definitions for a command with the options
--- `options`. The definitions in its configuration file, which the calls `answers` read, precede
--- those of `-v`. If one of them has an error, `meant` is the first error.
+-- `options`: those in its configuration file, and then those of `-v`. `answers` are the calls that
+-- read the file. If a definition has an error, `meant` is the first error.
 pub data Configures (options : CaseOptions) (answers : List Reply) : Result (List Definition) SelectionError → Type 0 where
   stopped : (fault : SelectionError) → ReadsConfig options.config answers (Err fault) → Configures options answers (Err fault)
   defined : (before : List Definition) → ReadsConfig options.config answers (Ok before) → Configures options answers (values_after before (argument_definitions options.variables))
 
 -- ---- filters
 
--- `filter_of word`: the filter in the argument `word`, or the error of this argument.
+-- `filter_of word`: the filter that the argument `word` represents, or the error of the command if
+-- the argument is not a filter.
 abbrev pub filter_of : List ℕ → Result Filter SelectionError
 filter_of word = with_selection_error (stop.Filter word) (filter_meaning word)
 
@@ -106,19 +110,22 @@ pub record IsFirstOverlap (words : List (List ℕ)) (filters : List Filter) (wor
   pub first : (before : ℕ) → before < position → overlap_fault filters before ≡ None
   pub named : slice_get words position ≡ Some word
 
--- `names_one_case filters`: there is exactly one filter in `filters`, and it names a test case.
+-- `names_one_case filters`: `true` if there is exactly one filter in `filters`, and it names a test
+-- case.
 abbrev pub names_one_case : List Filter → Bool
 names_one_case (filter ∷ []) = is_some filter.case_name
 names_one_case filters = false
 
--- `is_case_missing rule filters`: `rule` requires a single filter that names a test case, and
--- `filters` has no filter, more than one filter, or a filter that names no test case.
+-- `is_case_missing rule filters`: `true` if `rule` requires a single filter that names a test case,
+-- and `filters` doesn't meet `rule`. The list then has no filter, more than one filter, or a filter
+-- that names no test case.
 abbrev pub is_case_missing : FilterRule → List Filter → Bool
 is_case_missing AnyFilters filters = false
 is_case_missing OneCase filters = not (names_one_case filters)
 
 -- `Filters rule words result`: `result` has the filters that the arguments `words` represent, or is
--- the first error of these arguments. `rule` states which filters the command accepts.
+-- the first error. The arguments are parsed, then checked for an overlap, and then checked against
+-- `rule`, which states which filters the command accepts.
 pub data Filters (rule : FilterRule) (words : List (List ℕ)) : Result (List Filter) SelectionError → Type 0 where
   unparsed : (fault : SelectionError) → filters_of words ≡ Err fault → Filters rule words (Err fault)
   clash : (filters : List Filter) (word : List ℕ) (fault : FilterFault) → filters_of words ≡ Ok filters → IsFirstOverlap words filters word fault
@@ -131,8 +138,9 @@ pub data Filters (rule : FilterRule) (words : List (List ℕ)) : Result (List Fi
 -- ---- settings
 
 -- `ReadsSettings rule options answers result`: `result` has the settings of a command with the
--- options `options`, or is the first error in its configuration file, its arguments of `-v` and
--- its filters. `answers` are the calls to the host. `rule` states which filters the command accepts.
+-- options `options`, or is the first error. The configuration file is read first, then the
+-- arguments of `-v`, then the filters. `answers` are the calls to the host, which read the file.
+-- `rule` states which filters the command accepts.
 pub data ReadsSettings (rule : FilterRule) (options : CaseOptions) (answers : List Reply) : Result Settings SelectionError → Type 0 where
   unconfigured : (fault : SelectionError) → Configures options answers (Err fault) → ReadsSettings rule options answers (Err fault)
   unfiltered : (definitions : List Definition) (fault : SelectionError) → Configures options answers (Ok definitions) → Filters rule options.filters (Err fault)
@@ -140,8 +148,9 @@ pub data ReadsSettings (rule : FilterRule) (options : CaseOptions) (answers : Li
   settled : (definitions : List Definition) (settings : Settings) → Configures options answers (Ok definitions) → Holds settings.config definitions
       → Filters rule options.filters (Ok settings.filters) → ReadsSettings rule options answers (Ok settings)
 
--- `IsReadPrefix path replies`: `replies` may be the calls for the settings of a command before an
--- allocation failed. There is no call, or only the read of the configuration file at `path`.
+-- `IsReadPrefix path replies`: `replies` may be the calls that read the settings of a command
+-- before an allocation failed. There is no call, or only the read of the configuration file at
+-- `path`. If `path` is `None`, there is no call.
 pub data IsReadPrefix : Option (List ℕ) → List Reply → Type 0 where
   before_file : (path : Option (List ℕ)) → IsReadPrefix path []
   after_file : (path : List ℕ) (answer : Result (List ℕ) ReadFault) → IsReadPrefix (Some path) (ReadConfig path answer ∷ [])

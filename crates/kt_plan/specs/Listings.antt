@@ -8,9 +8,9 @@ use Rattle.kt_suite.specs.Faults.{fault_at}
 use Rattle.kt_suite.specs.Registered.{Outcome, Registered, Unfinished}
 
 -- `Loads kyuafile asked outcome`: `outcome` has the programs that the Kyuafile at the path
--- `kyuafile` registers, or is its error. `asked` are the calls to the tree. A path without a file
--- name, such as a path that ends in a slash, is unreadable. The error then has the path as it was
--- given, and no call is made.
+-- `kyuafile` registers, or is the first error. `asked` are the calls to the tree. A path without a
+-- file name, such as a path that ends in a slash, is unreadable. The error then has the path
+-- `kyuafile`, and no call is made.
 pub data Loads (kyuafile : List ℕ) : List Asked → Outcome → Type 0 where
   unnamed : is_empty (name_in kyuafile) ≡ true → Loads kyuafile [] (Err (fault_at kyuafile 0 Unreadable))
   named : (asked : List Asked) (outcome : Outcome) → is_empty (name_in kyuafile) ≡ false → Registered asked (name_in kyuafile) outcome → Loads kyuafile asked outcome

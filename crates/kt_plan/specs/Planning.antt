@@ -16,42 +16,46 @@ use Rattle.kt_plan.specs.Collecting.{variables_for}
 use Rattle.kt_plan.specs.WorldCalls.{IsCallPrefix}
 use Rattle.kt_plan.specs.Reply.{Reply, Finds, IsRoot, HasMemory, HasDisk}
 
--- `candidate_meta candidate`: the effective properties of the case `candidate`.
+-- `candidate_meta candidate`: the effective properties of the case `candidate`: each has the value
+-- that was last set, or its default.
 abbrev pub candidate_meta : Candidate → Meta
 candidate_meta candidate = effective candidate.case.props
 
--- `needs_of_kind need words`: the pairs of `need` with each of `words`. `words` are required files
--- or programs, and `need` is their kind.
+-- `needs_of_kind need words`: the pairs of `need` with each of `words`, in order. `words` are
+-- required files or programs, and `need` states whether they are files or programs.
 abbrev pub needs_of_kind : Need → List (List ℕ) → List (Need × List ℕ)
 needs_of_kind need words = map (λ word. (need, word)) words
 
--- `needs_of_kinds needs meta`: the required files or programs in the properties `meta`, each with
--- its kind. `needs` are the kinds, in order.
+-- `needs_of_kinds needs meta`: the required files and programs in the properties `meta`, each with
+-- its kind: file or program. Only the kinds in the list `needs` are included, in the order of
+-- `needs`.
 abbrev pub needs_of_kinds : List Need → Meta → List (Need × List ℕ)
 needs_of_kinds [] meta = []
 needs_of_kinds (need ∷ needs) meta = needs_of_kind need (needed need meta) ++ needs_of_kinds needs meta
 
 -- `case_needs fault meta`: the required files and programs of a case with the properties `meta`,
--- each with its kind. If its program's list can't be used, for the reason `fault`, there are none.
+-- each with its kind: file or program. There are none if `fault` has the reason why the list of its
+-- program can't be used.
 abbrev pub case_needs : Option Reason → Meta → List (Need × List ℕ)
 case_needs (Some reason) meta = []
 case_needs None meta = needs_of_kinds all_needs meta
 
 -- `needs_of_cases candidates`: the required files and programs of the cases `candidates`, in order,
--- each with its kind.
+-- each with its kind: file or program.
 abbrev pub needs_of_cases : List Candidate → List (Need × List ℕ)
 needs_of_cases [] = []
 needs_of_cases (candidate ∷ candidates) = case_needs candidate.case.fault (candidate_meta candidate) ++ needs_of_cases candidates
 
--- `ChecksNeeds needs answers`: the calls `answers` to the host check the required files and
--- programs `needs`, one call for each, in order.
+-- `ChecksNeeds needs answers`: the calls `answers` to the host check whether the required files and
+-- programs `needs` exist, with one call for each, in order. Each of `needs` has a kind, file or
+-- program, and a path or name.
 pub data ChecksNeeds : List (Need × List ℕ) → List Reply → Type 0 where
   nothing : ChecksNeeds [] []
   asked : (need : Need) (word : List ℕ) (needs : List (Need × List ℕ)) (answer : Bool) (answers : List Reply) → ChecksNeeds needs answers
       → ChecksNeeds ((need, word) ∷ needs) (Finds need word answer ∷ answers)
 
--- `finds need word reply`: the call `reply` to the host found the file or program `word`, whose
--- kind is `need`.
+-- `finds need word reply`: `true` if `reply`, a call to the host, found the file or program `word`.
+-- `need` states whether `word` is a file or a program.
 abbrev pub finds : Need → List ℕ → Reply → Bool
 finds need word (Finds other_need other answer) = is_same_need other_need other need word && answer
 finds need word other = false
@@ -67,8 +71,8 @@ pub record Surveys (candidates : List Candidate) (answers : List Reply) (host : 
   pub found : (need : Need) (word : List ℕ) → is_found need host word ≡ list_any (finds need word) looked
 
 -- `IsSurveyPrefix candidates answers`: `answers` may be the calls to the host before an allocation
--- failed. They read whether the user is root, the memory and the disk space, and then check for the
--- first files and programs that the cases `candidates` require.
+-- failed. They read whether the user is root, the memory and the disk space. They then check for
+-- the first files and programs that the cases `candidates` require, possibly none.
 pub record IsSurveyPrefix (candidates : List Candidate) (answers : List Reply) : Type 0 where
   pub root : Bool
   pub memory : Option ℕ
@@ -77,21 +81,24 @@ pub record IsSurveyPrefix (candidates : List Candidate) (answers : List Reply) :
   pub asked : answers ≡ IsRoot root ∷ HasMemory memory ∷ HasDisk disk ∷ looked
   pub first : IsCallPrefix (ChecksNeeds (needs_of_cases candidates)) looked
 
--- `is_atf interface`: the interface `interface` is ATF, the only one with cleanups.
+-- `is_atf interface`: `true` if the interface `interface` is ATF, the only interface whose cases
+-- may have cleanups.
 abbrev pub is_atf : Interface → Bool
 is_atf Atf = true
 is_atf other = false
 
--- `DecidesVerdict fault unmet decided`: `decided` is the verdict of a case that must not be started, or
--- `None` for another case. If its program's list can't be used, for the reason `fault`, the case is
--- broken. Otherwise, if a requirement is not met, for the reason `unmet`, the case is skipped.
+-- `DecidesVerdict fault unmet decided`: `decided` is the verdict of a case that must not be
+-- started, or `None` for another case. The case is broken if `fault` has the reason why the list of
+-- its program can't be used. Otherwise, it is skipped if `unmet` has the reason why a requirement
+-- is not met.
 abbrev pub DecidesVerdict : Option Reason → Option (List ℕ) → Option VerdictValue → Type 0
 DecidesVerdict (Some reason) unmet decided = decided ≡ Some (broken (reason_text reason))
 DecidesVerdict None unmet decided = decided ≡ option_map skipped unmet
 
 -- `IsJobOf config host position candidate job`: `job` is the job of the case `candidate`, at the
--- position `position` of a plan. `config` is the configuration, and `host` has the properties of
--- the host.
+-- position `position` of a plan. It has the names, the effective properties and the variables of
+-- the case, and a verdict if the case must not be started. `config` is the configuration, and
+-- `host` has the properties of the host.
 pub record IsJobOf (config : Values) (host : Host) (position : ℕ) (candidate : Candidate) (job : Job) : Type 0 where
   pub at : job.position ≡ position
   pub interface : job.interface ≡ candidate.interface

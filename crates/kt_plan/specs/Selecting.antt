@@ -7,9 +7,9 @@ use Rattle.kt_plan.specs.WorldCalls.{WorldCall, tree_calls, host_calls}
 use Rattle.kt_plan.specs.Reply.{Reply}
 
 -- `Selects rule options questions result`: a command with the options `options` selects its cases
--- by the calls `questions` to the world. `result` has the selected cases, or is the first error. The
--- configuration and the filters are read first, then the tree and the lists of programs. `rule`
--- states which filters the command accepts.
+-- by the calls `questions` to the world. `result` has the selected cases, or is the first error.
+-- The configuration and the filters are read first, then the Kyuafiles and the lists of the
+-- programs. `rule` states which filters the command accepts.
 pub data Selects (rule : FilterRule) (options : CaseOptions) : List WorldCall → Result CommandSelection SelectionError → Type 0 where
   unsettled : (answers : List Reply) (fault : SelectionError) → ReadsSettings rule options answers (Err fault) → Selects rule options (host_calls answers) (Err fault)
   uncollected : (answers : List Reply) (settings : Settings) (asked : List Asked) (lists : List Reply) (fault : SelectionError) → ReadsSettings rule options answers (Ok settings)
@@ -18,8 +18,9 @@ pub data Selects (rule : FilterRule) (options : CaseOptions) : List WorldCall �
       → Collects settings options.kyuafile asked lists (Ok chosen)
       → Selects rule options (host_calls answers ++ (tree_calls asked ++ host_calls lists)) (Ok (record { settings = settings; chosen = chosen }))
 
--- `IsSelectionPrefix rule options questions`: `questions` are the calls of a selection with the
--- options `options` before an allocation failed. `rule` states which filters the command accepts.
+-- `IsSelectionPrefix rule options questions`: `questions` may be the calls that a selection with
+-- the options `options` made to the world before an allocation failed. `rule` states which filters
+-- the command accepts.
 pub data IsSelectionPrefix (rule : FilterRule) (options : CaseOptions) : List WorldCall → Type 0 where
   settling : (answers : List Reply) → IsReadPrefix options.config answers → IsSelectionPrefix rule options (host_calls answers)
   collecting : (answers : List Reply) (settings : Settings) (asked : List Asked) (lists : List Reply) → ReadsSettings rule options answers (Ok settings)

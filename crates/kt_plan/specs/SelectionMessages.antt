@@ -10,7 +10,8 @@ use Rattle.kt_plan.specs.declared.selection_error.SelectionError.TheVariants as 
 abbrev pub quoted_message : List ℕ → List ℕ → List ℕ → List ℕ
 quoted_message what word fault = what ++ codes " '" ++ word ++ codes "': " ++ fault
 
--- `selection_error_message stop`: the message of `stop`, an error that stops a command.
+-- `selection_error_message stop`: the message of `stop`, an error that stops a command, in
+-- characters and without a newline.
 abbrev pub selection_error_message : SelectionError → List ℕ
 selection_error_message (stop.NoMemory refusal) = codes "out of memory"
 selection_error_message stop.UnreadableConfiguration = codes "configuration: could not be read"

@@ -59,7 +59,7 @@ impl SelectionError {
     }
 }
 
-/// Writes `configuration: MESSAGE` to `out`. MESSAGE is that of `fault`, an error in the
+/// Writes `configuration: MESSAGE` to `out`. MESSAGE is the message of `fault`, an error in the
 /// configuration file.
 fn print_configuration<W: Write>(fault: ConfigFault, out: &mut W) -> Result<(), OutputFault>
     ensures { Emits (W.contents out.old) (W.contents out.new) (is_err result)

@@ -4,12 +4,13 @@ use kt_metadata::Need;
 use kt_sched::Launcher;
 use kt_suite::{Program, ReadFault, Tree};
 
-/// An interface to the files, the case lists, the launcher and the host that a command uses.
+/// An interface to the files of a test suite, the case lists, the launcher and the host that a
+/// command uses.
 pub trait World: Tree + Launcher {
     ghost use Rattle.std.specs.Prelude.{ℕ, ◌≡◌};
     ghost use Rattle.kt_plan.specs.Common.{Role, IsIdle, IsMoment, Asked, Reply, ReadConfig, Lists, Finds, IsRoot, HasMemory, HasDisk, Now};
 
-    /// `replies old reply new`: the call `reply` to the host, with its result, may take the world
+    /// `replies old reply new`: `reply`, a call to the host with its result, may lead the world
     /// from the state `old` to the state `new`.
     ghost replies: { Self → Reply → Self → Type 0 };
 
@@ -28,7 +29,7 @@ pub trait World: Tree + Launcher {
         ensures { replies self.old (ReadConfig path.now result) self.new };
 
     /// Lists the test cases of the ATF program `program` by running the program. Returns the cause
-    /// if it can't be started, and otherwise its outcome and output.
+    /// if the program can't be started, and otherwise its outcome and output.
     ///
     /// `variables` are the variables of the program's test suite. No other test program may be
     /// running.
@@ -42,46 +43,47 @@ pub trait World: Tree + Launcher {
     fn file_exists(&mut self, path: &Text) -> bool
         ensures { replies self.old (Finds Need.File path.now result) self.new };
 
-    /// Returns `true` if there is an executable regular file for the program `name`.
+    /// Returns `true` if the program `name` exists as an executable regular file.
     ///
-    /// `name` is an absolute path, or a name in a directory of `PATH`. The property
-    /// `required_programs` (kyuafile(5)) requires such programs.
+    /// `name` is an absolute path, or a name that is searched for in the directories of `PATH`. The
+    /// property `required_programs` (kyuafile(5)) requires such programs.
     fn program_found(&mut self, name: &Text) -> bool
         ensures { replies self.old (Finds Need.Program name.now result) self.new };
 
-    /// Returns `true` if the user of the runner is root.
+    /// Returns `true` if the user who runs the command is root.
     fn is_root(&mut self) -> bool
         ensures { replies self.old (IsRoot result) self.new };
 
-    /// Returns the physical memory in bytes, or `None` if the host can't report it.
+    /// Returns the physical memory of the computer in bytes, or `None` if the host can't report it.
     fn memory(&mut self) -> Option<u64>
         ensures { replies self.old (HasMemory result) self.new };
 
-    /// Returns the free disk space for work directories in bytes, or `None` if the host can't
-    /// report it.
+    /// Returns the free disk space for the work directories of cases in bytes, or `None` if the
+    /// host can't report it.
     fn disk(&mut self) -> Option<u64>
         ensures { replies self.old (HasDisk result) self.new };
 
-    /// Returns the current time, in milliseconds since 1970 in UTC.
+    /// Returns the current time, in milliseconds since 1970-01-01 UTC.
     ///
-    /// The result is 0 if the clock fails or its time is out of range.
+    /// The result is 0 if the clock fails, or if its time is before 1970 or after the year 9999.
     fn now(&mut self) -> u64
         ensures reply { replies self.old (Now result) self.new }
         ensures moment { IsMoment result };
 
-    /// No call to the tree changes the running children.
+    /// A call to the files of the test suite doesn't change which children are running.
     ghost tree_keeps_running: { (s t : Self) (q : Asked) → Self.asks s q t → (k : ℕ) (r : Role)
         → Self.running t k r ≡ Self.running s k r };
 
-    /// No call to the tree changes the pending cleanups.
+    /// A call to the files of the test suite doesn't change which cases wait for the start of their
+    /// cleanup.
     ghost tree_keeps_pending: { (s t : Self) (q : Asked) → Self.asks s q t → (k : ℕ)
         → Self.pending t k ≡ Self.pending s k };
 
-    /// No call to the host changes the running children.
+    /// A call to the host doesn't change which children are running.
     ghost host_keeps_running: { (s t : Self) (q : Reply) → Self.replies s q t → (k : ℕ) (r : Role)
         → Self.running t k r ≡ Self.running s k r };
 
-    /// No call to the host changes the pending cleanups.
+    /// A call to the host doesn't change which cases wait for the start of their cleanup.
     ghost host_keeps_pending: { (s t : Self) (q : Reply) → Self.replies s q t → (k : ℕ)
         → Self.pending t k ≡ Self.pending s k };
 }

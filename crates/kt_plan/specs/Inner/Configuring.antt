@@ -15,30 +15,30 @@ config_read_error Missing = stop.UnreadableConfiguration
 config_read_error Failed = stop.UnreadableConfiguration
 config_read_error (Memory refusal) = stop.NoMemory refusal
 
--- `HasValuesOf outcome meant`: the configuration in `outcome` has the values that the definitions in
--- `meant` set, or `outcome` and `meant` are the same error.
+-- `HasValuesOf outcome meant`: the configuration in `outcome` has the values that the definitions
+-- in `meant` set, or both arguments are the same error.
 abbrev pub HasValuesOf : Result Values SelectionError → Result (List Definition) SelectionError → Type 0
 HasValuesOf (Ok config) (Ok definitions) = Holds config definitions
 HasValuesOf (Ok config) (Err fault) = ⊥
 HasValuesOf (Err found) (Ok definitions) = ⊥
 HasValuesOf (Err found) (Err fault) = found ≡ fault
 
--- `HasConfiguration Means outcome`: `Means` is true of some definitions or of an error. `outcome`
--- has the values that these definitions set, or is this error.
+-- `HasConfiguration Means outcome`: `Means` is true of some list of definitions or of some error.
+-- `outcome` is a configuration with the values that these definitions set, or is this error.
 pub record HasConfiguration (Means : Result (List Definition) SelectionError → Type 0) (outcome : Result Values SelectionError) : Type 0 where
   pub meant : Result (List Definition) SelectionError
   pub means : Means meant
   pub gives : HasValuesOf outcome meant
 
--- `AppendsDefinitions config outcome meant`: `outcome` is the configuration `config` after the
--- definitions in `meant` were appended to its definitions. If `meant` is an error, `outcome` is the
--- same error.
+-- `AppendsDefinitions config outcome meant`: `outcome` is a configuration with the definitions of
+-- the configuration `config`, followed by the definitions in `meant`. If `meant` is an error,
+-- `outcome` is the same error.
 abbrev pub AppendsDefinitions : Values → Result Values SelectionError → Result (List Definition) SelectionError → Type 0
 AppendsDefinitions config outcome meant = (before : List Definition) → Holds config before → HasValuesOf outcome (values_after before meant)
 
--- `AppendsDefinition config outcome meant`: `outcome` is the configuration `config` after the
--- definition in `meant` was appended to its definitions. If `meant` is an error, `outcome` is the
--- same error.
+-- `AppendsDefinition config outcome meant`: `outcome` is a configuration with the definitions of
+-- the configuration `config`, followed by the definition in `meant`. If `meant` is an error,
+-- `outcome` is the same error.
 abbrev pub AppendsDefinition : Values → Result Values SelectionError → Result Definition SelectionError → Type 0
 AppendsDefinition config outcome meant = AppendsDefinitions config outcome (cons_result meant (Ok []))
 
@@ -48,16 +48,16 @@ abbrev pub config_or_error : Values → Option SelectionError → Result Values 
 config_or_error config None = Ok config
 config_or_error config (Some fault) = Err fault
 
--- `position_in fault`: the index, in the list of filters, of the filter that the error `fault` is
--- about. It is 0 if `fault` has no index.
+-- `position_in fault`: the index of the filter that the error `fault` is about, in the command's
+-- list of filters. It is 0 if `fault` has no index.
 abbrev pub position_in : FilterFault → ℕ
 position_in (Repeated position) = position
 position_in (NotDisjoint position) = position
 position_in other = 0
 
--- `FindsOverlap words filters found`: `found` is the error of the first filter in `filters` that
--- may match the same case as an earlier filter. It is `None` if there is no such filter. `words`
--- are the arguments of the filters.
+-- `FindsOverlap words filters found`: `found` is the error of the command for the first filter in
+-- `filters` that may match the same case as an earlier filter. It is `None` if there is no such
+-- filter. `words` are the arguments that the filters were parsed from.
 pub data FindsOverlap (words : List (List ℕ)) (filters : List Filter) : Option SelectionError → Type 0 where
   apart : IsDisjoint filters → FindsOverlap words filters None
   shared : (word : List ℕ) (fault : FilterFault) → IsFirstOverlap words filters word fault → FindsOverlap words filters (Some (stop.Filter word fault))

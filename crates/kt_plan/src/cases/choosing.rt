@@ -7,7 +7,7 @@ use kt_base::{Items, NoMemory};
 use kt_suite::{Filter, Item, SelectFault, select};
 use std::alloc::Global;
 
-/// Creates an item for each of `candidates`, in order, for the selection by filters.
+/// Creates an item for each of `candidates`, in order. The filters select items.
 ///
 /// An item has copies of the path of the candidate's program and of the name of its case.
 fn create_items(alloc: Global, candidates: &[Candidate]) -> Result<Vec<Item>, NoMemory>
@@ -22,11 +22,11 @@ fn create_items(alloc: Global, candidates: &[Candidate]) -> Result<Vec<Item>, No
     Ok(items)
 }
 
-/// Appends `candidate` to `cases` if the candidate is selected.
+/// Appends `candidate` to `cases` if `place`, its index in the list of all candidates, is in
+/// `places`.
 ///
-/// `place` is the index of the candidate in the list of all candidates. `places` are the ascending
-/// indexes of the selected candidates, without those before `place`. Returns `places` without
-/// `place`.
+/// `places` are the ascending indexes of the selected candidates, from `place` on. Returns `places`
+/// without `place`.
 fn push_if_selected<'a>(
     cases: &mut Items<Candidate>,
     candidate: Candidate,
@@ -68,8 +68,8 @@ fn retain_selected(
     Ok(cases)
 }
 
-/// Selects the cases of `found` that one of `filters` matches, or all cases if there are no
-/// filters.
+/// Selects the cases of `found` that at least one of `filters` matches, or all cases if there are
+/// no filters. Also returns the indexes of the filters that match no case.
 ///
 /// # Errors
 ///

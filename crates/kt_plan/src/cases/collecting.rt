@@ -12,7 +12,8 @@ use kt_base::{Items, NoMemory, Text};
 use kt_suite::{Program, SuiteCause, SuiteFault, Tree, load, split_path};
 use std::alloc::Global;
 
-/// Creates the `SuiteFault` for the failed allocation `refusal`. It has no file and no line.
+/// Creates the `SuiteFault` for the failed allocation `refusal`. Its path is empty, and its line is
+/// 0.
 fn create_memory_fault(alloc: Global, refusal: NoMemory) -> SuiteFault
     ensures { result ≡ no_memory refusal }
 {
@@ -23,9 +24,10 @@ fn create_memory_fault(alloc: Global, refusal: NoMemory) -> SuiteFault
     }
 }
 
-/// Creates the `SuiteFault` with the cause `cause` in the Kyuafile `file`, without a line.
+/// Creates the `SuiteFault` with the cause `cause` in the Kyuafile `file`. Its line is 0, since the
+/// error has no line.
 ///
-/// If the allocation for a copy of `file` fails, returns the `SuiteFault` of that failure.
+/// If the allocation for a copy of `file` fails, returns the `SuiteFault` for that failure.
 fn create_file_fault(alloc: Global, file: &Text, cause: SuiteCause) -> SuiteFault
     ensures { IsFaultAt file.now 0 cause result }
 {
@@ -67,8 +69,8 @@ pub fn load_programs<T: Tree>(
     load(alloc, tree, &root)
 }
 
-/// Converts `fault`, an error of the Kyuafiles, to the error of the command: `NoMemory` for a
-/// failed allocation, and otherwise `Tree`.
+/// Converts `fault`, an error of the Kyuafiles, to the error of the command. The result is
+/// `NoMemory` for a failed allocation, and otherwise `Tree`.
 fn tree_error(fault: SuiteFault) -> SelectionError
     ensures { ((refusal : OutOfMemory) × (result ≡ stop.NoMemory refusal)
         × (fault.cause ≡ SuiteCause.NoMemory refusal))

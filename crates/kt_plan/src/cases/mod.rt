@@ -10,7 +10,7 @@ use kt_base::{Interface, Items, Text};
 
 /// A test case that a command may select, with the data of its program.
 pub struct Candidate {
-    /// The interface of the test program.
+    /// The interface of the test program: ATF, TAP or plain.
     pub interface: Interface,
     /// The path of the test program, relative to the root Kyuafile's directory.
     pub path: Text,

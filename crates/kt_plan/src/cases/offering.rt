@@ -8,12 +8,12 @@ use kt_base::{Interface, Items, NoMemory, Text};
 use kt_suite::{Filter, Program};
 use std::alloc::Global;
 
-/// Returns the cases of the program `program`. An ATF program is run with the variables of its
-/// suite, so that it lists its cases.
+/// Returns the cases of the program `program`. An ATF program is run with the variables of its test
+/// suite, and lists its cases.
 ///
-/// If the list can't be used, returns one case that represents the list and has the error. If there
-/// are filters, and none may match a case of an ATF program, the program is not run, and no cases
-/// are returned.
+/// If this list can't be used, returns one case that represents the list and has the error. If
+/// there are filters and none may match a case of an ATF program, the program is not run and no
+/// cases are returned.
 fn list_program_cases<W: World>(
     alloc: Global,
     settings: &Settings,
@@ -45,7 +45,8 @@ fn list_program_cases<W: World>(
     }
 }
 
-/// Appends the cases of a program, with copies of its path and its suite.
+/// Appends a candidate for each of `cases` to `found`, with copies of the path and the test suite
+/// of `program`.
 fn add_candidates(
     program: &Program,
     cases: Items<CaseDef>,
@@ -68,8 +69,9 @@ fn add_candidates(
 
 /// Returns the cases of the programs `programs`, in the order of the programs.
 ///
-/// An ATF program is run for its list, while no other program is running. If there are filters, and
-/// none may match a case of an ATF program, the program is not run, and its cases are not returned.
+/// An ATF program is run to list its cases, while no other program is running. If there are filters
+/// and none may match a case of an ATF program, the program is not run and its cases are not
+/// returned.
 ///
 /// # Errors
 ///

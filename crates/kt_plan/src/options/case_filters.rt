@@ -23,8 +23,8 @@ fn filter_of(alloc: Global, word: &Text) -> Result<Result<Filter, SelectionError
 
 /// Parses the arguments `words` as filters, in order.
 ///
-/// The inner result is the error of the first argument that is not a filter, if any. The outer
-/// result is an error if an allocation fails.
+/// The inner result has the filters, or the error of the first argument that is not a filter. The
+/// outer result is an error only if an allocation fails.
 fn parse_filters(
     alloc: Global,
     words: &[Text],
@@ -41,8 +41,8 @@ fn parse_filters(
     Ok(Ok(filters))
 }
 
-/// Returns the index, in the list of filters, of the filter that `fault` is about. Returns 0 if
-/// `fault` has no index.
+/// Returns the index of the filter that `fault` is about, in the command's list of filters. Returns
+/// 0 if `fault` has no index.
 fn position_of(fault: FilterFault) -> usize
     ensures { result ≡ position_in fault }
 {
@@ -79,8 +79,8 @@ fn names_one_case(filters: &[Filter]) -> bool
     }
 }
 
-/// Returns `true` if `rule` requires a single filter that names a case, and `filters` has no
-/// filter, more than one filter, or a filter that names no case.
+/// Returns `true` if `rule` requires a single filter that names a case, and `filters` doesn't meet
+/// `rule`. The list then has no filter, more than one filter, or a filter that names no case.
 fn is_case_missing(rule: FilterRule, filters: &[Filter]) -> bool
     ensures { result ≡ is_case_missing rule filters.now }
 {

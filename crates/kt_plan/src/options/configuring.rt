@@ -9,7 +9,8 @@ use kt_config::{Config, ConfigFault};
 use kt_suite::ReadFault;
 use std::alloc::Global;
 
-/// Returns a copy of the variables that `config` sets for the test suite `suite`, possibly none.
+/// Returns a copy of the variables that `config` sets for the test suite `suite`, or an empty list
+/// if it sets none.
 ///
 /// # Errors
 ///
@@ -25,8 +26,8 @@ pub fn variables_for(alloc: Global, config: &Config, suite: &Text) -> Result<Var
 
 /// Sets the variable `name` of the configuration `config` to `value`.
 ///
-/// Returns the command's error, with the name, if the configuration rejects the variable. Otherwise
-/// returns `None`.
+/// Returns `None` on success. If the configuration rejects the variable, returns the error of the
+/// command, with the name. Fails if an allocation fails.
 fn set(config: &mut Config, name: Text, value: &Text) -> Result<Option<SelectionError>, NoMemory>
     ensures { IfOk result (λ stop. AppendsDefinition config.old (config_or_error config.new stop)
         (with_selection_error (SelectionError.Variable name) (definition_named name value.now))) }
@@ -38,10 +39,11 @@ fn set(config: &mut Config, name: Text, value: &Text) -> Result<Option<Selection
     }
 }
 
-/// Sets the variable of `word`, an argument `NAME=VALUE` of `-v`, in the configuration `config`.
+/// Sets the variable that `word`, an argument `NAME=VALUE` of `-v`, names in the configuration
+/// `config`.
 ///
-/// Returns the command's error if the argument lacks a `=` or the configuration rejects the
-/// variable. Otherwise returns `None`.
+/// Returns `None` on success. If the argument lacks a `=` or the configuration rejects the
+/// variable, returns the error of the command. Fails if an allocation fails.
 fn set_argument(config: &mut Config, word: &Text) -> Result<Option<SelectionError>, NoMemory>
     ensures { IfOk result (λ stop.
         AppendsDefinition config.old (config_or_error config.new stop) (argument_definition
@@ -97,8 +99,8 @@ fn read_config<W: World>(
     }
 }
 
-/// Reads and parses the configuration file of the options `options`. Returns an empty configuration
-/// if they name no file.
+/// Reads and parses the configuration file that `options` name. Returns an empty configuration if
+/// `options` name no file.
 ///
 /// The errors are those of [`read_config`].
 fn read_given_config<W: World>(
@@ -116,11 +118,11 @@ fn read_given_config<W: World>(
     }
 }
 
-/// Sets the variables of `words`, the arguments of `-v`, in order. Returns the changed
-/// configuration.
+/// Sets the variables of `words`, the arguments `NAME=VALUE` of `-v`, in the configuration
+/// `config`, in order.
 ///
-/// The inner result is the error of the first argument that has an error, if any. The outer result
-/// is an error if an allocation fails.
+/// The inner result is the changed configuration, or the error of the first argument that has an
+/// error. The outer result is an error only if an allocation fails.
 fn set_arguments(config: Config, words: &[Text]) -> Result<Result<Config, SelectionError>, NoMemory>
     ensures { IfOk result (λ outcome. AppendsDefinitions config outcome (argument_definitions
         words.now)) }

@@ -6,8 +6,8 @@ use kt_base::{NoMemory, Text};
 use kt_metadata::{Host, Need};
 use std::alloc::Global;
 
-/// Returns `true` if the required file or program `word` exists on the host. `need` is the kind of
-/// `word`.
+/// Returns `true` if the file or program `word`, which a case requires, exists on the host. `need`
+/// states whether `word` is a file or a program.
 fn is_found<W: World>(need: Need, word: &Text, world: &mut W) -> bool
     ensures { W.replies world.old (Finds need word.now result) world.new }
 {
@@ -17,9 +17,9 @@ fn is_found<W: World>(need: Need, word: &Text, world: &mut W) -> bool
     }
 }
 
-/// Records the required file or program `word` in `host` if it exists.
+/// Records the required file or program `word` in `host` if it exists on the computer.
 ///
-/// `need` is the kind of `word`.
+/// `need` states whether `word` is a file or a program. Fails if an allocation fails.
 fn probe_need<W: World>(
     need: Need,
     word: &Text,
@@ -37,9 +37,10 @@ fn probe_need<W: World>(
     Ok(())
 }
 
-/// Records each of the required files or programs `words` in `host` if it exists.
+/// Records each of the required files or programs `words` in `host` if it exists on the computer.
 ///
-/// Checks them in order. `need` is the kind of `words`.
+/// Checks them in order. `need` states whether `words` are files or programs. Fails if an
+/// allocation fails.
 fn probe_needs<W: World>(
     need: Need,
     words: &[Text],
@@ -57,10 +58,10 @@ fn probe_needs<W: World>(
     Ok(())
 }
 
-/// Returns the kinds of requirements that must be checked for the case `candidate`: files and
-/// programs.
+/// Returns the kinds of requirements that must be checked on the computer for the case `candidate`:
+/// files and programs.
 ///
-/// Returns no kinds if the list of the case's program has an error.
+/// Returns no kinds if the program's list of cases has an error. Allocates nothing.
 fn needs_to_check(candidate: &Candidate) -> &'static [Need]
     ensures { needs_of_kinds result.now (candidate_meta candidate.now)
         ≡ case_needs candidate.now.case.fault (candidate_meta candidate.now) }
@@ -71,9 +72,10 @@ fn needs_to_check(candidate: &Candidate) -> &'static [Need]
     }
 }
 
-/// Records each required file and program of the case `candidate` in `host` if it exists.
+/// Records each required file and program of the case `candidate` in `host` if it exists on the
+/// computer.
 ///
-/// Checks all files first, and then all programs.
+/// Checks all files first, and then all programs. Fails if an allocation fails.
 fn probe_case_needs<W: World>(
     candidate: &Candidate,
     world: &mut W,
@@ -94,9 +96,10 @@ fn probe_case_needs<W: World>(
     Ok(())
 }
 
-/// Records each required file and program of the cases `cases` in `host` if it exists.
+/// Records each required file and program of the cases `cases` in `host` if it exists on the
+/// computer.
 ///
-/// Checks them in the order of the cases.
+/// Checks them in the order of the cases. Fails if an allocation fails.
 fn probe_all_needs<W: World>(
     cases: &[Candidate],
     world: &mut W,
@@ -118,9 +121,9 @@ fn probe_all_needs<W: World>(
 /// The properties are: whether the user is root, the memory, the disk space, and the required files
 /// and programs.
 ///
-/// The user, the memory and the disk space are read even if no case requires them. Cases whose list
-/// has an error require nothing. A file or a program that several cases require is checked for each
-/// case. If the results differ, the file or the program counts as found.
+/// The user, the memory and the disk space are read even if no case requires them. A case that
+/// represents a list with an error requires nothing. A file or a program that several cases require
+/// is checked for each case. If the results differ, the file or the program counts as found.
 ///
 /// # Errors
 ///

@@ -40,9 +40,9 @@ fn declares_cleanup(interface: Interface, meta: &Meta) -> bool
 /// Returns the verdict of the case `candidate` if the case must not be started, and otherwise
 /// `None`.
 ///
-/// The case is broken if the list of its program has an error. Otherwise, it is skipped if a
-/// requirement is not met. `meta` are its effective properties. `config` and `host` have the values
-/// that its requirements are compared with.
+/// The case is broken if its program's list of cases has an error. Otherwise, it is skipped if a
+/// requirement is not met. `meta` are the effective properties of the case. Its requirements are
+/// compared with the values in `config` and `host`.
 fn decided(
     alloc: Global,
     candidate: &Candidate,
@@ -75,8 +75,8 @@ fn copy_names(candidate: &Candidate) -> Result<(Text, Text), NoMemory>
 /// Creates the job of the case `candidate` from its variables, properties and verdict.
 ///
 /// `position` is the position of the job in its plan. `vars` are the variables of the case's test
-/// suite, and `meta` are its effective properties. `decided` is its verdict if it must not be
-/// started.
+/// suite, and `meta` are the effective properties of the case. `decided` is the verdict of the case
+/// if it must not be started.
 fn build_job(
     position: u32,
     candidate: &Candidate,
@@ -109,7 +109,9 @@ fn build_job(
 
 /// Creates the job of the case `candidate`, with a verdict if the case must not be started.
 ///
-/// `vars` are the variables that `config` sets for the case's test suite.
+/// `position` is the position of the job in its plan. `vars` are the variables that `config` sets
+/// for the case's test suite. The requirements of the case are compared with the values in `config`
+/// and `host`.
 ///
 /// Separate for the prover: the cost of a body grows with the square of its calls.
 fn plan_job(
@@ -131,10 +133,10 @@ fn plan_job(
 /// Creates the plan of the cases `cases`: one job for each case, in order. There must be at most
 /// 100,000 cases.
 ///
-/// A case is broken, and is not started, if the list of its program has an error. Otherwise, a case
-/// with an unmet requirement is skipped. The host is not checked again during the run. So a file
-/// that one case creates does not meet a requirement of another case. Adjacent cases of one test
-/// suite share one reference-counted copy of its variables.
+/// A case is broken, and is not started, if its program's list of cases has an error. Otherwise, a
+/// case with an unmet requirement is skipped. The host is not checked again during the run. So a
+/// file that one case creates does not meet a requirement of another case. Adjacent cases of one
+/// test suite share one reference-counted copy of its variables.
 ///
 /// # Errors
 ///
@@ -164,8 +166,8 @@ pub fn make_plan(
 /// Reads the properties of the host that the cases `cases` may require, and creates the plan of the
 /// cases. The plan has one job for each case, in order. There must be at most 100,000 cases.
 ///
-/// A case is broken, and is not started, if the list of its program has an error. Otherwise, a case
-/// with an unmet requirement is skipped.
+/// A case is broken, and is not started, if its program's list of cases has an error. Otherwise, a
+/// case with an unmet requirement is skipped.
 ///
 /// # Errors
 ///

@@ -3,7 +3,8 @@ use kt_base::{NoMemory, Text, Variables};
 use kt_config::Config;
 use std::alloc::Global;
 
-/// The variables of a test suite, in one reference-counted copy that the jobs of its cases share.
+/// The variables of a test suite, in one reference-counted copy that the jobs of the suite's cases
+/// share.
 #[derive(Drop)]
 pub struct SharedVariables {
     /// The name of the test suite.
@@ -33,9 +34,10 @@ impl SharedVariables {
         })
     }
 
-    /// Returns the shared variables of `suite`, the test suite of the next case.
+    /// Returns the shared variables of `suite`, the test suite of the next case of a plan.
     ///
-    /// Returns `self` if it belongs to this test suite. Otherwise, creates new ones.
+    /// Returns `self` if it has the variables of this test suite. Otherwise, creates shared
+    /// variables for `suite`.
     ///
     /// # Errors
     ///
