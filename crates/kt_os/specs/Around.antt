@@ -1,4 +1,4 @@
--- The working directory and the environment of a process, by the results of the system.
+-- The working directory and the environment variables of a process, as the system returns them.
 use Rattle.std.specs.Prelude.{◌≡◌, ℕ, Bool, false, List, take, Option, Some, None, Result, Ok, Err, bytes_eq, chars, codes, ⊤}
 use Rattle.std.specs.Str.{IsUtf8}
 use Rattle.std.specs.declared.env.FillError.{FillError}
@@ -26,9 +26,10 @@ IsVariable (Ok count) room (Ok None) = IsUtf8 (take count room) → ⊥
 IsVariable (Err error) room (Ok value) = value ≡ None
 IsVariable answer room (Err refusal) = ⊤
 
--- `IsVariableValue value`: `value` is the value of an environment variable for some result of the
--- system and some content of the buffer. Nothing ties them to the call that the process made, since
--- the library has no relation for the environment.
+-- `IsVariableValue value`: `value` is the value of an environment variable. It follows from some
+-- result of the system's call, and some content of the buffer to which the system wrote the value.
+-- Nothing ties this result and this content to the call that the process made, since the library
+-- has no relation for the environment.
 abbrev pub IsVariableValue : Option (List ℕ) → Type 0
 IsVariableValue value = (answer : Result ℕ FillError) × (room : List ℕ) × IsVariable answer room (Ok value)
 

@@ -16,14 +16,14 @@ abbrev pub IsFullRead : ℕ → Result FileRead OsFault → Type 0
 IsFullRead limit (Ok (Part bytes true)) = length bytes ≡ limit
 IsFullRead limit answer = Unit {0}
 
--- `IsMissingByError answer`: if a read with the result `answer` found no file, there is an error of
+-- `IsMissingByError answer`: if a read with the result `answer` found no file, some I/O error has
 -- the kind `NotFound`. Nothing ties this error to the calls of the system.
 abbrev pub IsMissingByError : Result FileRead OsFault → Type 0
 IsMissingByError (Ok Missing) = (error : Error) × (error_kind error ≡ NotFound)
 IsMissingByError answer = Unit {0}
 
 -- `IsHostRead limit answer`: a read with the result `answer` returns at most `limit` bytes, and
--- exactly `limit` bytes if more follow in the file. For the result `Missing`, there is an error of
+-- exactly `limit` bytes if more follow in the file. If the result is `Missing`, some I/O error has
 -- the kind `NotFound`. Nothing ties this error to the calls of the system.
 abbrev pub IsHostRead : ℕ → Result FileRead OsFault → Type 0
 IsHostRead limit answer = IsReadWithin limit answer × IsFullRead limit answer × IsMissingByError answer
@@ -39,7 +39,7 @@ IsReadOf limit xs (Ok (Part bytes false)) = (bytes ≡ xs) × (length xs ≤ lim
 
 -- `ConsumesAtMost limit left rest`: a read consumes at most `limit` bytes of a file. `left` and
 -- `rest` are the remaining bytes of the file before and after the read. If `left` is unknown
--- (`None`), nothing is specified. If it is known, `rest` is known, too.
+-- (`None`), nothing is specified. If `left` is known, `rest` is known, too.
 abbrev pub ConsumesAtMost : ℕ → Option (List ℕ) → Option (List ℕ) → Type 0
 ConsumesAtMost limit left rest = IfSome left (λ xs. IsSomeAnd rest (λ ys. length xs ≤ length ys + limit))
 
@@ -71,10 +71,10 @@ ReportsEnd child old answer new IsLast =
     × IsLast child status × (new child ≡ None) × OthersStay child old new
 
 -- `HostPolls child old answer new IsLast late`: a poll of `child` may return `answer`, and the
--- states of the children go from `old` to `new`. A child is reported as running only if it has a
--- process. No end of that process was found, unless `late` is `Some true`: then some child was
--- polled late. A failed poll may remove the child. `IsLast` is true of the child and status of the
--- last reported end.
+-- states of the children go from `old` to `new`. Only a child with a process is reported as
+-- running. If the end of this process is known, `late`, the result of the last check for late
+-- children, must be `Some true`. A failed poll may remove the child. `IsLast` is true of the child
+-- and status of the last reported end.
 abbrev pub HostPolls : Child → (Child → ProcessState) → Result Polled OsFault → (Child → ProcessState) → (Child → ExitStatus → Type 0) → Option Bool → Type 0
 HostPolls child old (Ok Running) new IsLast late = IsSome (old child) × (late ≢ Some true → old child ≡ Some None) × AllStay old new
 HostPolls child old (Err fault) new IsLast late = (Proceeds (old child) (new child) ⊎ (new child ≡ None)) × OthersStay child old new
@@ -82,9 +82,10 @@ HostPolls child old answer new IsLast late = ReportsEnd child old answer new IsL
 
 -- `HostLeads old call new IsLast late`: `call` may lead the children from the states `old` to
 -- `new`. `IsLast` is true of the child and status of the last reported end. `late` is the result of
--- the last check for late children. After an output file is opened for a child, or its start
--- failed, it has no process. Only a child with a process is killed, and a pause may find ends.
--- Times are not specified, nor is the success of other calls.
+-- the last check for late children. A child has a process after its start succeeded. It has no
+-- process after an output file is opened for it, or after its start failed. Only a child with a
+-- process is killed. A pause may find ends. A read has a result that `IsHostRead` allows. The
+-- relation specifies no times, and it does not require that a call succeeds.
 abbrev pub HostLeads : (Child → ProcessState) → Call → (Child → ProcessState) → (Child → ExitStatus → Type 0) → Option Bool → Type 0
 HostLeads old (OpenOutput child path answer) new IsLast late = (new child ≡ None) × OthersStay child old new
 HostLeads old (Spawn child program words env dir (Ok done)) new IsLast late = IsSome (new child) × OthersStay child old new

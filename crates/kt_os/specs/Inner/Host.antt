@@ -60,14 +60,16 @@ pub record IsCommandOf {A : Type 0} (path : List ℕ) (words : List (List ℕ)) 
 abbrev pub SeeksTo : ℕ → Option ℕ → Option ℕ → Type 0
 SeeksTo from old new = 0 < from → IfSome old (λ position. new ≡ Some from)
 
--- `IsEarly limit answers millis`: a `Running` response after `answers` others is too early,
--- `millis` milliseconds after the start. Of the 100 responses for each second of the timeout
--- `limit`, the first half may come at any speed. The others are spread over the timeout.
+-- `IsEarly limit answers millis`: a `Running` response of a child is too early, `millis`
+-- milliseconds after its start and after `answers` earlier responses. The timeout of `limit`
+-- seconds allows 100 responses for each second. The first half of them may come at any speed, and
+-- the others are spread over the timeout.
 abbrev pub IsEarly : ℕ → ℕ → ℕ → Type 0
 IsEarly limit answers millis = 1000 * limit + millis < 20 * (answers + 1)
 
--- `IsInFirstHalf limit answers`: after `answers` `Running` responses, the next one is in the first
--- half of the responses of the timeout `limit`. There are 100 responses for each second of `limit`.
+-- `IsInFirstHalf limit answers`: after `answers` `Running` responses, the next response is in the
+-- first half of those that a timeout of `limit` seconds allows. It allows 100 responses for each
+-- second.
 abbrev pub IsInFirstHalf : ℕ → ℕ → Type 0
 IsInFirstHalf limit answers = answers + 1 ≤ 50 * limit
 
@@ -81,14 +83,15 @@ check_interval_micros children since =
 
 -- `next_slice children pauses micros`: the length of the next slice of a pause for `children`
 -- children, in microseconds. `micros` microseconds of the pause have passed, and `pauses` pauses
--- since a child last ended. The length is `check_interval_micros` for at most eight children. It is
--- at least 3 microseconds for each child after the eighth, counted up to 512 children. It is at
--- most the rest of the pause of 10,000 microseconds.
+-- since a child last ended. The length is the greater of two times: `check_interval_micros` for at
+-- most eight children, and 3 microseconds for each child after the eighth, counted up to 512
+-- children. It is cut to the rest of the pause of 10,000 microseconds.
 abbrev pub next_slice : ℕ → ℕ → ℕ → ℕ
 next_slice children pauses micros =
     min (max (check_interval_micros (min children 8) (10000 * pauses + micros)) (3 * (min children 512 - 8))) (10000 - micros)
 
--- `MayBeRunning late stand`: a child in the state `stand` may be reported as running: it has a
--- process. Unless some child is polled late (`late`), no end of that process was found.
+-- `MayBeRunning late stand`: a child in the state `stand` may be reported as running. It has a
+-- process, whose end may be known only if `late` is true. `late` is true if some child is polled
+-- late.
 abbrev pub MayBeRunning : Bool → ProcessState → Type 0
 MayBeRunning late stand = IsSome stand × (late ≡ false → stand ≡ Some None)

@@ -49,7 +49,8 @@ pub(crate) fn is_stderr_next<P: OpenProcess + Drop>(children: &Children<P>, chil
 /// Stores an opened output file of a child.
 ///
 /// The file is for standard error if the child has only the file for standard output. Otherwise, it
-/// is for the standard output of a new child, whose timeout is `limit` seconds.
+/// is the file for the standard output of a new child, which replaces an earlier child of the same
+/// name. The timeout of the new child is `limit` seconds.
 pub(crate) fn keep_output<P: OpenProcess + Drop, C: Clock>(
     children: &mut Children<P>,
     child: Child,
@@ -130,7 +131,7 @@ pub(crate) fn kill<P: OpenProcess + Drop, C: Clock>(
     }
 }
 
-/// Checks the children at the index `from` of the map and later, and returns `true` if one has
+/// Checks the children at the index `from` and at later indexes, and returns `true` if one has
 /// ended.
 ///
 /// An end that an earlier check found does not count. The search stops at the first new end.
@@ -150,10 +151,10 @@ fn detect_new_end<P: OpenProcess + Drop>(children: &mut Children<P>, from: usize
 /// Waits until a child has ended, for at most one pause of nominally 10 milliseconds. Returns
 /// `true` if an end was found.
 ///
-/// `pauses` is the number of pauses since the end of a child was last found. A pause has slices, in
-/// which the removal of the directories in `removals` continues. The newest children are checked
-/// after each slice, and all children at longer intervals. No check follows the last slice, since
-/// each child is polled next.
+/// `pauses` is the number of pauses since the end of a child was last found. The pause consists of
+/// slices, in which the removal of the directories in `removals` continues. The eight newest
+/// children are checked after each slice, and all children at longer intervals. No check follows
+/// the last slice, since the caller polls each child next.
 pub(crate) fn await_end<P: OpenProcess + Drop, R: Files + Clock + AllocGlobal>(
     children: &mut Children<P>,
     removals: &mut Option<Removals>,

@@ -126,8 +126,8 @@ fn set_up_command(command: &mut Command, asked: ProgramStart<'_>) -> Result<(), 
     Ok(())
 }
 
-/// Spawns a command. The contract requires that the command matches the request `_asked`, except
-/// for its streams.
+/// Spawns a command. The contract requires that the command matches the request `_asked`. The
+/// standard streams are not part of the request.
 ///
 /// Separate for the prover: std's `spawn` has no contract that a clause could cite.
 fn spawn_command<R: Processes>(

@@ -6,7 +6,7 @@ use kt_base::Bytes;
 use std::alloc::Global;
 use std::io::Read;
 
-/// The greatest size of one read, in bytes.
+/// The greatest number of bytes that one call of `read` requests from a file.
 const READ_PIECE_BYTES: usize = 8_192;
 
 /// Reads at most `limit` bytes of a file, from its current position, and returns them. Returns

@@ -12,8 +12,8 @@ use std::{process, thread};
 /// response can no longer make the timeout expire early.
 const MAX_POLL_SLEEPS: u32 = 20;
 
-/// The timeout by which the polls of a killed child are timed, in seconds. It has 500 `Running`
-/// responses.
+/// The timeout of a child after its kill, in seconds. It determines the times of the polls, and
+/// allows 500 `Running` responses.
 const KILLED_LIMIT_SECONDS: u64 = 5;
 
 /// A child of the host. It exists from the creation of its first output file until its end is
@@ -156,8 +156,9 @@ impl<P: OpenProcess + Drop> HostChild<P> {
 
     /// Returns `true` if the next poll reports the child as running without a check of its process.
     ///
-    /// This needs `late`, which is `true` if some child is polled late. It also needs that the next
-    /// `Running` response is in the first half of the timeout's responses.
+    /// Three conditions must hold. `late` is `true`: some child is polled late. The child has a
+    /// process whose end was not found. The next `Running` response is in the first half of those
+    /// that the timeout allows.
     fn is_assumed_running(&self, late: bool) -> bool
         ensures runs { IsTrue result → IsSome (process_state self.now) }
         ensures late { IsTrue result → IsTrue late }
@@ -203,7 +204,8 @@ impl<P: OpenProcess + Drop> HostChild<P> {
         Ok(status)
     }
 
-    /// Kills the child. The polls after the kill are timed like those of a timeout of 5 seconds.
+    /// Kills the child. The polls after the kill are timed as for a child with a timeout of 5
+    /// seconds.
     ///
     /// Fails if the child was not started or the system can't kill it.
     pub(crate) fn kill<C: Clock>(&mut self, clock: &C) -> Result<(), OsFault>

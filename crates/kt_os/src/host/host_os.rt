@@ -23,20 +23,21 @@ const TURNS_PER_LATE_CHECK: u32 = 8;
 /// An `Os` of the host, with the processes, files and clocks of the standard library.
 ///
 /// A pause ends when a child has ended, or after 10 milliseconds. While a child is polled late, a
-/// pause returns at once. If a `Running` response would be too early, the poll sleeps first. The
-/// first directory that is created is the root of all others. A long removal continues in pauses
-/// and in later removals.
+/// pause returns at once. If a `Running` response would make the timeout expire early, the poll
+/// sleeps first. The first directory that is created is the root of all others. A long removal
+/// continues in pauses and in later removals.
 ///
 /// An end is reported only for a child with a process, by the wait status of that process. The
-/// environment of a child is the runner's environment with the changes of its plan. A read begins
-/// at its position in the file, and ends at its limit or at its first error.
+/// environment of a child is the runner's environment with the changes of an `EnvPlan`. A read
+/// begins at its position in the file, and ends at its limit or at its first error.
 #[derive(Drop)]
 pub struct HostOs<R: Processes, B> {
     /// The runtime handle, which gives access to processes, files and clocks.
     rt: R,
     /// The work that the program does while children run. It advances at each start and each pause.
     background: B,
-    /// The removals of directories, or `None` before the driver's root directory is created.
+    /// The directories that wait for their removal, or `None` before the driver's root directory is
+    /// created.
     removals: Option<Removals>,
     /// The facts that decide the modes of later directories and files: the owner of the driver's
     /// root directory, and the effect of the umask.

@@ -110,9 +110,9 @@ fn create_root_dir<R: Files>(rt: &R, path: &str) -> io::Result<Rights> {
 /// Creates the queue directory `place`, to which removals move other directories, with the mode
 /// 0700.
 ///
-/// `rights` has the facts about the driver's root directory. They are also the result, unless the
-/// user root owns that directory. Then `narrow` of the result is `true` if the umask removes a
-/// permission of the mode 0755, or if that is unknown.
+/// `rights` has the facts about the driver's root directory. If the user root does not own that
+/// directory, the result is `rights`. If the user root owns it, `narrow` of the result reports the
+/// umask: it is `true` if the umask removes a permission of the mode 0755, or if that is unknown.
 fn create_queue_dir<R: Files>(rt: &R, place: &str, rights: Rights) -> io::Result<Rights> {
     if !rights.of_root {
         create_dir_of_mode(rt, place, PRIVATE_MODE, rights.narrow)?;
@@ -141,8 +141,8 @@ fn queue_path(alloc: Global, root: &Text) -> Result<Text, NoMemory>
 /// Creates the driver's root directory `path` and a queue directory in it, to which removals move
 /// directories.
 ///
-/// Returns an empty queue, and the facts that decide the modes of later directories and files.
-/// Fails if one of the directories can't be created, or if an allocation fails.
+/// Returns an empty queue of removals, and the facts that decide the modes of later directories and
+/// files. Fails if one of the directories can't be created, or if an allocation fails.
 pub(crate) fn create_root<R: Files + AllocGlobal>(
     rt: &R,
     path: &Text,

@@ -7,7 +7,8 @@ ghost use Rattle.kt_os.specs.Inner.Host.{IsEarly, IsInFirstHalf, next_slice, che
 use std::rt::Clock;
 use std::time::Instant;
 
-/// The greatest length of a pause between two turns of polls, in microseconds.
+/// The greatest length of a pause between two turns, in microseconds. In a turn, each running child
+/// is polled once.
 pub(crate) const PAUSE_MICROS: u64 = 10_000;
 
 /// Returns the interval at which `children` children are checked for an end, in microseconds.
@@ -59,8 +60,8 @@ pub(crate) fn is_due(children: usize, pauses: u32, micros: u64, unlooked: u64) -
     unlooked >= check_interval_micros(children, PAUSE_MICROS * u64::from(pauses) + micros)
 }
 
-/// The planned time between two `Running` responses in the second half of a timeout's responses, in
-/// milliseconds. A poll that would return such a response earlier sleeps first.
+/// The planned time between two `Running` responses in the second half of those that a timeout
+/// allows, in milliseconds. A poll that would return such a response earlier sleeps first.
 const RESPONSE_INTERVAL_MILLIS: u128 = 20;
 
 /// A measure of the speed at which a child is polled: its start time, its timeout and the number of
@@ -70,7 +71,7 @@ pub(crate) struct Pace {
     /// The time from which the polls are counted, or `None` if the clock failed. It is the time of
     /// the child's creation, of its start or of its kill. Without it, no response is early or late.
     started: Option<Instant>,
-    /// The timeout in seconds. Each second has 100 `Running` responses.
+    /// The timeout of the child, in seconds. It allows 100 `Running` responses for each second.
     pub(crate) limit: u64,
     /// The number of `Running` responses since the time in `started`.
     answers: u64,
@@ -110,8 +111,8 @@ impl Pace {
         u128::from(self.answers) < u128::from(self.limit) * 100 && due < millis
     }
 
-    /// Returns `true` if the next `Running` response belongs to the first half of the timeout's
-    /// responses.
+    /// Returns `true` if the next `Running` response is in the first half of those that the timeout
+    /// allows.
     pub(crate) fn is_in_first_half(&self) -> bool
         ensures { IsTrue result ↔ IsInFirstHalf self.now.limit self.now.answers }
     {
@@ -135,7 +136,8 @@ impl Pace {
     }
 
     /// Returns `true` if a `Running` response now would make the timeout expire early. A response
-    /// of the first half is never early, so the clock is not read for it.
+    /// in the first half of those that the timeout allows is never early, so the clock is not read
+    /// for it.
     pub(crate) fn is_early<C: Clock>(&self, clock: &C) -> bool
         ensures { IsTrue result → (now : Moment) × IsSomeAnd self.now.started (λ start.
             IsEarly self.now.limit self.now.answers

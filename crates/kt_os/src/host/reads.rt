@@ -19,8 +19,8 @@ use std::{fs, io};
 ///
 /// # Errors
 ///
-/// - `Failed`: a read fails, or an allocation for the bytes fails.
-/// - `Memory`: the read of the byte after the limit reports that memory ran out.
+/// - `Failed`: a read fails, or an allocation fails.
+/// - `Memory`: the read of the one byte after the limit fails with the error kind `OutOfMemory`.
 pub fn read_and_peek<F: Read>(alloc: Global, file: &mut F, limit: u64) -> Result<FileRead, OsFault>
     ensures within { IsHostRead limit result }
     ensures opened { IsNotMissing result }

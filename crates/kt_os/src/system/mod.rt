@@ -12,7 +12,8 @@ use thiserror::Error;
 /// Errors returned by the methods of [`Os`]. No command prints them.
 #[derive(Clone, Copy, Debug, Error)]
 pub enum OsFault {
-    /// The call failed for a reason other than a failed allocation. The reason is not recorded.
+    /// The call failed for a reason that is not recorded. Some calls return this error for a failed
+    /// allocation, too.
     #[error("system call failed")]
     Failed,
     /// An allocation of the call failed.

@@ -97,8 +97,8 @@ pub trait Os {
     ///
     /// # Errors
     ///
-    /// - `Failed`: the file exists and can't be read.
-    /// - `Memory`: an allocation fails.
+    /// - `Failed`: the file can't be opened or read. Some failed allocations have this error, too.
+    /// - `Memory`: another allocation fails.
     fn read_file(&mut self, path: &Text, limit: u64) -> Result<FileRead, OsFault>
         ensures asked { leads self.old (ReadFile path.now limit result) self.new }
         ensures within { IsReadWithin limit result };
@@ -108,8 +108,8 @@ pub trait Os {
     ///
     /// # Errors
     ///
-    /// - `Failed`: the file exists and can't be read.
-    /// - `Memory`: an allocation fails.
+    /// - `Failed`: the file can't be opened or read. Some failed allocations have this error, too.
+    /// - `Memory`: another allocation fails.
     fn read_part(&mut self, path: &Text, from: u64, limit: u64) -> Result<FileRead, OsFault>
         ensures asked { leads self.old (ReadPart path.now from limit result) self.new }
         ensures within { IsReadWithin limit result };
