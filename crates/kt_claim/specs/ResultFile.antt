@@ -20,8 +20,8 @@ limit = 65536
 abbrev pub IsReason : List ℕ → Type 0
 IsReason reason = (0 < length reason) × (list_any is_newline reason ≡ false)
 
--- `IsNumber digits`: `digits` are one decimal digit or more, and their number is less than 256. It
--- is an exit status or a signal.
+-- `IsNumber digits`: `digits` are one decimal digit or more, and spell a number less than 256. The
+-- number is an exit status or a signal.
 abbrev pub IsNumber : List ℕ → Type 0
 IsNumber digits = (0 < length digits) × (list_all is_digit digits ≡ true) × (number digits < 256)
 
@@ -110,9 +110,9 @@ after_number rest = if has_bracket rest then drop 1 (after_digits rest) else res
 abbrev pub has_reason : List ℕ → Bool
 has_reason rest = starts_with nat_eq rest (codes ": ") && nat_lt 2 (length rest)
 
--- `line_has_fault w rest fault`: the error `fault` applies to a line of the keyword `w` and the
--- bytes `rest` after it. The result has a meaning only if no earlier error of `fault_order`
--- applies.
+-- `line_has_fault w rest fault`: the error `fault` applies to a line that consists of `w` and the
+-- bytes `rest`. `w` are the letters from a to z and underscores at the start of the line. The
+-- result has a meaning only if no earlier error of `fault_order` applies.
 abbrev pub line_has_fault : List ℕ → List ℕ → ClaimFault → Bool
 line_has_fault w rest UnknownWord = not (is_known w)
 line_has_fault w rest BadNumber = has_bracket rest && not (takes_number w && has_number rest)

@@ -6,7 +6,7 @@ use Rattle.kt_claim.specs.Inner.LineStates.{LineState, with_held_cr}
 use Rattle.kt_claim.specs.Inner.TapReading.{HasLines}
 use Rattle.kt_claim.specs.declared.tally.Tally.{Tally}
 
--- `TapReaderState`: the state of a reader of a TAP stream, as callers see it. It has the counts of
+-- `TapReaderState`: the state of a reader of a TAP stream, as callers see it. It has the tally of
 -- the complete lines, the state of the open line, and the number of bytes read. `too_long` is true
 -- if the stream is too long, and `failed` if an allocation failed.
 pub record TapReaderState : Type 0 where
@@ -17,7 +17,7 @@ pub record TapReaderState : Type 0 where
   pub failed : Bool
 
 -- `RepresentsStream too_long reader fed`: `reader` is the state of a reader of a TAP stream that
--- read the bytes `fed`. If `too_long` is false, `reader` has the number of these bytes, the counts
+-- read the bytes `fed`. If `too_long` is false, `reader` has the number of these bytes, the tally
 -- of their complete lines and their open line. There are at most `limit` bytes. If `too_long` is
 -- true, `fed` has more than `limit` bytes.
 abbrev pub RepresentsStream : Bool → TapReaderState → List ℕ → Type 0
@@ -28,9 +28,9 @@ RepresentsStream false reader fed = (reader.length ≡ length fed) × (length fe
 abbrev pub HasStream : TapReaderState → List ℕ → Type 0
 HasStream reader fed = (reader.failed ≡ false) × RepresentsStream reader.too_long reader fed
 
--- `KeepsOnlyReason line fed`: after the bytes `fed`, the state `line` of the open line keeps no
--- bytes, or only the reason of a plan of no tests. This is the reason in the open line, as far as
--- it was read.
+-- `KeepsOnlyReason line fed`: after the bytes `fed` of a TAP stream, the state `line` of the open
+-- line keeps no bytes, or only bytes of a reason. In the second case, the open line is a plan of no
+-- tests. The kept bytes are its reason, as far as it was read.
 abbrev pub KeepsOnlyReason : LineState → List ℕ → Type 0
 KeepsOnlyReason line fed =
     (line.kept ≡ [])

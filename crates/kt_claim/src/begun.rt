@@ -48,11 +48,11 @@ pub enum Opening {
 pub enum LineProgress {
     /// No byte was read.
     Nothing,
-    /// A part of an opening was read. The second field has its missing bytes, which are none after
-    /// the whole opening.
+    /// The first bytes of an opening were read, or the whole opening. The second field has the
+    /// bytes of the opening that were not read.
     PartialOpening(Opening, &'static [u8]),
-    /// `1..` was read, and digits of a plan. The number is the value of the digits, or `None`
-    /// without digits.
+    /// `1..` was read, and then the digits of a plan, if any. The number is the value of the
+    /// digits, or `None` if there are no digits.
     Digits(Option<u64>),
     /// `1..`, the digits of a plan, and one or more blanks were read. The number is the value of
     /// the digits.
@@ -64,7 +64,7 @@ pub enum LineProgress {
     Hash(DirectivePurpose),
     /// A hash, blanks if any, and the first letters of a directive for this purpose were read.
     DirectiveLetters(DirectivePurpose, DirectivePrefix),
-    /// The keyword `SKIP` of a directive was read, with more bytes up to the next blank if any.
+    /// The keyword `SKIP` of a directive was read, and possibly more bytes, but no blank after it.
     Word,
     /// Blanks after the keyword of a skip directive were read.
     Gap,

@@ -158,11 +158,12 @@ fn feed_bytes(
     Ok(state)
 }
 
-/// Reads a carriage return of a TAP line that was held back, if `held` is `true`, and returns the
-/// new state.
+/// Reads a carriage return that an earlier call held back, if `held` is `true`, and returns the new
+/// state of the TAP line.
 ///
-/// `begun` is the state of the line before the carriage return, and `kept` has its kept bytes. The
-/// caller has more bytes of the line, so the carriage return is not at its end.
+/// `begun` is the state of the line before the carriage return, and `kept` has the kept bytes of
+/// the line. The caller has more bytes of the line, so the carriage return is not at the end of the
+/// line.
 fn feed_carriage_return(
     begun: LineProgress,
     kept: &mut Vec<u8>,

@@ -93,7 +93,8 @@ fn next_letter(letters: DirectivePrefix) -> u8
     }
 }
 
-/// Returns the state of a TAP line after `letters` and the next letter of their directive.
+/// Returns the state of a TAP line after `letters`, the first letters of a directive, and the next
+/// letter of its keyword.
 ///
 /// `purpose` is the purpose of the search for the directive.
 fn state_after_letter(purpose: DirectivePurpose, letters: DirectivePrefix) -> LineProgress
@@ -246,7 +247,7 @@ fn opened(opening: Opening, lacks: &'static [u8], b: u8) -> LineProgress
 
 /// Returns the state of a TAP line after the byte `b`, if its state before `b` is `begun`.
 ///
-/// The caller keeps the bytes of a reason, so `Reason` does not change.
+/// The caller handles the bytes of a reason, so the state `Reason` is returned unchanged.
 pub fn step(begun: LineProgress, b: u8) -> LineProgress
     ensures facts { is_reason_byte begun b ≡ false → (kept more : List ℕ)
         → facts_with result kept more ≡ facts_with begun kept (b ∷ more) }

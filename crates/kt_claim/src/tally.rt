@@ -7,7 +7,7 @@ use crate::{Tap, TapFault};
 use kt_base::{NoMemory, Text, lossy};
 use std::alloc::Global;
 
-/// A tally of a TAP stream: the counts and plans of the lines before its first bail out.
+/// A tally of a TAP stream: the numbers of tests and the plans before its first bail out.
 #[derive(Drop)]
 pub struct Tally {
     /// `true` if a line of the stream bails out: it begins with `Bail out!`.
@@ -90,7 +90,8 @@ impl Tally {
         }
     }
 
-    /// Returns the tally with one more failed test, which is not added to the number of tests.
+    /// Returns the tally with one more failed test without a directive. The number of all tests is
+    /// unchanged.
     fn with_failure(self) -> Tally
         ensures { self.failures < 2 ^ 32 → result ≡ record self { failures = self.failures + 1 } }
     {

@@ -15,8 +15,8 @@ const LIMIT: usize = 16_777_216;
 
 /// A reader of a TAP stream that is read in pieces.
 ///
-/// The reader keeps counts, the first plan and the state of the open line. It keeps no bytes of the
-/// stream except the reason of a plan of no tests.
+/// The reader keeps the tally of the complete lines, and the state of the open line. It keeps no
+/// bytes of the stream except the reason of a plan of no tests.
 #[derive(Drop)]
 pub struct TapReader {
     alloc: Global,

@@ -40,7 +40,8 @@ bail_out_facts = record { bails = true; tests = false; fails = false; plans = No
 abbrev pub test_facts : Bool → Bool → Facts
 test_facts tests fails = record { bails = false; tests = tests; fails = fails; plans = None }
 
--- `plan_facts plans`: the `Facts` of a TAP line with the plan `plans`, if any.
+-- `plan_facts plans`: the `Facts` of a TAP line that is neither a bail out nor a test. `plans` has
+-- the number of tests and the reason of its plan, or is `None` if the line is not a plan.
 abbrev pub plan_facts : Option (ℕ × List ℕ) → Facts
 plan_facts plans = record { bails = false; tests = false; fails = false; plans = plans }
 
@@ -98,7 +99,8 @@ abbrev pub directive_after_letters : DirectivePrefix → List ℕ → Option Dir
 directive_after_letters l more = if says (missing_letters l) more then Some (is_skip l, reason_of (drop (length (missing_letters l)) more)) else None
 
 -- `facts_with begun kept more`: the `Facts` of a TAP line that is in the state `begun` and ends
--- after `more`, its further bytes. `kept` is the reason of a plan that was read so far.
+-- after `more`, its further bytes. `kept` is the part of a plan's reason that was read before
+-- `more`.
 abbrev pub facts_with : LineProgress → List ℕ → List ℕ → Facts
 facts_with begun.Nothing kept more = facts_of more
 facts_with (begun.PartialOpening o lacks) kept more = opened o (begins lacks.now more) (drop (length lacks.now) more)
@@ -135,8 +137,8 @@ abbrev pub IsEmptyUnless : Bool → List ℕ → Type 0
 IsEmptyUnless true kept = Unit {0}
 IsEmptyUnless false kept = kept ≡ []
 
--- `KeepsIfReason begun kept`: `kept` is empty unless bytes of a reason were read before the state
--- `begun`. `kept` are the bytes that are kept of the line.
+-- `KeepsIfReason begun kept`: `kept` are the bytes that a reader keeps of a TAP line in the state
+-- `begun`. There are none unless bytes of a plan's reason were read.
 abbrev pub KeepsIfReason : LineProgress → List ℕ → Type 0
 KeepsIfReason begun kept = IsEmptyUnless (is_reason begun) kept
 
@@ -152,15 +154,16 @@ pub record LineState : Type 0 where
   pub kept : List ℕ
   pub held : Bool
 
--- `IsStateAfter begun kept held came`: `begun`, `kept` and `held` are the state after the bytes
--- `came` of a TAP line. They give the `Facts` of the line for any bytes that follow.
+-- `IsStateAfter begun kept held came`: after the bytes `came` of a TAP line, the reader is in the
+-- state `begun` and keeps the bytes `kept` of a plan's reason. It holds back a carriage return if
+-- `held` is true. These three values give the `Facts` of the line for any bytes that follow.
 pub record IsStateAfter (begun : LineProgress) (kept : List ℕ) (held : Bool) (came : List ℕ) : Type 0 where
   pub keeps : KeepsIfReason begun kept
   pub tells : (more : List ℕ) → facts_of (without_cr (came ++ more)) ≡ facts_with begun kept (without_cr (with_held_cr held more))
 
--- `IsStateMidLine begun kept came`: `begun` and `kept` are the state after the bytes `came` of a
--- TAP line. They give the `Facts` of the line if more bytes follow. No carriage return is held
--- back.
+-- `IsStateMidLine begun kept came`: after the bytes `came` of a TAP line, the reader is in the
+-- state `begun` and keeps the bytes `kept` of a plan's reason. It holds back no carriage return.
+-- These two values give the `Facts` of the line if more bytes follow.
 pub record IsStateMidLine (begun : LineProgress) (kept came : List ℕ) : Type 0 where
   pub keeps : KeepsIfReason begun kept
   pub tells : (b : ℕ) (more : List ℕ) → facts_of (without_cr (came ++ b ∷ more)) ≡ facts_with begun kept (without_cr (b ∷ more))

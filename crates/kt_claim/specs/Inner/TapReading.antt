@@ -22,8 +22,8 @@ abbrev pub has_second : {T : Type 0} → List T → Bool
 has_second (x ∷ y ∷ xs) = true
 has_second _ = false
 
--- `IsTally tally lines`: `tally` has the counts and plans of `lines` before the first bail out, and
--- whether a line bails out.
+-- `IsTally tally lines`: `tally` is the tally of the TAP lines `lines`. It has the numbers of tests
+-- and the plans before the first bail out, and whether a line bails out.
 pub record IsTally (tally : Tally) (lines : List (List ℕ)) : Type 0 where
   pub bailed : tally.bailed ≡ list_any is_bail_out lines
   pub planned : tally.plan ≡ first (filter_map plan (lines_before_bail_out lines))
@@ -35,8 +35,8 @@ pub record IsTally (tally : Tally) (lines : List (List ℕ)) : Type 0 where
 abbrev pub state_of : OpenLine → LineState
 state_of line = record { begun = line.begun; kept = line.kept.items; held = line.held }
 
--- `HasLines tally line fed`: the bytes `fed` are complete lines with the counts of `tally`,
--- followed by an open line in the state `line`.
+-- `HasLines tally line fed`: the bytes `fed` are complete lines, whose tally is `tally`, followed
+-- by an open line in the state `line`.
 pub record HasLines (tally : Tally) (line : LineState) (fed : List ℕ) : Type 0 where
   pub whole : List (List ℕ)
   pub open_line : List ℕ
