@@ -12,7 +12,8 @@ abbrev pub with_outputs : Entry → Output → Output → Entry
 with_outputs e body cleanup = record e { body = body; cleanup = cleanup }
 
 -- `case_texts e`: the texts of the entry `e` in the JUnit report, escaped for XML. The output of
--- the body precedes that of the cleanup. Each output is decoded by itself.
+-- the body precedes that of the cleanup. Each of these outputs is decoded separately, and its bytes
+-- that are not UTF-8 become U+FFFD.
 abbrev pub case_texts : Entry → CaseTexts
 case_texts e = record {
   program = escaped_text true e.program;

@@ -87,9 +87,10 @@ abbrev pub last_kind : Option Kind → List Entry → Option Kind
 last_kind before [] = before
 last_kind before (e ∷ entries) = last_kind (Some e.verdict.kind) entries
 
--- `titled_lines verbose before entries`: the lines of `entries`. The title of its section precedes
--- an entry, unless the preceding entry is of the same kind. `before` is the kind of the entry
--- before `entries`, if any. Lines of properties follow each entry if `verbose` is true.
+-- `titled_lines verbose before entries`: the lines of `entries`, with the titles of their sections.
+-- A title precedes each entry whose kind differs from the kind of the preceding entry. `before` is
+-- the kind of the entry before `entries`, if any. Lines of properties follow each entry if
+-- `verbose` is true.
 abbrev pub titled_lines : Bool → Option Kind → List Entry → List ℕ
 titled_lines verbose before [] = []
 titled_lines verbose before (e ∷ entries) = title_line_after before e.verdict.kind ++ (entry_bytes verbose e ++ titled_lines verbose (Some e.verdict.kind) entries)

@@ -14,7 +14,7 @@ pub struct CaseTexts {
     pub err: Text,
 }
 
-/// Implemented instead of derived, so that a drop is one call for the prover.
+/// A manual implementation, so that a drop of `CaseTexts` is one call for the prover.
 impl Drop for CaseTexts {
     fn drop(self) {
         let CaseTexts {

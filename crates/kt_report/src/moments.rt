@@ -68,9 +68,10 @@ fn add_days_to_epoch(days: u64) -> Date
     date(1970, 1, 1).checked_add((days as i64).days()).unwrap()
 }
 
-/// Returns the civil date, in UTC, of the timestamp `moment`, in milliseconds since 1970 in UTC.
+/// Returns the civil date, in UTC, of the timestamp `moment`.
 ///
-/// For a timestamp after the year 9999, the date is the last day of that year.
+/// `moment` is in milliseconds since 1970 in UTC. For a timestamp after the year 9999, the date is
+/// the last day of that year.
 pub fn date_of(moment: u64) -> Date
     ensures { IsDateOf moment result }
 {

@@ -37,9 +37,10 @@ module _ {S F : Type 0} (reads : S → Entry → Result Entry F → S → Type 0
   module _ {E : Type 0} (verbose : Bool) (before : Option Kind) (due : List Entry) where
     -- `EndsEntries answer`: the lines of the entries `due` were written after an entry of the kind
     -- `before`, if any, with the titles of their sections. The lines have properties if `verbose`
-    -- is true. `answer` is the kind of the last entry, or the error of a read or of a write.
-    -- `reads` is the relation of one read. The reads lead from the state `old` to the state `new`,
-    -- and the writes change the writer's contents from `was` to `now`.
+    -- is true. `answer` is the kind of the last entry, or `before` without entries. If a read or a
+    -- write failed, `answer` is its error. `reads` is the relation of one read. The reads lead from
+    -- the state `old` to the state `new`, and the writes change the writer's contents from `was` to
+    -- `now`.
     abbrev pub EndsEntries : Result (Option Kind) (WriteReportError F E) → Type 0
     EndsEntries (Ok last) = (shown : List Entry) × ReadsDetails reads old due shown new × (last ≡ last_kind before shown) × Emits was now false (titled_lines verbose before shown)
     EndsEntries (Err stop) = EndsReport reads (sections_layout verbose before []) due old was now new (Err stop)
