@@ -1,7 +1,8 @@
 -- Kinds of characters.
 use Rattle.std.specs.Prelude.{ℕ, Bool, false, nat_le, ◌==◌, ◌&&◌, ◌||◌, List, [], ◌∷◌}
 
--- `is_space c`: the character `c` is white space: the space, or one of the characters 9 to 13.
+-- `is_space c`: the character `c` is white space: the space, or a character with a code from 9 to
+-- 13, such as the tab (9) and the newline (10).
 abbrev pub is_space : ℕ → Bool
 is_space c = c == 32 || (nat_le 9 c && nat_le c 13)
 

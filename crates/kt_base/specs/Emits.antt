@@ -10,7 +10,8 @@ AppendsText old new false text = Appends old new text
 AppendsText old new true text = (front rest : List ℕ) × (next : ℕ) × (text ≡ front ++ next ∷ rest) × Appends old new front
 
 -- `Emits old new failed text`: writing the bytes `text` to a writer changed its contents from `old`
--- to `new`. If `failed` is true, only a proper prefix of `text` was written.
+-- to `new`. If `failed` is true, only a proper prefix of `text` was written. If `old` is unknown,
+-- `new` can be anything.
 pub record Emits (old new : Option (List ℕ)) (failed : Bool) (text : List ℕ) : Type 0 where
   pub holds : AppendsText old new failed text
 

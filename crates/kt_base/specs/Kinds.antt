@@ -11,7 +11,7 @@ good ExpectedFailure = true
 good Failed = false
 good Broken = false
 
--- `word kind`: the keyword by which reports print the kind `kind`.
+-- `word kind`: the keyword of the kind `kind` in reports.
 abbrev pub word : Kind → List ℕ
 word Passed = codes "passed"
 word Skipped = codes "skipped"

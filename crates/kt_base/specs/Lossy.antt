@@ -19,8 +19,8 @@ abbrev pub decoded_character : Option (List ℕ) → List ℕ
 decoded_character None = 65533 ∷ []
 decoded_character (Some bytes) = chars bytes
 
--- `further found`: the number of bytes after the first byte of `found`, the encoding of a
--- character. It is 0 if `found` is absent.
+-- `further found`: the number of bytes in `found` after its first byte, or 0 if `found` is absent.
+-- The bytes `found` encode one character.
 abbrev pub further : Option (List ℕ) → ℕ
 further None = 0
 further (Some bytes) = length bytes - 1
@@ -32,7 +32,7 @@ lossy_from n [] = []
 lossy_from zero (b ∷ bytes) = decoded_character (first (b ∷ bytes)) ++ lossy_from (further (first (b ∷ bytes))) bytes
 lossy_from (suc n) (b ∷ bytes) = lossy_from n bytes
 
--- `lossy bytes`: the text that `bytes` are decoded to, from left to right: each well-formed
--- character, and U+FFFD for each byte that is not part of one.
+-- `lossy bytes`: the text that `bytes` are decoded to as UTF-8, from left to right. Each byte that
+-- is not part of a well-formed character is decoded to U+FFFD.
 abbrev pub lossy : List ℕ → List ℕ
 lossy bytes = lossy_from 0 bytes

@@ -25,7 +25,7 @@ outcome_text (Signaled signal core) = codes "received signal " ++ decimal signal
 outcome_text _ = []
 
 -- `counted_text phrase m n`: the message of `phrase` with `m` as its first number and `n` as its
--- second. A phrase with one number ends with `m` and ignores `n`.
+-- second. If the phrase has only one number, it is `m` at the end of the text, and `n` is not used.
 abbrev pub counted_text : Phrase → ℕ → ℕ → List ℕ
 counted_text OtherExitCode due got = codes "Expected exit code " ++ decimal due ++ codes " but got " ++ decimal got
 counted_text OtherSignal due got = codes "Expected signal " ++ decimal due ++ codes " but got " ++ decimal got
@@ -42,8 +42,8 @@ reason_text (Ended phrase ending) = phrase_text phrase ++ outcome_text ending
 reason_text (Counted phrase m n) = counted_text phrase m n
 reason_text (Owned text) = text
 
--- `refused_reason cause`: the reason of the `broken` verdict on a case that could not be started or
--- listed for the cause `cause`.
+-- `refused_reason cause`: the reason of the `broken` verdict on a case if the start of its body, or
+-- of the program that lists its cases, failed for the cause `cause`.
 abbrev pub refused_reason : Refused → Reason
 refused_reason Directory = Fixed NoDirectory
 refused_reason Output = Fixed NoOutput

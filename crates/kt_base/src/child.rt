@@ -10,7 +10,7 @@ pub enum Interface {
     Plain,
 }
 
-/// A part of a test case that a child process runs.
+/// A role of a child process: it runs the body or the cleanup of a test case.
 #[derive(Clone, Copy, PartialEq, Eq, Hash)]
 pub enum Role {
     /// The body, which performs the test.

@@ -30,8 +30,8 @@ pub struct Entry {
     pub started: u64,
     /// The time from the start of the body to the end of the case, in milliseconds.
     ///
-    /// The time is 0 if the body was not started, or if the clock reports an earlier time at the
-    /// end.
+    /// The time is 0 if the body was not started, or if the clock failed at the end or reported an
+    /// earlier time. If the clock failed at the start only, the time is counted from 1970.
     pub millis: u64,
     /// The output of the body. Both streams are empty if the body was not started.
     pub body: Output,
@@ -63,8 +63,9 @@ impl Drop for Entry {
 pub struct Run {
     /// The number of the run, counted from 1.
     pub number: u64,
-    /// The start time of the run, in milliseconds since 1970 in UTC, or 0 if the clock failed or
-    /// its time was out of range.
+    /// The start time of the run, in milliseconds since 1970 in UTC.
+    ///
+    /// The time is 0 if the clock failed, or reported a time after the year 9999.
     pub started: u64,
     /// The number of test cases that were selected for the run.
     pub total: u32,

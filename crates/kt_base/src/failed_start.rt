@@ -17,8 +17,9 @@ impl Refused {
     ghost use Rattle.std.specs.Prelude.{◌≡◌};
     ghost use Rattle.kt_base.specs.Common.{refused_reason};
 
-    /// Returns the reason of the `broken` verdict on a case that could not be started or listed for
-    /// this cause.
+    /// Returns the reason of the `broken` verdict on a case after a failed start with this cause.
+    ///
+    /// The failed start is that of the case's body, or of the program that lists its cases.
     pub fn reason(self) -> Reason
         ensures { result ≡ refused_reason self }
     {

@@ -1,12 +1,11 @@
 ghost use Rattle.std.specs.Prelude.{◌≡◌, ℕ, List, [], ◌∷◌, ◌++◌, None, IsSome};
 ghost use Rattle.kt_base.specs.Common.{Variable, value_of, last_values, Replaces};
 
-/// Theorem: `last_values` gives each name the value of its last pair, and changes by one pair for
-/// each appended pair.
+/// Theorem: in the list `last_values pairs`, each name has the value of its last pair in `pairs`.
 ///
-/// The last values of a list contain one pair for each name in the list. If a pair is appended to
-/// the list, it replaces the pair with its name in the last values. If no pair has its name, the
-/// appended pair is also appended to the last values.
+/// If a pair is appended to `pairs`, it replaces the pair with its name in the last values. If no
+/// pair has its name, the appended pair is also appended to the last values. Joining two lists
+/// gives the same last values as joining the last values of each list.
 pub fn theorem_of_last_values()
     ensures value { (name : List ℕ) → (pairs : List Variable)
         → value_of name (last_values pairs) ≡ value_of name pairs }

@@ -10,8 +10,8 @@ pub enum Reason {
     Fixed(Phrase),
     /// A fixed message, followed by the exit status or signal in the outcome, if it has one.
     Ended(Phrase, Outcome),
-    /// A fixed message and two numbers. A message with one number contains the first and ignores
-    /// the second.
+    /// A fixed message with two numbers. If the message has only one number, this is the first, and
+    /// the second is not used.
     Counted(Phrase, u64, u64),
     /// A text that is not fixed, such as a reason that the test program reported.
     Owned(Text),
@@ -53,7 +53,7 @@ impl Reason {
 pub enum Kind {
     /// The case succeeded.
     Passed,
-    /// The case was skipped: a requirement was not met, or the case itself reported this.
+    /// The case was skipped: a requirement was not met, or the case reported that it was skipped.
     Skipped,
     /// The case failed in the way that it had announced.
     ExpectedFailure,
