@@ -81,8 +81,8 @@ pub record HasUnfinishedStatement (ts : List Token) (fault : ScriptFault) : Type
   pub statement : IsStatement (token_kinds (begun ++ more)) action
   pub is : fault ≡ end_fault (last (open_bracket_lines [] ts)) (first_token_line begun)
 
--- `IsFaultOf ts fault`: the tokens `ts` are not a script. `fault` is the fault of the first
--- unexpected token, or of an end within a statement.
+-- `IsFaultOf ts fault`: the tokens `ts` are not a script. `fault` is the fault of the first token
+-- that the grammar does not allow, or of an end within a statement.
 pub record IsFaultOf (ts : List Token) (fault : ScriptFault) : Type 0 where
   pub no_script : (stmts : List Stmt) → Script ts stmts → ⊥
   pub is : HasUnexpectedToken ts fault ⊎ HasUnfinishedStatement ts fault

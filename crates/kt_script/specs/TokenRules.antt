@@ -87,8 +87,8 @@ opens_long_comment text = starts_with nat_eq text (codes "[[")
 abbrev pub opens_leveled_comment : List ℕ → Bool
 opens_leveled_comment text = starts_with nat_eq text (codes "[") && has_bracket_level (drop 1 text)
 
--- `IsBlank bytes after`: the bytes `bytes` are one byte of white space or a comment, if the bytes
--- `after` follow them.
+-- `IsBlank bytes after`: the bytes `bytes` are a comment or a single byte of white space, if the
+-- bytes `after` follow them.
 pub data IsBlank : List ℕ → List ℕ → Type 0 where
   space : {c : ℕ} {after : List ℕ} → is_space c ≡ true → IsBlank (c ∷ []) after
   line_comment : {words after : List ℕ} → opens_long_comment (words ++ after) ≡ false → opens_leveled_comment (words ++ after) ≡ false → AllSatisfy is_not_newline words → StopsAt is_not_newline after → IsBlank (45 ∷ 45 ∷ words) after

@@ -15,7 +15,7 @@ pub enum ScriptFault {
     NoMemory(NoMemory),
     /// The text is not UTF-8.
     NotUtf8,
-    /// The script has a byte, a number or an escape that this profile does not allow, on this line.
+    /// A byte, a number or an escape on this line is not allowed (this profile).
     BadToken(u32),
     /// A token on this line is not allowed (kyuafile(5)), or a statement that begins on this line
     /// is not finished.

@@ -91,8 +91,8 @@ pub fn theorem_of_one_result(text: &[u8])
     let _ = text;
 }
 
-/// Theorem: by the rules for tokens (`AreTokens`), each text consists of exactly one list of
-/// tokens.
+/// Theorem: by the rules for tokens (`AreTokens`), each text that begins on line 1 consists of
+/// exactly one list of tokens.
 pub fn theorem_of_one_token_list(text: &[u8])
     ensures some { (tokens : List Token) × AreTokens 1 text.now tokens }
     ensures one { (a b : List Token) → AreTokens 1 text.now a → AreTokens 1 text.now b → a ≡ b }

@@ -33,7 +33,8 @@ pub enum State {
     Pairs(Table),
     /// The state after the `[` of a key in a table.
     AfterKeyBracket(Table),
-    /// The state after the `[` of a key in a table and the string, which is the key.
+    /// The state after the `[` and the string of a key in a table. The fields are the table and the
+    /// key.
     AfterKeyString(Table, Text),
     /// The state after a key in a table. The fields are the table and the key.
     AfterKey(Table, Text),
@@ -45,7 +46,8 @@ pub enum State {
     AfterDot(Items<Text>),
     /// The state after a variable's path and `[`. The field has the parts of the path.
     AfterPathBracket(Items<Text>),
-    /// The state after the string in the last part of a variable's path, before the `]`.
+    /// The state after a variable's path, `[` and a string. The field has the parts of the path,
+    /// with the string as the last part.
     AfterPathString(Items<Text>),
     /// The state after a variable's path of at least two parts, which the field contains.
     AfterPath(Items<Text>),

@@ -6,7 +6,7 @@ use std::alloc::Global;
 /// A literal value: a string, a number or a truth value (kyuafile(5)).
 #[derive(Drop)]
 pub enum Literal {
-    /// A string, with its escapes replaced.
+    /// A string, in which each escape is decoded to its character.
     Text(Text),
     /// A decimal number, 0 to 2^64 - 1.
     Number(u64),
@@ -50,7 +50,7 @@ pub struct Pair {
 pub enum Arg {
     /// A literal value.
     Value(Literal),
-    /// A table: its pairs in the order of the text. A name may occur several times.
+    /// A table: its pairs in the order of the script. A name may occur several times.
     Table(Items<Pair>),
 }
 
@@ -59,7 +59,8 @@ pub enum Arg {
 pub enum Action {
     /// A call: the function's name and its only argument.
     Call(Text, Arg),
-    /// An assignment: the parts of the variable's path, such as `a.b`, at least one, and the value.
+    /// An assignment: the parts of the variable's path, and the value. The path `a.b` has the parts
+    /// `a` and `b`. A path has at least one part.
     Assign(Items<Text>, Literal),
 }
 

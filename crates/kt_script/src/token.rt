@@ -19,7 +19,7 @@ pub enum Flaw {
 pub enum TokenKind {
     /// A name: ASCII letters, digits and underscores, of which the first is not a digit.
     Name(Text),
-    /// A string, with its escapes replaced.
+    /// A string, in which each escape is decoded to its character.
     Quoted(Text),
     /// A decimal number, 0 to 2^64 - 1.
     Number(u64),

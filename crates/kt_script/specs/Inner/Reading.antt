@@ -12,9 +12,9 @@ pub record HasRead (place : ScriptState) (parser : Parser) (tokens : List Token)
   pub runs : run Start tokens ≡ Some (place, parser.statements)
   pub brackets : parser.brackets.items ≡ open_bracket_lines [] tokens
 
--- `IsUnexpectedToken place line kind fault`: the grammar does not allow a token of the kind `kind`
--- at its position `place`. `fault` is the fault of such a token on the line `line`. False if `kind`
--- is absent.
+-- `IsUnexpectedToken place line kind fault`: at the position `place` in the grammar, a token of the
+-- kind `kind` is not allowed. `fault` is the fault of such a token on the line `line`. The relation
+-- does not hold if `kind` is absent.
 abbrev pub IsUnexpectedToken : ScriptState → ℕ → Option TokenKind → ScriptFault → Type 0
 IsUnexpectedToken place line None fault = ⊥
 IsUnexpectedToken place line (Some kind) fault = (fault ≡ token_kind_fault line kind) × (next place (record { line = line; kind = kind }) ≡ None)

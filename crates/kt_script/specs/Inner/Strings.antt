@@ -6,17 +6,16 @@ use Rattle.kt_script.specs.declared.token.StringElement.TheVariants as stop
 use Rattle.kt_script.specs.Letters.{escape_of}
 use Rattle.kt_script.specs.Inner.Pieces.{token, broken}
 
--- `with_prefix front n r`: the result of reading a string that begins with `n` bytes of a script,
--- which represent the bytes `front`. `r` is the result of reading the string after these bytes. The
--- result is `r` with `front` prepended to the value and `n` added to the length. A flaw is
--- unchanged.
+-- `with_prefix front n r`: the result `r` of reading a string, with the bytes `front` prepended to
+-- the value and `n` added to the length. `front` is the value of the `n` bytes of the script before
+-- those that were read with the result `r`. A flaw is unchanged.
 abbrev pub with_prefix : List ℕ → ℕ → Result (List ℕ × ℕ) Flaw → Result (List ℕ × ℕ) Flaw
 with_prefix front n (Ok x) = Ok (front ++ x.0, n + x.1)
 with_prefix front n (Err flaw) = Err flaw
 
--- `with_escaped_byte c r`: the result of reading a string after the backslash of an escape that
--- represents the byte `c`. `r` is the result of reading the string after the escape. A flaw if `c`
--- is absent, since the escape is unknown.
+-- `with_escaped_byte c r`: the result of reading a string from the byte after a backslash. The
+-- escape represents the byte `c`, and `r` is the result of reading the string after the escape. The
+-- result is a flaw if `c` is absent, since the escape is unknown.
 abbrev pub with_escaped_byte : Option ℕ → Result (List ℕ × ℕ) Flaw → Result (List ℕ × ℕ) Flaw
 with_escaped_byte None rest = Err Bad
 with_escaped_byte (Some c) rest = with_prefix (c ∷ []) 1 rest
