@@ -71,7 +71,7 @@ pub record Holds (config : Values) (definitions : List Definition) : Type 0 wher
   pub suites : (suite : List ℕ) → variables_of suite config.suites ≡ non_empty_list (last_values (variables_set_for suite definitions))
 
 -- `Adds definition old new`: the definition `definition` changes the values `old` of a
--- configuration to `new`. If definitions set `old`, the same definitions followed by `definition`
--- set `new`.
+-- configuration to `new`. For each list of definitions that sets `old`, the list with `definition`
+-- appended sets `new`.
 abbrev pub Adds : Definition → Values → Values → Type 0
 Adds definition old new = (before : List Definition) → Holds old before → Holds new (before ++ definition ∷ [])

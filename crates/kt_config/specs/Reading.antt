@@ -65,7 +65,8 @@ definitions_of_file [] = Err NoSyntax
 definitions_of_file (stmt ∷ stmts) = if is_syntax_call stmt.action then definitions_in stmts else Err NoSyntax
 
 -- `HasFault text fault`: the bytes `text` are not a configuration file, and `fault` is their fault.
--- It is the fault of the script, or that of the first faulty statement.
+-- If `text` is not a script, this is the fault of the script. Otherwise, it is the first fault of
+-- the statements.
 abbrev pub HasFault : List ℕ → ConfigFault → Type 0
 HasFault text fault =
     ((cause : ScriptFault) × HasScriptFault text cause × (fault ≡ Script cause))

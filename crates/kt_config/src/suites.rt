@@ -8,9 +8,10 @@ use kt_base::{NoMemory, Text, Variable};
 use std::alloc::Global;
 use std::marker::Model;
 
-/// A map from the names of test suites to their variables, in the order of the first definitions.
+/// A map from the names of test suites to the variables of these suites.
 ///
-/// In contracts, a `Suites` is the list of the suites, each with its name and its variables.
+/// The suites are in the order in which a variable of each suite is first defined. In contracts, a
+/// `Suites` is the list of the suites, each with its name and its variables.
 #[derive(Drop)]
 pub struct Suites {
     /// The variables of each suite, by the name of the suite.
