@@ -20,7 +20,7 @@ pub(crate) struct Bound {
     /// The time limit, in microseconds. It is also the maximum number of iterations of each loop of
     /// the removal, since a clock may stop.
     pub(crate) micros: u64,
-    /// The number of steps before the time limit can stop the removal.
+    /// The minimum number of steps before the time limit can stop the removal.
     pub(crate) least: u64,
     /// The number of steps that the removal has taken so far.
     steps: u64,
@@ -49,10 +49,11 @@ fn root_limit_micros(waiting: u32) -> u64
     5_000_000 + 10_000 * u64::from(waiting)
 }
 
-/// Returns the number of steps before the time limit can stop the removal of the root directory.
+/// Returns the minimum number of steps before the time limit can stop the removal of the root
+/// directory.
 ///
 /// In a step, the removal reads some names of a directory and removes the entries with these names.
-/// The number is 20,000, plus 50 for each of the `waiting` directories in the removal queue. It
+/// The minimum is 20,000, plus 50 for each of the `waiting` directories in the removal queue. It
 /// lets a slow machine finish the removal.
 fn min_root_steps(waiting: u32) -> u64
     ensures { result ≡ min_root_steps waiting }

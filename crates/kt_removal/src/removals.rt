@@ -241,8 +241,8 @@ impl Removals {
     /// Removes `path`, the queued directory that was just emptied, and advances the queue by one
     /// number.
     ///
-    /// If the directory still has entries, it is moved to the end of the queue. It is left if
-    /// nothing could be removed from it.
+    /// If the directory still has entries, it is moved to the end of the queue. It is left if no
+    /// entry of it could be removed or moved, or if its own move fails.
     fn finish<R: Files + AllocGlobal>(&mut self, rt: &R, path: &Text)
         requires moved { HasNextDirectory self.old }
         requires path { path.now ≡ queued_dir self.old.place self.old.done }
@@ -257,7 +257,8 @@ impl Removals {
         self.advance_queue();
     }
 
-    /// Advances the queue by one number, to the directory that is emptied next. Clears `progress`.
+    /// Advances the queue by one number, to the directory that is emptied next. Sets `progress` to
+    /// `false`.
     fn advance_queue(&mut self)
         ensures root { self.new.root ≡ self.old.root }
         ensures place { self.new.place ≡ self.old.place }
@@ -301,8 +302,8 @@ impl Removals {
     /// Empties `path`, the next directory of the queue, within the time limit `bound`.
     ///
     /// Returns `true` if all names of its entries were read, or if the directory can't be opened or
-    /// read. Otherwise the next call begins again with this directory. If nothing could be removed
-    /// from it, the directory is skipped.
+    /// read. Otherwise, the next call begins again with this directory, or with the next one if no
+    /// entry could be removed or moved.
     fn empty_next_dir<R: Files + Clock + AllocGlobal>(
         &mut self,
         rt: &R,
@@ -425,8 +426,9 @@ impl Removals {
 
     /// Empties the queue directory once more within the time limit `bound`, and removes it.
     ///
-    /// The queue directory still has directories that were skipped, for example because the
-    /// allocation of an entry's path failed.
+    /// The queue directory can still have directories that were skipped, for example because the
+    /// allocation of an entry's path failed. A queue directory that was replaced or still has
+    /// entries afterwards is left.
     fn empty_queue_dir<R: Files + Clock + AllocGlobal>(&mut self, rt: &R, bound: &mut Bound)
         ensures root { self.new.root ≡ self.old.root }
         ensures place { self.new.place ≡ self.old.place }
@@ -495,10 +497,11 @@ impl Removals {
     }
 }
 
-/// Empties the queue of `removals` for `micros` microseconds, or sleeps for that time.
+/// Empties the queue `removals` until `micros` microseconds have passed, or sleeps for that time.
 ///
-/// It sleeps if there is no queue or the queue is empty. Returns the microseconds that passed, or
-/// `micros` if fewer passed. More than `micros` pass if the system takes long to remove an entry.
+/// The call sleeps if `removals` is `None` or the queue is empty. It returns early if all
+/// directories of the queue are emptied, and late if the system takes long to remove an entry.
+/// Returns the number of microseconds that passed, or `micros` if fewer passed or the clock failed.
 pub fn rest<R: Files + Clock + AllocGlobal>(
     removals: &mut Option<Removals>,
     rt: &R,

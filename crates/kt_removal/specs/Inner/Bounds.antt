@@ -17,7 +17,7 @@ case_limit = 5000
 abbrev pub closing_limit : ℕ → ℕ
 closing_limit waiting = 5000000 + 10000 * waiting
 
--- `min_root_steps waiting`: the number of steps before the time limit can stop the removal of the
--- root directory, while `waiting` directories are in the queue.
+-- `min_root_steps waiting`: the minimum number of steps before the time limit can stop the removal
+-- of the root directory, while `waiting` directories are in the queue.
 abbrev pub min_root_steps : ℕ → ℕ
 min_root_steps waiting = 20000 + 50 * waiting
