@@ -1,2 +1,2 @@
--- Definitions that only private functions cite: the verdicts as functions.
+-- Definitions that only private functions cite: the verdict tables as functions.
 pub mod Verdicts

@@ -23,7 +23,7 @@ use Rattle.kt_claim.specs.declared.evidence.Evidence.TheVariants as evidence
 use Rattle.kt_status.specs.declared.cleanup_end.CleanupEnd.{CleanupEnd}
 use Rattle.kt_status.specs.declared.cleanup_end.CleanupEnd.TheVariants as cleanup
 
--- `claim_fault_text fault`: the part of a reason's text that names the error `fault` of a result
+-- `claim_fault_text fault`: the end of a reason's text, which names the error `fault` of a result
 -- file.
 abbrev pub claim_fault_text : ClaimFault → List ℕ
 claim_fault_text result.TooLong = codes "too long"
@@ -35,7 +35,7 @@ claim_fault_text result.BadNumber = codes "bad number"
 claim_fault_text result.UnexpectedReason = codes "unexpected reason"
 claim_fault_text result.NoReason = codes "no reason"
 
--- `tap_fault_text fault`: the part of a reason's text that names the error `fault` of TAP output.
+-- `tap_fault_text fault`: the end of a reason's text, which names the error `fault` of TAP output.
 abbrev pub tap_fault_text : TapFault → List ℕ
 tap_fault_text stream.Unreadable = codes "output could not be read"
 tap_fault_text stream.TooLong = codes "output too long"
@@ -49,7 +49,7 @@ pub data IsExitOrSignal : Outcome → Type 0 where
   signaled : (signal : ℕ) (core : Bool) → IsExitOrSignal (Signaled signal core)
 
 -- `AtfRow number claim outcome verdict`: the row `number` of the ATF table fits a case with this
--- `claim` whose body has this `outcome`, and gives `verdict`.
+-- `claim` and with this `outcome` of its body. The row gives `verdict`.
 pub data AtfRow : ℕ → Claim → Outcome → VerdictValue → Type 0 where
   not_waited_for : (c : Claim) → AtfRow 1 c WaitFailed (verdict.broken (codes "Test case could not be waited for"))
   timed_out_as_expected : (r : List ℕ) → AtfRow 2 (ExpectedTimeout r) TimedOut (verdict.expected_failure r)
@@ -80,7 +80,7 @@ pub data AtfRow : ℕ → Claim → Outcome → VerdictValue → Type 0 where
   not_timed_out : (r : List ℕ) (e : Outcome) → IsExitOrSignal e → AtfRow 20 (ExpectedTimeout r) e (verdict.broken (codes "Expected timeout but " ++ outcome_text e))
 
 -- `PlainRow number outcome verdict`: the row `number` of the table of plain programs fits a program
--- with this `outcome`, and gives `verdict`.
+-- with this `outcome`. The row gives `verdict`.
 pub data PlainRow : ℕ → Outcome → VerdictValue → Type 0 where
   plain_not_waited_for : PlainRow 1 WaitFailed (verdict.broken (codes "Test case could not be waited for"))
   plain_timed_out : PlainRow 2 TimedOut (verdict.broken (codes "Test case timed out"))
@@ -88,8 +88,8 @@ pub data PlainRow : ℕ → Outcome → VerdictValue → Type 0 where
   plain_passed : PlainRow 4 (Exited 0) verdict.passed
   plain_failed : (code : ℕ) → PlainRow 5 (Exited code) (verdict.failed (codes "Returned non-success exit status " ++ decimal code))
 
--- `TapRow number tap outcome verdict`: the row `number` of the TAP table fits a program that
--- printed the results `tap` and has this `outcome`, and gives `verdict`.
+-- `TapRow number tap outcome verdict`: the row `number` of the TAP table fits a program with this
+-- `outcome` and with `tap` as the summary of its TAP output. The row gives `verdict`.
 pub data TapRow : ℕ → Tap → Outcome → VerdictValue → Type 0 where
   tap_not_waited_for : (t : Tap) → TapRow 1 t WaitFailed (verdict.broken (codes "Test case could not be waited for"))
   tap_timed_out : (t : Tap) → TapRow 2 t TimedOut (verdict.broken (codes "Test case timed out"))
@@ -103,7 +103,7 @@ pub data TapRow : ℕ → Tap → Outcome → VerdictValue → Type 0 where
       → TapRow 9 (Counted some all) (Exited code) (verdict.broken (codes "Dubious test program: reported all tests as passed but returned exit code " ++ decimal code))
 
 -- `RefusalRow number refused verdict`: the row `number` of the table of failed starts fits a start
--- that failed with the error `refused`, and gives `verdict`.
+-- that failed with the error `refused`. The row gives `verdict`.
 pub data RefusalRow : ℕ → Refused → VerdictValue → Type 0 where
   no_directory : RefusalRow 1 refused.Directory (verdict.broken (codes "Work directory could not be made"))
   no_output : RefusalRow 2 refused.Output (verdict.broken (codes "Output files could not be made"))

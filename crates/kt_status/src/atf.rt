@@ -24,7 +24,7 @@ fn fault_phrase(fault: ClaimFault) -> Phrase
 /// Returns the `broken` verdict on a case whose result file is missing or contradicts the outcome
 /// `ending`.
 ///
-/// The reason is `phrase`, followed by the exit status or the signal.
+/// The reason is `phrase`, followed by the exit status or the signal in `ending`.
 fn contradiction_verdict(phrase: Phrase, ending: Outcome) -> Verdict
     ensures { result ≡ broken (phrase_text phrase ++ outcome_text ending) }
 {

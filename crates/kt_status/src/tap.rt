@@ -21,8 +21,8 @@ fn fault_phrase(fault: TapFault) -> Phrase
 
 /// Returns the verdict on the case of a TAP program (this profile).
 ///
-/// `tap` is the result of the program's TAP output, and `ending` is the outcome of the program. The
-/// first matching row of the TAP table (`TapRow`) decides. The call doesn't allocate.
+/// `tap` is the summary of the program's TAP output, and `ending` is the outcome of the program.
+/// The first matching row of the TAP table (`TapRow`) decides. The call doesn't allocate.
 pub fn tap_verdict(tap: Tap, ending: Outcome) -> Verdict
     ensures { result ≡ tap_verdict tap ending }
 {

@@ -25,10 +25,10 @@ pub fn plain_verdict(ending: Outcome) -> Verdict
     }
 }
 
-/// Returns the verdict on the body of a test case, by its evidence and its outcome (this profile).
+/// Returns the verdict on a body with this `evidence` and the outcome `ending` (this profile).
 ///
-/// `ending` is the outcome. The kind of `evidence` selects the table of rules: that of ATF, TAP or
-/// plain programs. The call doesn't allocate.
+/// The kind of `evidence` selects the table of rules: that of ATF, TAP or plain programs. The call
+/// doesn't allocate.
 pub fn body_verdict(evidence: Evidence, ending: Outcome) -> Verdict
     ensures row { IsVerdict evidence ending result }
     ensures only { (verdict : VerdictValue) → IsVerdict evidence ending verdict → result ≡ verdict }

@@ -41,8 +41,8 @@ signal_claim_verdict (Some due) reason (Signaled signal _) =
     if nat_eq due signal then expected_failure reason else failed (codes "Expected signal " ++ decimal due ++ codes " but got " ++ decimal signal)
 signal_claim_verdict _ _ ending = broken (codes "Expected signal but " ++ outcome_text ending)
 
--- `atf_exit_verdict claim ending`: the verdict on an ATF case with the claim `claim` whose body
--- exited or received a signal. `ending` is the exit status or the signal.
+-- `atf_exit_verdict claim ending`: the verdict on an ATF case if its claim is `claim`, and its body
+-- exited or received a signal. `ending` is the outcome of the body.
 abbrev pub atf_exit_verdict : Claim → Outcome → VerdictValue
 atf_exit_verdict Missing ending = broken (codes "Premature exit; test case " ++ outcome_text ending)
 atf_exit_verdict Unreadable ending = broken (codes "Results file could not be read")
@@ -57,14 +57,14 @@ atf_exit_verdict (ExpectedExit due reason) ending = exit_claim_verdict due reaso
 atf_exit_verdict (ExpectedSignal due reason) ending = signal_claim_verdict due reason ending
 atf_exit_verdict (ExpectedTimeout reason) ending = broken (codes "Expected timeout but " ++ outcome_text ending)
 
--- `atf_timeout_verdict claim`: the verdict on an ATF case with the claim `claim` whose body timed
--- out.
+-- `atf_timeout_verdict claim`: the verdict on an ATF case if its claim is `claim`, and its body
+-- timed out.
 abbrev pub atf_timeout_verdict : Claim → VerdictValue
 atf_timeout_verdict (ExpectedTimeout reason) = expected_failure reason
 atf_timeout_verdict _ = broken (codes "Test case body timed out")
 
--- `atf_verdict claim ending`: the verdict on an ATF case with the claim `claim` whose body has the
--- outcome `ending`.
+-- `atf_verdict claim ending`: the verdict on an ATF case if its claim is `claim`, and its body has
+-- the outcome `ending`.
 abbrev pub atf_verdict : Claim → Outcome → VerdictValue
 atf_verdict claim WaitFailed = broken (codes "Test case could not be waited for")
 atf_verdict claim TimedOut = atf_timeout_verdict claim
@@ -77,8 +77,8 @@ plain_verdict TimedOut = broken (codes "Test case timed out")
 plain_verdict (Signaled signal _) = broken (codes "Received signal " ++ decimal signal)
 plain_verdict (Exited code) = if nat_eq code 0 then passed else failed (codes "Returned non-success exit status " ++ decimal code)
 
--- `tap_exit_verdict tap code`: the verdict on the case of a TAP program that printed the results
--- `tap` and exited with status `code`.
+-- `tap_exit_verdict tap code`: the verdict on the case of a TAP program that exited with the status
+-- `code`. `tap` is the summary of its TAP output.
 abbrev pub tap_exit_verdict : Tap → ℕ → VerdictValue
 tap_exit_verdict BailedOut code = failed (codes "Bailed out")
 tap_exit_verdict (Invalid fault) code = broken (codes "TAP test program yielded invalid data: " ++ tap_fault_text fault)
@@ -88,8 +88,8 @@ tap_exit_verdict (Counted some all) code =
     else if nat_eq code 0 then passed
     else broken (codes "Dubious test program: reported all tests as passed but returned exit code " ++ decimal code)
 
--- `tap_verdict tap ending`: the verdict on the case of a TAP program that printed the results `tap`
--- and has the outcome `ending`.
+-- `tap_verdict tap ending`: the verdict on the case of a TAP program with the outcome `ending`.
+-- `tap` is the summary of its TAP output.
 abbrev pub tap_verdict : Tap → Outcome → VerdictValue
 tap_verdict tap WaitFailed = broken (codes "Test case could not be waited for")
 tap_verdict tap TimedOut = broken (codes "Test case timed out")
@@ -108,8 +108,8 @@ verdict_of evidence.Plain ending = plain_verdict ending
 abbrev pub verdict_of_refusal : Refused → VerdictValue
 verdict_of_refusal r = broken (reason_text (refused_reason r))
 
--- `verdict_if_body_good body end`: the verdict on a case after a cleanup with the result `end`. The
--- verdict on its body, `body`, counts as a success.
+-- `verdict_if_body_good body end`: the verdict on a case after a cleanup with the result `end`, if
+-- `body`, the verdict on the case's body, counts as a success.
 abbrev pub verdict_if_body_good : VerdictValue → CleanupEnd → VerdictValue
 verdict_if_body_good body (cleanup.Ended (Exited code)) = if nat_eq code 0 then body else broken (codes "Test case cleanup did not terminate successfully")
 verdict_if_body_good body (cleanup.Ended TimedOut) = broken (codes "Test case cleanup timed out")
