@@ -42,8 +42,9 @@ reason_text (Ended phrase ending) = phrase_text phrase ++ outcome_text ending
 reason_text (Counted phrase m n) = counted_text phrase m n
 reason_text (Owned text) = text
 
--- `refused_reason cause`: the reason of the `broken` verdict on a case if the start of its body, or
--- of the program that lists its cases, failed for the cause `cause`.
+-- `refused_reason cause`: the reason of the `broken` verdict on a case after a failed start with
+-- this `cause`. The failed start is that of the case's body, or of the program that lists its
+-- cases.
 abbrev pub refused_reason : Refused → Reason
 refused_reason Directory = Fixed NoDirectory
 refused_reason Output = Fixed NoOutput
