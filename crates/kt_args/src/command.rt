@@ -28,8 +28,7 @@ pub enum Command {
     ReportJunit(ReportOptions),
 }
 
-/// A manual `Drop`, for the prover: for a caller's proof, a drop of a command is one call, not a
-/// drop of each field.
+/// A manual impl instead of `#[derive(Drop)]`, so that the prover handles each drop as one call.
 impl Drop for Command {
     fn drop(self) {
         match self {

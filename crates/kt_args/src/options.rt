@@ -16,8 +16,7 @@ pub struct CaseOptions {
     pub filters: Items<Text>,
 }
 
-/// A manual `Drop`, for the prover: for a caller's proof, a drop of these options is one call, not
-/// a drop of each field.
+/// A manual impl instead of `#[derive(Drop)]`, so that the prover handles each drop as one call.
 impl Drop for CaseOptions {
     fn drop(self) {
         let CaseOptions {
@@ -43,8 +42,7 @@ pub struct ReportOptions {
     pub run: Option<u64>,
 }
 
-/// A manual `Drop`, for the prover: for a caller's proof, a drop of these options is one call, not
-/// a drop of each field.
+/// A manual impl instead of `#[derive(Drop)]`, so that the prover handles each drop as one call.
 impl Drop for ReportOptions {
     fn drop(self) {
         let ReportOptions {

@@ -31,7 +31,7 @@ pub struct Meta {
     pub timeout: u32,
 }
 
-/// A manual impl, so that the prover handles each drop as one call.
+/// A manual impl instead of `#[derive(Drop)]`, so that the prover handles each drop as one call.
 impl Drop for Meta {
     fn drop(self) {
         let Meta {

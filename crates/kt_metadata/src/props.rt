@@ -21,7 +21,7 @@ pub struct Props {
     own: Layer,
 }
 
-/// A manual impl, so that the prover handles each drop as one call and sees the fields only here.
+/// A manual impl instead of `#[derive(Drop)]`, so that the prover handles each drop as one call.
 impl Drop for Props {
     fn drop(self) {
         let Props { program, own } = self;

@@ -14,7 +14,7 @@ pub struct CaseTexts {
     pub err: Text,
 }
 
-/// A manual implementation, so that a drop of `CaseTexts` is one call for the prover.
+/// A manual impl instead of `#[derive(Drop)]`, so that the prover handles each drop as one call.
 impl Drop for CaseTexts {
     fn drop(self) {
         let CaseTexts {

@@ -34,8 +34,7 @@ pub struct Job {
     pub meta: Variables,
 }
 
-/// A manual `Drop`, for the prover: for a caller's proof, a drop of a job is one call, not a drop
-/// of each field.
+/// A manual impl instead of `#[derive(Drop)]`, so that the prover handles each drop as one call.
 impl Drop for Job {
     fn drop(self) {
         let Job {

@@ -16,7 +16,7 @@ pub struct Registry {
     pub programs: Items<Program>,
 }
 
-/// A manual impl, so that the prover handles each drop as one call and sees the fields only here.
+/// A manual impl instead of `#[derive(Drop)]`, so that the prover handles each drop as one call.
 impl Drop for Registry {
     fn drop(self) {
         let Registry {

@@ -51,7 +51,7 @@ pub struct ProgramTable {
     pub props: Props,
 }
 
-/// A manual impl, so that the prover handles each drop as one call and sees the fields only here.
+/// A manual impl instead of `#[derive(Drop)]`, so that the prover handles each drop as one call.
 impl Drop for ProgramTable {
     fn drop(self) {
         let ProgramTable {

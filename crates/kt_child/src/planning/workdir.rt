@@ -27,8 +27,7 @@ pub struct Paths {
     pub cleanup_err: Text,
 }
 
-/// A manual `Drop`, for the prover: for a caller's proof, a drop of `Paths` is one call, not a drop
-/// of each field.
+/// A manual impl instead of `#[derive(Drop)]`, so that the prover handles each drop as one call.
 impl Drop for Paths {
     fn drop(self) {
         let Paths {

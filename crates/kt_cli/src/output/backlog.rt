@@ -14,7 +14,7 @@ pub struct Backlog {
     start: usize,
 }
 
-/// Drops both fields. Separate for the prover: the proof of a caller then sees one call.
+/// A manual impl instead of `#[derive(Drop)]`, so that the prover handles each drop as one call.
 impl Drop for Backlog {
     fn drop(self) {
         let Backlog { bytes: _, start: _ } = self;

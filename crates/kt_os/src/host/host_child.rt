@@ -35,7 +35,7 @@ pub(crate) struct HostChild<P: OpenProcess> {
     seen: bool,
 }
 
-/// A manual implementation, so that a drop of `HostChild` is one call for the prover.
+/// A manual impl instead of `#[derive(Drop)]`, so that the prover handles each drop as one call.
 impl<P: OpenProcess + Drop> Drop for HostChild<P> {
     fn drop(self) {
         let HostChild {

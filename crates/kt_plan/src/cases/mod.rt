@@ -21,7 +21,7 @@ pub struct Candidate {
     pub case: CaseDef,
 }
 
-/// A manual impl, so that the prover handles each drop as one call and sees the fields only here.
+/// A manual impl instead of `#[derive(Drop)]`, so that the prover handles each drop as one call.
 impl Drop for Candidate {
     fn drop(self) {
         let Candidate {
