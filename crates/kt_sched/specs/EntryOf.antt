@@ -48,8 +48,8 @@ abbrev pub PutsInOrder : {S : Type 0} → (S → Entry → Result (Unit {0}) Sin
 PutsInOrder puts [] old new = new ≡ old
 PutsInOrder {S} puts (e ∷ es) old new = (mid : S) × puts old e (Ok tt) mid × PutsInOrder puts es mid new
 
--- `IsEntryOf plan T i entry`: `entry` is the entry of case `i` of `plan`, and the history of this
--- case in the trace `T` is whole.
+-- `IsEntryOf plan T i entry`: `entry` is the entry of case `i` of `plan`, and the case is over
+-- after the trace `T` (`is_whole`).
 pub record IsEntryOf (plan : List Job) (T : Trace) (i : ℕ) (entry : Entry) : Type 0 where
   pub job : Job
   pub place : slice_get plan i ≡ Some job
@@ -57,7 +57,7 @@ pub record IsEntryOf (plan : List Job) (T : Trace) (i : ℕ) (entry : Entry) : T
   pub entry_is : IsEntry job (of i T) entry
 
 -- `AreEntries plan T positions entries`: `entries` are, in order, the entries of the cases of
--- `plan` at `positions`. The history of each of these cases in the trace `T` is whole.
+-- `plan` at `positions`. Each of these cases is over after the trace `T` (`is_whole`).
 abbrev pub AreEntries : List Job → Trace → List ℕ → List Entry → Type 0
 AreEntries plan T [] [] = ⊤
 AreEntries plan T (p ∷ ps) (e ∷ es) = IsEntryOf plan T p e × AreEntries plan T ps es

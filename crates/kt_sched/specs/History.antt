@@ -31,9 +31,10 @@ kind_of_event (End ended) = end_kind ended.role
 abbrev pub history : ℕ → Trace → List EventKind
 history i T = map kind_of_event (of i T)
 
--- `is_whole job history`: `history` is a whole history of the case of `job`: no more events of the
--- case follow. For a decided case, it is empty. Otherwise, the start of the body was refused, or
--- the body ended. A declared cleanup then ended or was refused, too.
+-- `is_whole job history`: `history` is a whole history of the case of `job`: the case is over, and
+-- no more events of it follow. For a decided case, the history is empty. For another case, either
+-- the start of the body was refused, or the body ended. In the latter case, a declared cleanup has
+-- ended or was refused, too.
 abbrev pub is_whole : Job → List EventKind → Bool
 is_whole job [] = is_some job.decided
 is_whole job (BodyRefused ∷ []) = is_none job.decided
@@ -42,17 +43,19 @@ is_whole job (BodyStarted ∷ BodyEnded ∷ CleanupRefused ∷ []) = is_none job
 is_whole job (BodyStarted ∷ BodyEnded ∷ CleanupStarted ∷ CleanupEnded ∷ []) = is_none job.decided && job.cleanup
 is_whole job other = false
 
--- `is_body_started kind`: `kind` is the kind of a body's start.
+-- `is_body_started kind`: `kind` is the kind of a successful start of a body, not of a refused
+-- start.
 abbrev pub is_body_started : EventKind → Bool
 is_body_started BodyStarted = true
 is_body_started other = false
 
--- `has_whole_history T job`: the history of the case of `job` in the trace `T` is whole.
+-- `has_whole_history T job`: the history of the case of `job` in the trace `T` is whole: no more
+-- events of the case follow (`is_whole`).
 abbrev pub has_whole_history : Trace → Job → Bool
 has_whole_history T job = is_whole job (history job.position T)
 
 -- `is_active T job`: the case of `job` is active after the events `T`: its body was started, and
--- its history isn't whole. A pending or running cleanup keeps the case active.
+-- the case is not over (`is_whole`). A pending or running cleanup keeps the case active.
 abbrev pub is_active : Trace → Job → Bool
 is_active T job = list_any is_body_started (history job.position T) && not (has_whole_history T job)
 

@@ -10,14 +10,14 @@ use Rattle.kt_sched.specs.ScheduleRules.{pending_cleanup, IsBusy, IsExclusiveAtS
 use Rattle.kt_sched.specs.RecordOrder.{recorded, was_put_allowed}
 use Rattle.kt_sched.specs.Responses.{Responses, has_failed, runs}
 
--- `IsUpToDate plan n fed`: in the run of `plan` with the width `n`, no put is left. Each entry
--- whose put the events of the responses `fed` schedule is stored.
+-- `IsUpToDate plan n fed`: after the responses `fed` in the run of `plan` with the width `n`, no
+-- put is left: each put that the events schedule (`recorded`) has succeeded.
 abbrev pub IsUpToDate : List Job → ℕ → Responses → Type 0
 IsUpToDate plan n fed = slice_get (recorded plan n fed.trace) fed.stored ≡ None
 
--- `MayStartBody plan n T i`: the body of case `i` may start after the events `T`. It is the next
--- body of `plan` in turn order, fewer than `n` cases are active, and the rule of exclusive cases
--- allows the start.
+-- `MayStartBody plan n T i`: the body of case `i` of `plan` may start after the events `T`. It is
+-- the next body to start (`next_to_start`), and fewer than `n` cases are active. The rule of
+-- exclusive cases allows the start (`IsExclusiveAtStart`).
 pub record MayStartBody (plan : List Job) (n : ℕ) (T : Trace) (i : ℕ) : Type 0 where
   pub job : Job
   pub next : next_to_start plan T ≡ Some job
@@ -26,8 +26,9 @@ pub record MayStartBody (plan : List Job) (n : ℕ) (T : Trace) (i : ℕ) : Type
   pub exclusive : IsExclusiveAtStart plan T i Body
 
 -- `IsNext plan n fed next`: `next` is the step that must come next after the responses `fed`, in
--- the run of `plan` with the width `n`. If several steps apply, the order is a put, the start of a
--- cleanup, the start of a body, a wait. After a failed put, nothing is put and no body is started.
+-- the run of `plan` with the width `n`. If several steps are possible, a put comes first. Then come
+-- the start of a cleanup, the start of a body and a wait, in this order. After a failed put,
+-- nothing is put and no body is started.
 abbrev pub IsNext : List Job → ℕ → Responses → Next → Type 0
 IsNext plan n fed (next.Put i) = (has_failed fed ≡ false) × (slice_get (recorded plan n fed.trace) fed.stored ≡ Some i)
 IsNext plan n fed (next.Start i Cleanup) = (has_failed fed ≡ false → IsUpToDate plan n fed) × (pending_cleanup plan fed.trace ≡ Some i)
@@ -40,15 +41,16 @@ IsNext plan n fed next.Done =
     (has_failed fed ≡ false → IsUpToDate plan n fed) × (pending_cleanup plan fed.trace ≡ None) × (has_failed fed ≡ false → IsBusy plan n fed.trace)
     × ((i : ℕ) (role : Role) → runs i role fed.trace ≡ false)
 
--- `MayStartNow plan T i role`: case `i` of `plan` has no whole history after the events `T`, and
--- the rule of exclusive cases allows its start in the role `role`.
+-- `MayStartNow plan T i role`: case `i` of `plan` is not over after the events `T` (`is_whole`).
+-- The rule of exclusive cases allows its start in the role `role` (`IsExclusiveAtStart`).
 pub record MayStartNow (plan : List Job) (T : Trace) (i : ℕ) (role : Role) : Type 0 where
   pub job : Job
   pub place : slice_get plan i ≡ Some job
   pub unfinished : is_whole job (history i T) ≡ false
   pub exclusive : IsExclusiveAtStart plan T i role
 
--- `AreWhole plan T`: each case of `plan` that has an event in the trace `T` has a whole history.
+-- `AreWhole plan T`: each case of `plan` that has an event in the trace `T` is over: its history in
+-- `T` is whole (`is_whole`).
 abbrev pub AreWhole : List Job → Trace → Type 0
 AreWhole plan T = (i : ℕ) (job : Job) → slice_get plan i ≡ Some job → (of i T ≡ []) ⊎ (has_whole_history T job ≡ true)
 
@@ -57,10 +59,12 @@ AreWhole plan T = (i : ℕ) (job : Job) → slice_get plan i ≡ Some job → (o
 abbrev pub WerePutsAllowed : List Job → ℕ → Trace → Type 0
 WerePutsAllowed plan n T = (i : ℕ) (job : Job) → slice_get plan i ≡ Some job → is_some job.decided ≡ true → was_put_allowed plan n T job ≡ true
 
--- `Follows plan n fed next`: the facts that hold if `next` is the next step after the responses
--- `fed`, in the run of `plan` with the width `n`. A case to be started may start now
--- (`MayStartNow`). At a wait, a child runs. At the end of the run, each case with an event has a
--- whole history. If no put failed, each case of `plan` has a whole history.
+-- `Follows plan n fed next`: the facts that hold after the responses `fed`, in the run of `plan`
+-- with the width `n`, if `next` is the next step. A case to be started may start now
+-- (`MayStartNow`). A body starts as the first event of its case, and a cleanup right after the end
+-- of its body. At a wait, a child runs. At the end of the run, each case with an event is over. If
+-- no put failed, each case of `plan` is over, and each decided case could be put
+-- (`WerePutsAllowed`).
 abbrev pub Follows : List Job → ℕ → Responses → Next → Type 0
 Follows plan n fed (next.Put i) = ⊤
 Follows plan n fed (next.Start i Body) = MayStartNow plan fed.trace i Body × (history i fed.trace ≡ [])

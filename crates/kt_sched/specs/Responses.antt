@@ -22,7 +22,7 @@ abbrev pub has_failed : Responses → Bool
 has_failed fed = is_some fed.stopped
 
 -- `responses_after fed asked answer`: the responses `fed`, followed by the response `answer` to the
--- step `asked`. It is `fed` if `answer` does not fit this step.
+-- step `asked`. The result is `fed` if `answer` does not fit this step.
 abbrev pub responses_after : Responses → Next → Answer → Responses
 responses_after fed (next.Start i role) (answer.Started moment) = record fed { trace = Then fed.trace (Start i role (Started moment)) }
 responses_after fed (next.Start i role) (answer.Refused cause) = record fed { trace = Then fed.trace (Start i role (Refused cause)) }
@@ -43,7 +43,7 @@ abbrev pub runs : ℕ → Role → Trace → Bool
 runs i role T = role_runs role (history i T)
 
 -- `IsAnswerTo T asked answer`: `answer` is a possible response to the step `asked` after the events
--- `T`. An end is the end of a running child.
+-- `T`. If it reports the end of a child, this child runs after `T`.
 abbrev pub IsAnswerTo : Trace → Next → Answer → Type 0
 IsAnswerTo T (next.Start i role) (answer.Started moment) = ⊤
 IsAnswerTo T (next.Start i role) (answer.Refused cause) = ⊤

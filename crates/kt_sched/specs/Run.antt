@@ -41,8 +41,9 @@ pub record StartsNothing {S : Type 0} (T : Trace) (gained : List Entry) (before 
 
 module _ {S : Type 0} (puts : S → Entry → Result (Unit {0}) SinkFault → S → Type 0) where
   -- `HasFailedPut plan n T gained fault before after`: in the run of `plan` with the width `n` and
-  -- the trace `T`, the puts of the entries `gained` succeeded. The put of the next entry in record
-  -- order failed with `fault`. These puts lead the sink from `before` to `after`.
+  -- the trace `T`, the puts of the entries `gained` succeeded. The put that is scheduled after them
+  -- (`scheduled_puts`) failed with `fault`. All these puts lead the sink from the state `before` to
+  -- `after`.
   pub record HasFailedPut (plan : List Job) (n : ℕ) (T : Trace) (gained : List Entry) (fault : SinkFault) (before after : S) : Type 0 where
     pub next : ScheduledPut
     pub is_next : slice_get (scheduled_puts plan n T) (length gained) ≡ Some next
@@ -53,9 +54,9 @@ module _ {S : Type 0} (puts : S → Entry → Result (Unit {0}) SinkFault → S 
     pub fails : puts mid refused (Err fault) after
 
   -- `CompletesRun plan n T gained before after totals`: no put of the run of `plan` with the width
-  -- `n` failed, and its trace `T` is legal. The record order has each case once, and `gained` has
-  -- as many entries. The puts of these entries lead the sink from `before` to `after`, and `totals`
-  -- counts the entries.
+  -- `n` failed, and its trace `T` is legal. The put of each case is scheduled once (`recorded`),
+  -- and there are as many entries `gained` as cases. The puts of these entries lead the sink from
+  -- the state `before` to `after`, and `totals` counts the entries.
   pub record CompletesRun (plan : List Job) (n : ℕ) (T : Trace) (gained : List Entry) (before after : S) (totals : Totals) : Type 0 where
     pub legal : Legal plan n T
     pub once : NamesEachOnce plan (recorded plan n T)
@@ -64,17 +65,17 @@ module _ {S : Type 0} (puts : S → Entry → Result (Unit {0}) SinkFault → S 
     pub counts : Counts gained totals
 
   -- `FailsAtPut plan n T gained before after fault`: in the run of `plan` with the width `n` and
-  -- the trace `T`, the puts of the entries `gained` succeeded, and the next put failed with
-  -- `fault`. The puts lead the sink from `before` to `after`, and no body is started after the
-  -- failed put.
+  -- the trace `T`, the puts of the entries `gained` succeeded. The next scheduled put failed with
+  -- `fault`. All these puts lead the sink from the state `before` to `after`, and no body is
+  -- started after the failed put (`Stopped`).
   pub record FailsAtPut (plan : List Job) (n : ℕ) (T : Trace) (gained : List Entry) (before after : S) (fault : SinkFault) : Type 0 where
     pub failed : HasFailedPut plan n T gained fault before after
     pub stopped : Stopped plan n T failed.next.after
 
   -- `EndsAs plan n T gained before after result`: the run of `plan` with the width `n` and the
-  -- trace `T` returns `result`. The puts of the entries `gained` lead the sink from `before` to
-  -- `after`. For totals `CompletesRun` holds, for a failed put `FailsAtPut`, and for a failed
-  -- allocation `StartsNothing`.
+  -- trace `T` returns `result`. The sink gains the entries `gained` and goes from the state
+  -- `before` to `after`. `CompletesRun` holds if `result` has totals. `FailsAtPut` holds if it
+  -- reports a failed put, and `StartsNothing` if it reports a failed allocation.
   abbrev pub EndsAs : List Job → ℕ → Trace → List Entry → S → S → Result Totals RunFault → Type 0
   EndsAs plan n T gained before after (Ok totals) = CompletesRun plan n T gained before after totals
   EndsAs plan n T gained before after (Err (SinkFailed fault)) = FailsAtPut plan n T gained before after fault
@@ -82,10 +83,10 @@ module _ {S : Type 0} (puts : S → Entry → Result (Unit {0}) SinkFault → S 
 
 module _ {L S : Type 0} (l : launcher.Ghosts L) (s : sink.Ghosts S) where
   -- `RunsPlan plan n old new before after result`: the run of `plan` with the width `n` returns
-  -- `result`. A trace of responses leads the launcher from the state `old` to `new`. Each case has
-  -- at most 4 events and at most one put. From the state `before` to `after`, the sink gains the
-  -- entries of the first cases in record order. `l` and `s` are the relations of the launcher and
-  -- the sink.
+  -- `result` (`EndsAs`). Its trace leads the launcher from the state `old` to `new`. In the trace,
+  -- each case has at most 4 events and at most one scheduled put. The sink goes from the state
+  -- `before` to `after` and gains entries. They are the entries of the first scheduled puts, in
+  -- order. `l` and `s` are the relations of the launcher and the sink.
   pub record RunsPlan (plan : List Job) (n : ℕ) (old new : L) (before after : S) (result : Result Totals RunFault) : Type 0 where
     pub trace : Trace
     pub leads : Leads l.starts l.waits plan trace old new

@@ -39,7 +39,8 @@ is_active_stage (PendingCleanup b) = true
 is_active_stage (Cleaning b) = true
 is_active_stage _ = false
 
--- `stage_work stage`: the greatest number of steps that may follow for a case in the stage `stage`.
+-- `stage_work stage`: the greatest number of changes of the stage that may follow for a case in the
+-- stage `stage`, until the stage is `Taken`.
 abbrev pub stage_work : Stage → ℕ
 stage_work Waiting = 5
 stage_work Decided = 1
@@ -49,32 +50,33 @@ stage_work (Cleaning b) = 2
 stage_work (Finished t) = 1
 stage_work Taken = 0
 
--- `work cases`: the greatest number of steps that may follow for all `cases`.
+-- `work cases`: the greatest number of changes of a stage that may follow for all `cases` together
+-- (`stage_work`).
 abbrev pub work : List Case → ℕ
 work cases = sum_by (λ c. stage_work c.stage) cases
 
--- `ReducesWork next old new`: `old` and `new` are the work left before and after the response to
--- the step `next`. The response to a put keeps the work, and the response to a start or a wait
--- reduces it.
+-- `ReducesWork next old new`: `old` and `new` are the greatest numbers of changes of a stage that
+-- may follow (`work`), before and after the response to the step `next`. The response to a put
+-- keeps this number, and the response to a start or a wait reduces it. `Done` has no condition.
 abbrev pub ReducesWork : Next → ℕ → ℕ → Type 0
 ReducesWork (next.Put i) old new = new ≡ old
 ReducesWork (next.Start i role) old new = new < old
 ReducesWork next.Wait old new = new < old
 ReducesWork next.Done old new = ⊤
 
--- `unstarted_record verdict`: the record of a case that was not started and has the verdict
+-- `unstarted_record verdict`: the `CaseRecord` of a case that was not started and has the verdict
 -- `verdict`.
 abbrev pub unstarted_record : VerdictValue → CaseRecord
 unstarted_record verdict = record { verdict = verdict; started = 0; millis = 0; body = empty_output; cleanup = empty_output }
 
--- `record_in job stage`: the record of the case of `job` in the stage `stage`, if the stage is
--- `Finished` or `Decided`, else `None`.
+-- `record_in job stage`: the `CaseRecord` of the case of `job` in the stage `stage`. It is `None`
+-- if the stage is neither `Finished` nor `Decided`.
 abbrev pub record_in : Job → Stage → Option CaseRecord
 record_in job (Finished t) = Some t
 record_in job Decided = option_map unstarted_record job.decided
 record_in job _ = None
 
--- `entry_with job t`: the entry of `job` with the record `t`.
+-- `entry_with job t`: the entry of `job` with the `CaseRecord` `t`.
 abbrev pub entry_with : Job → CaseRecord → Entry
 entry_with job t = entry job t.verdict t.started t.millis t.body t.cleanup
 
@@ -122,20 +124,23 @@ is_decided_stage _ = false
 abbrev pub HasDecidedFlag : List Case → ℕ → Bool → Type 0
 HasDecidedFlag cases i flag = (c : Case) × (slice_get cases i ≡ Some c) × (is_decided_stage c.stage ≡ flag)
 
--- `HasTurn b i`: in the state `b`, case `i` is next in turn order, no put failed, and there is a
--- free slot for the case: fewer cases are active than the width, and none if case `i` is exclusive.
+-- `HasTurn b i`: in the state `b`, case `i` is the next case in turn order (exclusive cases come
+-- last). No put failed, and the case may be started, or its entry be put: fewer cases are active
+-- than the width, and none if case `i` is exclusive.
 abbrev pub HasTurn : SchedState → ℕ → Type 0
 HasTurn b i = (b.failed ≡ false) × (slice_get b.order b.turn ≡ Some i) × (b.active < b.width) × (b.active ≡ 0 ⊎ HasExclusiveFlag b.cases i false)
 
--- `IsSettled b`: in the state `b`, no decided case can be made ready to be put. Either a put
--- failed, a case is ready already, or the next case in turn order is not decided or has no free
--- slot.
+-- `IsSettled b`: in the state `b`, no entry of a decided case can be made ready to be put. Either a
+-- put failed, a case is ready already, or no case is left. Otherwise, the next case in turn order
+-- (exclusive cases come last) is not decided, or must wait for active cases (`HasTurn`).
 abbrev pub IsSettled : SchedState → Type 0
 IsSettled b = b.ready ≡ None → (i : ℕ) → HasTurn b i → HasDecidedFlag b.cases i false
 
 -- `HasRequested b next`: the scheduler may be in the state `b` after it requested the step `next`.
--- A put is that of the ready case, and before a start or a wait no case is ready. The start of a
--- cleanup is that of the pending case. Before the start of a body or a wait, no cleanup is pending.
+-- A put is the put of the ready case, and no put failed before. At a start or a wait, no case is
+-- ready or can be made ready (`IsSettled`). A cleanup to be started is that of the pending case. At
+-- the start of a body or a wait, no cleanup is pending. A body is that of the next case
+-- (`HasTurn`), and at a wait, a case is active. `Done` has no condition.
 abbrev pub HasRequested : SchedState → Next → Type 0
 HasRequested b (next.Start i Body) = (b.ready ≡ None) × (b.pending ≡ None) × HasTurn b i × IsSettled b
 HasRequested b (next.Start i Cleanup) = (b.ready ≡ None) × (b.pending ≡ Some i) × IsSettled b
@@ -143,7 +148,8 @@ HasRequested b next.Wait = (b.ready ≡ None) × (b.pending ≡ None) × (0 < b.
 HasRequested b (next.Put i) = (b.failed ≡ false) × (b.ready ≡ Some i)
 HasRequested b next.Done = ⊤
 
--- `HasRecord cases i`: case `i` of `cases` has a record, so `Sched::take` can return its entry.
+-- `HasRecord cases i`: case `i` of `cases` has a `CaseRecord` (`record_in`), so `Sched::take` can
+-- return its entry.
 abbrev pub HasRecord : List Case → ℕ → Type 0
 HasRecord cases i = (c : Case) × (t : CaseRecord) × (slice_get cases i ≡ Some c) × (record_in c.job c.stage ≡ Some t)
 
@@ -161,18 +167,20 @@ abbrev pub is_undecided : Job → Bool
 is_undecided job = is_none job.decided
 
 -- `allowed_puts plan n T turn`: the decided jobs of `plan` whose entries may be put after the
--- events `T`, with the width `n`. They are at the index `turn` or later in turn order.
+-- events `T`, with the width `n`. Jobs before the index `turn` in turn order (exclusive jobs come
+-- last) are left out.
 abbrev pub allowed_puts : List Job → ℕ → Trace → ℕ → List Job
 allowed_puts plan n T turn = filter (is_put_allowed plan n T) (drop turn (turns plan))
 
--- `positions jobs`: the positions of `jobs`, in order.
+-- `positions jobs`: the positions in the plan of the jobs in the list `jobs`, in the order of the
+-- list.
 abbrev pub positions : List Job → List ℕ
 positions jobs = map (λ (job : Job). job.position) jobs
 
--- `TracksAllowedPuts plan n T turn`: `turn` is an index in the turn order of `plan`, after the
--- events `T` and with the width `n`. The puts of all decided cases before this index were allowed
--- after `T` or a prefix of `T`. From this index on, each put that was ever allowed is still allowed
--- after `T`.
+-- `TracksAllowedPuts plan n T turn`: `turn` is an index in the turn order of `plan` (exclusive
+-- cases come last), after the events `T` and with the width `n`. The puts of all decided cases
+-- before this index were allowed after `T` or a prefix of `T`. From this index on, each put that
+-- was ever allowed is still allowed after `T`.
 pub record TracksAllowedPuts (plan : List Job) (n : ℕ) (T : Trace) (turn : ℕ) : Type 0 where
   pub gone : (k : ℕ) (job : Job) → k < turn → slice_get (turns plan) k ≡ Some job → is_decided job ≡ true → was_put_allowed plan n T job ≡ true
   pub due : (k : ℕ) (job : Job) → turn ≤ k → slice_get (turns plan) k ≡ Some job → was_put_allowed plan n T job ≡ is_put_allowed plan n T job
@@ -189,9 +197,10 @@ is_pending_case None k = false
 is_pending_case (Some i) k = k == i
 
 -- `RepresentCases plan n T cases a width pending`: `cases`, `a`, `width` and `pending` are fields
--- of the state of a scheduler. The scheduler has the plan `plan`, the width `n` and the events `T`.
--- `a` is the number of active cases, at most the width, and at most 1 if an exclusive case is
--- active. `pending` is the case whose cleanup is to be started.
+-- of the state of a scheduler of `plan` with the width `n`, after the events `T`. `cases` has each
+-- case in its stage. `a` is the number of active cases, at most `n`, and 1 if an exclusive case is
+-- active. `width` is `n`. `pending` is the position of the case whose cleanup is to be started, if
+-- any.
 pub record RepresentCases (plan : List Job) (n : ℕ) (T : Trace) (cases : List Case) (a width : ℕ) (pending : Option ℕ) : Type 0 where
   pub is_plan : IsPlan plan
   pub room : 0 < n
@@ -207,8 +216,9 @@ pub record RepresentCases (plan : List Job) (n : ℕ) (T : Trace) (cases : List 
   pub owed_within : (k : ℕ) → pending ≡ Some k → k < length cases
 
 -- `RepresentsTurn plan T cases order turn`: `cases`, `order` and `turn` are fields of the state of
--- a scheduler of `plan` after the events `T`. `order` is the turn order, and `turn` is the index of
--- its next case. Exactly the undecided cases before this index were started.
+-- a scheduler of `plan` after the events `T`. `order` has the positions of the cases in turn order
+-- (exclusive cases come last). `turn` is the index of the next case in `order`. Exactly the
+-- undecided cases before this index were started or refused.
 pub record RepresentsTurn (plan : List Job) (T : Trace) (cases : List Case) (order : List ℕ) (turn : ℕ) : Type 0 where
   pub walk : order ≡ positions (turns plan)
   pub within : turn ≤ length order
@@ -216,10 +226,11 @@ pub record RepresentsTurn (plan : List Job) (T : Trace) (cases : List Case) (ord
   pub met : (k i : ℕ) (c : Case) → slice_get order k ≡ Some i → slice_get cases i ≡ Some c
       → (turn ≤ k → is_waiting_stage c.stage ≡ true) × (k < turn → c.stage ≢ Waiting)
 
--- `RepresentPuts plan n fed order turn next stop`: `stop` is true if a put of the responses `fed`
--- failed. Otherwise, `next` and `turn` determine the puts that are left in the run of `plan` with
--- the width `n`. The first is the put of the ready case `next`, if any. Then come the puts of
--- `allowed_puts` for the index `turn`. `order` is the turn order.
+-- `RepresentPuts plan n fed order turn next stop`: the fields `order`, `turn`, `next` and `stop` of
+-- a scheduler's state represent the puts that are left after the responses `fed`. `plan` and `n`
+-- are the plan and the width of the run. `stop` is true if a put failed. Otherwise, the first put
+-- left is that of the ready case `next`, if any. Then come the puts of `allowed_puts` for `turn`,
+-- an index in the turn order `order`.
 pub record RepresentPuts (plan : List Job) (n : ℕ) (fed : Responses) (order : List ℕ) (turn : ℕ) (next : Option ℕ) (stop : Bool) : Type 0 where
   pub failed : stop ≡ has_failed fed
   pub stopped : stop ≡ true → next ≡ None
@@ -251,8 +262,9 @@ IsReachable b = (plan : List Job) × (n : ℕ) × (fed : Responses) × Represent
 abbrev pub IsAnswer : SchedState → Answer → Type 0
 IsAnswer b answer = (plan : List Job) × (n : ℕ) × (fed : Responses) × RepresentsRun plan n fed b × IsAnswerTo fed.trace b.asked answer
 
--- `RecordsEvent old e new`: the event `e` leads the scheduler from the state `old` to the state
--- `new`, which represents one more event and has less work left.
+-- `RecordsEvent old e new`: the event `e` leads the scheduler from the state `old` to `new`. If
+-- `old` represents a run, `new` represents this run with `e` as one more event. Fewer changes of a
+-- stage may follow than before (`work`), and no step is requested.
 pub record RecordsEvent (old : SchedState) (e : Event) (new : SchedState) : Type 0 where
   pub stands : HoldsForEachRun old (λ plan n fed. RepresentsRun plan n (record fed { trace = Then fed.trace e }) new)
   pub less : work new.cases < work old.cases

@@ -13,7 +13,8 @@ abbrev pub HoldsAtEachEvent : (Trace → Event → Type 0) → Trace → Type 0
 HoldsAtEachEvent P NoEvent = ⊤
 HoldsAtEachEvent P (Then T e) = HoldsAtEachEvent P T × P T e
 
--- `Order plan T`: the bodies in the trace `T` start in the turn order of `plan`.
+-- `Order plan T`: the bodies in the trace `T` start in the turn order of `plan`: exclusive cases
+-- come last, and decided cases are left out. Refused starts count, too.
 abbrev pub Order : List Job → Trace → Type 0
 Order plan T = body_starts T ≡ map (λ job. job.position) (take (length (body_starts T)) (undecided_turns plan))
 
@@ -24,7 +25,7 @@ KeepsWidth plan n T (Start i Body answer) = active plan T < n
 KeepsWidth plan n T other = ⊤
 
 -- `IsQuiet plan T`: after the events `T`, no case of `plan` is active, and each case that is not
--- exclusive has a whole history.
+-- exclusive is over (`is_whole`).
 abbrev pub IsQuiet : List Job → Trace → Type 0
 IsQuiet plan T = (active plan T ≡ 0) × (list_all (λ (job : Job). job.exclusive || has_whole_history T job) plan ≡ true)
 
@@ -37,7 +38,7 @@ pub record IsExclusiveAtStart (plan : List Job) (T : Trace) (i : ℕ) (role : Ro
   pub own : (job : Job) (k : ℕ) → slice_get plan k ≡ Some job → job.exclusive ≡ true → is_active T job ≡ true → (k ≡ i) × (role ≡ Cleanup)
 
 -- `KeepsExclusive plan T event`: if `event` is a start of a case of `plan`, the rule of exclusive
--- cases allows this start after the events `T`.
+-- cases allows this start after the events `T` (`IsExclusiveAtStart`).
 abbrev pub KeepsExclusive : List Job → Trace → Event → Type 0
 KeepsExclusive plan T (Start i role answer) = IsExclusiveAtStart plan T i role
 KeepsExclusive plan T (End ended) = ⊤
@@ -76,7 +77,8 @@ WaitsWhenBusy plan n T (Start i role answer) = ⊤
 WaitsWhenBusy plan n T (End ended) = IsBusy plan n T
 
 -- `Legal plan n T`: `T` is the trace of a run of `plan` with the width `n` without a failed put.
--- Each case has a whole history. The rules of order, width, exclusiveness, cleanups and waits hold.
+-- Each case is over after `T` (`is_whole`). The rules of order, width, exclusiveness, cleanups and
+-- waits hold.
 pub record Legal (plan : List Job) (n : ℕ) (T : Trace) : Type 0 where
   pub whole : list_all (has_whole_history T) plan ≡ true
   pub order : Order plan T
@@ -86,8 +88,8 @@ pub record Legal (plan : List Job) (n : ℕ) (T : Trace) : Type 0 where
   pub busy : HoldsAtEachEvent (WaitsWhenBusy plan n) T
 
 -- `Stopped plan n T k`: `T` is the trace of a run of `plan` with the width `n`, in which a put
--- failed after `k` events. No body starts after these events, and each case that has an event has a
--- whole history. The rules of order, width, exclusiveness and cleanups hold. The rule of waits
+-- failed after `k` events. No body starts after these events, and each case that has an event is
+-- over (`is_whole`). The rules of order, width, exclusiveness and cleanups hold. The rule of waits
 -- holds for the first `k` events only.
 pub record Stopped (plan : List Job) (n : ℕ) (T : Trace) (k : ℕ) : Type 0 where
   pub starts : body_starts T ≡ body_starts (first k T)

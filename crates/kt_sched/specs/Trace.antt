@@ -34,7 +34,7 @@ abbrev pub event_count : Trace → ℕ
 event_count NoEvent = 0
 event_count (Then T e) = event_count T + 1
 
--- `first k T`: the first `k` events of `T`.
+-- `first k T`: the first `k` events of `T`, or all its events if it has fewer.
 abbrev pub first : ℕ → Trace → Trace
 first k NoEvent = NoEvent
 first k (Then T e) = if nat_le (event_count T + 1) k then Then T e else first k T

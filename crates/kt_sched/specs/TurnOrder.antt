@@ -20,8 +20,8 @@ body_starts (Then T e) = body_starts T ++ body_start_of e
 abbrev pub turns : List Job → List Job
 turns plan = filter (λ job. not job.exclusive) plan ++ filter (λ job. job.exclusive) plan
 
--- `undecided_turns plan`: the jobs of `plan` without a decided verdict, in turn order. Their bodies
--- are to be started.
+-- `undecided_turns plan`: the jobs of `plan` without a decided verdict, in turn order (exclusive
+-- jobs come last). Their bodies are to be started.
 abbrev pub undecided_turns : List Job → List Job
 undecided_turns plan = filter (λ job. is_none job.decided) (turns plan)
 

@@ -15,7 +15,7 @@ pub fn empty_output(alloc: Global) -> Output
     }
 }
 
-/// Creates the record of a case that was not started and has the verdict `verdict`.
+/// Creates the `CaseRecord` of a case that was not started and has the verdict `verdict`.
 ///
 /// The verdict was decided before the run, or the start of the body was refused.
 pub fn unstarted_record(alloc: Global, verdict: Verdict) -> CaseRecord

@@ -8,8 +8,8 @@ use std::mem;
 
 /// Returns the entry of case `i`, moved out of `cases`.
 ///
-/// The case must be over or decided, and its stage is then `Taken`. Names, reason, outputs and
-/// properties are moved, not copied.
+/// Before the call, the stage of the case must be `Finished` or `Decided`. After the call, it is
+/// `Taken`. Names, reason, outputs and properties are moved, not copied.
 pub fn take_entry(alloc: Global, cases: &mut Vec<Case>, i: u32) -> Entry
     requires { HasRecord cases.old.items i }
     ensures { TakesEntry cases.old.items cases.new.items i result }

@@ -16,12 +16,13 @@ pub trait Launcher {
     ghost use Rattle.kt_sched.specs.Trace.{HasMoment};
     ghost use Rattle.kt_sched.specs.Plan.{IsFit};
 
-    /// The running child of the case at a position, in a role, or `None` if no such child runs. A
-    /// child is described by the interface of its case, and by whether the case declares a cleanup.
+    /// The running child of the case at a position in the plan, in a role, or `None` if no such
+    /// child runs. A child is described by the interface of its case, and by whether the case
+    /// declares a cleanup.
     ghost running: { Self → ℕ → Role → Option Child };
 
-    /// `true` if the body of the case at a position ended, and the start of its declared cleanup
-    /// was not requested yet.
+    /// `true` if the body of the case at a position in the plan ended, and the start of its
+    /// declared cleanup was not requested yet.
     ghost pending: { Self → ℕ → Bool };
 
     /// The relation of the launcher's states before and after the start of a job's body or cleanup,

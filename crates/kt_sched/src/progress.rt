@@ -91,11 +91,12 @@ pub fn count_active(active: u32, width: u32, before: bool, stage: &Stage) -> u32
     }
 }
 
-/// Returns the index in turn order of the next case to start, after a body or a cleanup was
-/// requested to start, as `role` selects.
+/// Returns the index of the next case in turn order, after the start of a body or a cleanup was
+/// requested, as `role` selects.
 ///
-/// `turn` is the index before the start. The start of a body adds 1 to it, even if the launcher
-/// refused the start. The start of a cleanup keeps it. `cases` is the number of cases.
+/// In turn order, exclusive cases come last. `turn` is the index before the start. The start of a
+/// body adds 1 to it, even if the launcher refused the start. The start of a cleanup keeps it.
+/// `cases` is the number of cases.
 pub fn turn_after_start(turn: usize, cases: usize, role: Role) -> usize
     requires { role ≡ TheBody → turn < cases }
     ensures { result ≡ turn + cond (is_same_role role TheBody) 1 0 }
@@ -106,8 +107,8 @@ pub fn turn_after_start(turn: usize, cases: usize, role: Role) -> usize
     }
 }
 
-/// Returns the fields `pending` and `ready` of the scheduler after an event of the case at position
-/// `i`.
+/// Returns the new values of the scheduler's fields `pending` and `ready` after an event of the
+/// case at position `i`.
 ///
 /// `stage` is the new stage of the case, and `failed` is `true` if a put failed. The first result
 /// is `i` if the cleanup of the case is to be started next, else `None`. The second result is `i`

@@ -20,8 +20,8 @@ pub struct Sched {
     cases: Vec<Case>,
     /// The positions of all cases in turn order: exclusive cases come after all others.
     order: Vec<u32>,
-    /// The index in `order` of the next case to be started, or to be put if its verdict is decided.
-    /// It is the length of `order` if no such case is left.
+    /// The index in `order` of the next case: its body is to be started or, if its verdict is
+    /// decided, its entry is to be put. It is the length of `order` if no such case is left.
     turn: usize,
     /// The number of active cases, at most `width`. A case is active from the start of its body
     /// until it is over.
@@ -32,7 +32,7 @@ pub struct Sched {
     pending: Option<u32>,
     /// The position of the case whose entry is to be put next, if any.
     ready: Option<u32>,
-    /// The step that `next` returned last, or `Done` once the response to that step was recorded.
+    /// The step that `next` returned last, if its response was not recorded yet, else `Done`.
     asked: Next,
     /// `true` if the put of an entry into the sink failed.
     failed: bool,
@@ -195,8 +195,8 @@ impl Sched {
 
     /// Returns the next step of the run, or `Done` if no step is left.
     ///
-    /// If several steps apply, the order is: a put, the start of a cleanup, the start of a body, a
-    /// wait.
+    /// If several steps are possible, a put comes first. Then come the start of a cleanup, the
+    /// start of a body and a wait, in this order.
     pub fn next(&mut self) -> Next
         ensures next { HoldsForEachRun self.old (λ plan n fed. IsNext plan n fed result) }
         ensures only { HoldsForEachRun self.old
@@ -216,11 +216,14 @@ impl Sched {
         next
     }
 
-    /// Makes the next case in turn order ready to be put, if its verdict was decided before the
-    /// run.
+    /// Makes the entry of the next case ready to be put, if the verdict of the case was decided
+    /// before the run.
     ///
-    /// Does nothing if a put failed, another case is ready, the next case is not decided, or there
-    /// is no free slot for it.
+    /// The next case is that at the index `turn` of `order`.
+    ///
+    /// Does nothing if a put failed, another case is ready, or the next case is not decided. Also
+    /// does nothing if the next case must wait for active cases (`startable_case`), or no case is
+    /// left.
     fn mark_decided_ready(&mut self)
         ensures stands { HoldsForEachRun self.old (λ plan n fed. RepresentsRun plan n fed self.new) }
         ensures same { self.new.cases ≡ self.old.cases }
@@ -242,7 +245,11 @@ impl Sched {
         self.asked = Next::Done;
     }
 
-    /// Selects the next step: a put first, then a cleanup, then a body, then a wait, else `Done`.
+    /// Returns the next step of the run, and does not record it.
+    ///
+    /// The first of these steps that is possible is returned: the put of the ready case, the start
+    /// of the pending cleanup, the start of the next body, a wait. If none is possible, `Done` is
+    /// returned.
     fn choose_step(&self) -> Next
         ensures { IsChosen self.now result }
     {
@@ -259,12 +266,14 @@ impl Sched {
         }
     }
 
-    /// Returns the position of the next case in turn order, if no put failed and there is a free
-    /// slot for the case, else `None`.
+    /// Returns the position of the next case in turn order (exclusive cases come last). Returns
+    /// `None` if no case is left, or if this case may not start now.
     ///
-    /// There is a free slot if fewer than `width` cases are active. For an exclusive case, no case
-    /// may be active. A case is active until its cleanup is over. Exclusive cases are last in turn
-    /// order, so none of them is active if the next case is not exclusive.
+    /// No case may start after a failed put, or if `width` cases are active. An exclusive case may
+    /// start only if no case is active. A case is active until its cleanup is over.
+    ///
+    /// If the next case is not exclusive, no exclusive case is active, because exclusive cases come
+    /// last.
     fn startable_case(&self) -> Option<u32>
         ensures { IsStartableCase self.now result }
     {
@@ -284,7 +293,8 @@ impl Sched {
     /// Records the response to the put of the entry of case `i`, where `failed` is `true` if the
     /// put failed.
     ///
-    /// After a failed put, nothing is put and no body is started.
+    /// `next` must have returned this put last. After a failed put, nothing is put and no body is
+    /// started.
     pub(crate) fn put(&mut self, i: u32, failed: bool)
         requires { self.old.asked ≡ Next.Put i }
         ensures same { self.new.cases ≡ self.old.cases }

@@ -6,8 +6,8 @@ use kt_base::{Output, Verdict};
 pub enum Stage {
     /// The body was not started yet, and is to be started in turn order: exclusive cases come last.
     Waiting,
-    /// The verdict was decided before the run, and the entry is to be recorded when the case comes
-    /// next in turn order.
+    /// The verdict was decided before the run. The entry is to be recorded when the case comes next
+    /// in turn order (exclusive cases come last).
     Decided,
     /// The body runs. It was started at this timestamp, in milliseconds since 1970 in UTC.
     Running(u64),
@@ -15,7 +15,7 @@ pub enum Stage {
     PendingCleanup(EndedBody),
     /// The cleanup runs. The body ended with this data.
     Cleaning(EndedBody),
-    /// The case is over, with this record, and its entry is to be recorded.
+    /// The case is over, with this result, and its entry is to be recorded.
     Finished(CaseRecord),
     /// The entry of the case was moved out to be put into the sink, or a function is replacing the
     /// stage.

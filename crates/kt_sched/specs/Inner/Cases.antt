@@ -42,15 +42,15 @@ pub record TakesEntry (old new : List Case) (i : ℕ) (entry : Entry) : Type 0 w
   pub is : entry ≡ entry_with had case_record
   pub changed : new ≡ slice_set old i (record { job = left; stage = Taken })
 
--- `record_after_cleanup verdict body last output`: the record of a case with the verdict `verdict`
--- and the ended body `body`. Its cleanup has the output `output`, and was over at the timestamp
--- `last`.
+-- `record_after_cleanup verdict body last output`: the `CaseRecord` of a case with the verdict
+-- `verdict` and the ended body `body`. Its cleanup ended, or its start was refused. `output` is the
+-- output of the cleanup. The duration of the case ends at the timestamp `last`.
 abbrev pub record_after_cleanup : VerdictValue → EndedBody → ℕ → Output → CaseRecord
 record_after_cleanup verdict body last output =
     record { verdict = verdict; started = body.started; millis = last - body.started; body = body.output; cleanup = output }
 
--- `record_without_cleanup verdict started e`: the record of a case with the verdict `verdict` and
--- without a declared cleanup. Its body started at the timestamp `started` and ended with `e`.
+-- `record_without_cleanup verdict started e`: the `CaseRecord` of a case with the verdict `verdict`
+-- and without a declared cleanup. Its body started at the timestamp `started` and ended with `e`.
 abbrev pub record_without_cleanup : VerdictValue → ℕ → Ended → CaseRecord
 record_without_cleanup verdict started e =
     record { verdict = verdict; started = started; millis = e.moment - started; body = e.output; cleanup = empty_output }
@@ -84,8 +84,8 @@ abbrev pub pending_at : Stage → ℕ → Option ℕ
 pending_at (PendingCleanup b) i = Some i
 pending_at _ i = None
 
--- `is_over stage`: a case in the stage `stage` has a whole history: the stage is `Decided`,
--- `Finished` or `Taken`.
+-- `is_over stage`: a case in the stage `stage` is over, so no more events of it follow: the stage
+-- is `Decided`, `Finished` or `Taken`.
 abbrev pub is_over : Stage → Bool
 is_over Decided = true
 is_over (Finished t) = true
