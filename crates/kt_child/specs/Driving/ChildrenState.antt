@@ -10,7 +10,7 @@ pub record ChildrenState : Type 0 where
   pub children : List RunningChild
   pub pending : List CaseAttempt
 
--- `idle_state`: no child is running and no cleanup is pending.
+-- `idle_state`: the state in which no child is running and no cleanup is pending.
 abbrev pub idle_state : ChildrenState
 idle_state = record { children = []; pending = [] }
 

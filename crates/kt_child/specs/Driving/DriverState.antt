@@ -27,8 +27,9 @@ pub record DriverState : Type 0 where
   pub owed : List CaseAttempt
   pub next : ℕ
 
--- `polled_children children`: the running children `children`, each with the responses that its
--- poll counts represent. By `CallsMatchTraces`, a child has no other responses.
+-- `polled_children children`: the running children `children` as `PolledChild`, each with the
+-- results of its polls and its kill. The poll counts of a child determine these results
+-- (`responses_so_far`).
 abbrev pub polled_children : List RunningChild → List PolledChild
 polled_children children = map (λ k. record { case = k.case; limit = k.limit; heard = responses_so_far k.limit k.watch }) children
 
@@ -51,7 +52,8 @@ TakesAttemptNumber old (Some number) new = (old < 2 ^ 64 - 1) × (number ≡ old
 
 -- `TakesCase root old job role c new`: `c` is the case for the start of a child of `job` in `role`.
 -- The driver state goes from `old` to `new`. A body gets the next attempt number and its paths
--- below `root`. A cleanup gets the number and the paths of the pending case, which is removed.
+-- below `root`, the driver's root directory. A cleanup gets the number and the paths of the pending
+-- case of `job`, which is removed.
 abbrev pub TakesCase : List ℕ → DriverState → Job → Role → CaseAttempt → DriverState → Type 0
 TakesCase root old job Body c new =
     TakesAttemptNumber old.next (Some c.attempt) new.next × (new.owed ≡ old.owed) × (c ≡ case_of job Body old.next (paths_of root old.next))
@@ -84,7 +86,7 @@ child_with_response a answer = record { case = a.case; limit = a.limit; heard = 
 
 -- `AddsResponse old call new`: `call` takes the running children from `old` to `new`. In `new`, the
 -- child that it polls or kills has the result as one more response. A pause changes no child. The
--- names of children are unique (`HasUniqueNumbers` of Numbers).
+-- names of children are unique in a driver (`HasUniqueNumbers`), so `call` determines the child.
 pub data AddsResponse : List PolledChild → Call → List PolledChild → Type 0 where
   polled : (a : PolledChild) (others : List PolledChild) (answer : Result Polled OsFault)
       → AddsResponse (a ∷ others) (Poll (child_of a.case) answer) (child_with_response a (PollResponse answer) ∷ others)
@@ -94,8 +96,8 @@ pub data AddsResponse : List PolledChild → Call → List PolledChild → Type 
   paused : (alive : List PolledChild) (done : Bool) → AddsResponse alive (Pause done) alive
 
 -- `FinishesByPolls old polls after place over outcome`: `polls` take the running children from
--- `old` to `after`. The child at the index `place` of `after` is `over`. It has finished with
--- `outcome`, which follows from all its responses (`Yields`).
+-- `old` to `after`. In `after`, `over` is the child at the index `place`. This child has finished
+-- with `outcome`, which follows from all its responses (`Yields`).
 abbrev pub FinishesByPolls : List PolledChild → List Call → List PolledChild → ℕ → PolledChild → Outcome → Type 0
 FinishesByPolls old polls after place over outcome =
     Chain AddsResponse old polls after × (slice_get after place ≡ Some over) × Yields over.limit over.heard outcome
@@ -117,8 +119,9 @@ pub record Ends (old : DriverState) (calls : List Call) (e : Ended) (new : Drive
   pub next : new.next ≡ old.next
 
 -- `WaitsForEnd children old calls e left new`: `calls` are the calls of a wait, which returns the
--- end `e` of a child. They take the driver state from `old` to `new` (`Ends`). Their polls take the
--- running `children` to `left`, which lack the finished child (`PollsInTurns`).
+-- end `e` of a child. They take the driver state from `old` to `new` (`Ends`). `children` are the
+-- running children before the polls (`PollsInTurns`). `left` are the running children after them,
+-- without the finished child.
 abbrev pub WaitsForEnd : List RunningChild → DriverState → List Call → Ended → List RunningChild → DriverState → Type 0
 WaitsForEnd children old calls e left new =
     (end : Ends old calls e new) × (after : List RunningChild) × PollsInTurns children end.polls end.place e.outcome after × (left ≡ remove after end.place)

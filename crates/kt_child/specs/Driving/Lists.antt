@@ -14,7 +14,7 @@ use Rattle.kt_child.specs.Ending.Reads.{IsListWithin, list_of}
 -- `AwaitsList plan c calls outcome bytes`: `plan` and `c` are the `SpawnPlan` and the case of a
 -- program that lists its test cases. `calls` poll the program until it has finished, read at most
 -- 1,048,576 bytes of its output and remove its directory. `outcome` follows from all responses to
--- the polls, and `bytes` is the output.
+-- the polls, and `bytes` is the list in the output (`list_of`).
 abbrev pub AwaitsList : SpawnPlan → CaseAttempt → List Call → Outcome → ListBytes → Type 0
 AwaitsList plan c calls outcome bytes =
     (place : ℕ) × (left : List RunningChild) × (polls : List Call) × (read : Result FileRead OsFault) × (done : Bool)
@@ -25,7 +25,7 @@ AwaitsList plan c calls outcome bytes =
 
 -- `RunsList plan c calls result`: `plan` and `c` are the `SpawnPlan` and the case of a program that
 -- lists its test cases. `calls` are all calls from the start of the program to the removal of its
--- directory. `result` is the cause of a refusal, or the program's outcome and output.
+-- directory. `result` is the cause of a refusal, or the program's outcome and its list.
 abbrev pub RunsList : SpawnPlan → CaseAttempt → List Call → Listing → Type 0
 RunsList plan c calls (RefusedFor cause) = SpawnsByPlan plan calls (Err cause)
 RunsList plan c calls (Ended outcome bytes) =

@@ -51,8 +51,8 @@ abbrev pub numbers : DriverState → List ℕ
 numbers b = map (λ a. a.case.attempt) b.alive ++ map (λ c. c.attempt) b.owed
 
 -- `HasUniqueNumbers b`: each attempt number occurs at most once among the cases with a running
--- child or a pending cleanup in the driver state `b`. Each is lower than the next number. So no two
--- children of `b` have the same name.
+-- child or a pending cleanup in the driver state `b`. Each is lower than the number of the next
+-- attempt. So no two children of `b` have the same name.
 abbrev pub HasUniqueNumbers : DriverState → Type 0
 HasUniqueNumbers b = (n : ℕ) → (occurrences n (numbers b) ≤ 1) × (b.next ≤ n → occurrences n (numbers b) ≡ 0)
 

@@ -7,12 +7,13 @@ use Rattle.kt_child.specs.declared.driving.driver.DriverFault.TheVariants.{NoMem
 use Rattle.kt_os.specs.declared.system.OsFault.TheVariants.{Failed, Memory}
 use Rattle.kt_os.specs.System.Calls.{Call, MakeDir}
 
--- `root_of base number`: the path of the root directory with the number `number` below `base`.
+-- `root_of base number`: the path `BASE/kyua.NUMBER` of a driver's root directory below the
+-- directory `base`.
 abbrev pub root_of : List ℕ → ℕ → List ℕ
 root_of base number = base ++ codes "/kyua." ++ decimal number
 
--- `FailsToCreateRoots base n calls`: `calls` fail to create the first `n` root directories below
--- `base`, in order.
+-- `FailsToCreateRoots base n calls`: `calls` are `n` failed calls, which try to create the root
+-- directories `kyua.0`, `kyua.1` and so on below `base`, in order.
 abbrev pub FailsToCreateRoots : List ℕ → ℕ → List Call → Type 0
 FailsToCreateRoots base zero calls = calls ≡ []
 FailsToCreateRoots base (suc n) calls =
@@ -20,8 +21,8 @@ FailsToCreateRoots base (suc n) calls =
 
 -- `CreatesRoot base calls result`: `calls` try to create the root directories `kyua.0` to
 -- `kyua.999` below `base`, in order, until one succeeds. `result` is the path of the created
--- directory. If an allocation fails, `calls` are the failed calls before it. If all 1,000 calls
--- fail, `result` is `NoWorkDirectory`.
+-- directory. If an allocation fails, `result` is `NoMemory`, and `calls` are the failed calls
+-- before the allocation. If all 1,000 calls fail, `result` is `NoWorkDirectory`.
 abbrev pub CreatesRoot : List ℕ → List Call → Result (List ℕ) DriverFault → Type 0
 CreatesRoot base calls (Ok root) =
     (n : ℕ) × (n < 1000) × (failed : List Call) × FailsToCreateRoots base n failed

@@ -11,7 +11,7 @@ use Rattle.kt_os.specs.System.Calls.{Call, SetLimit, MakeDir, OpenOutput, Spawn,
 use Rattle.kt_sched.specs.Children.{is_same_role}
 
 -- `StartCall`: one call to the system for a start. `call` is the call as a function of its result.
--- `cause` is the cause of the refusal if the call fails for another reason than memory.
+-- `cause` is the cause of the refusal if the call fails, unless an allocation failed.
 pub record StartCall : Type 0 where
   pub call : Result (Unit {0}) OsFault → Call
   pub cause : Refused
@@ -33,18 +33,18 @@ MakesCalls (ask ∷ asks) (call ∷ calls) (Err cause) =
 MakesCalls (ask ∷ asks) (call ∷ calls) (Ok done) = (call ≡ ask.call (Ok tt)) × MakesCalls asks calls (Ok done)
 MakesCalls asks calls result = ⊥
 
--- `spawn_call p`: the call that spawns the child of the `SpawnPlan` `p`. If it fails for another
--- reason than memory, the cause of the refusal is `Spawn`.
+-- `spawn_call p`: the call that spawns the child of the `SpawnPlan` `p`. If it fails, the cause of
+-- the refusal is `Spawn`, unless an allocation failed.
 abbrev pub spawn_call : SpawnPlan → StartCall
 spawn_call p = record { call = Spawn p.child p.program p.words p.env p.work; cause = NotSpawned }
 
 -- `open_call p path`: the call that creates `path`, an output file for the child of the `SpawnPlan`
--- `p`. If it fails for another reason than memory, the cause of the refusal is `Output`.
+-- `p`. If it fails, the cause of the refusal is `Output`, unless an allocation failed.
 abbrev pub open_call : SpawnPlan → List ℕ → StartCall
 open_call p path = record { call = OpenOutput p.child path; cause = Output }
 
--- `work_dir_call p`: the call that creates the work directory of the `SpawnPlan` `p`. If it fails
--- for another reason than memory, the cause of the refusal is `Directory`.
+-- `work_dir_call p`: the call that creates the work directory of the `SpawnPlan` `p`. If it fails,
+-- the cause of the refusal is `Directory`, unless an allocation failed.
 abbrev pub work_dir_call : SpawnPlan → StartCall
 work_dir_call p = record { call = MakeDir p.work; cause = Directory }
 

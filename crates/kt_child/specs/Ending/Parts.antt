@@ -23,8 +23,8 @@ end_after_part limit got (Part (b ∷ bytes) true) = if leb limit (got + length 
 
 -- `IsReadEnd limit got result end`: `end` is the result of reading a whole file (`end_after_part`),
 -- if the read of its part after `got` bytes had the result `result`. At most `limit` bytes are
--- read. If the read of the part fails, or the allocation for its bytes, `end` is `Unreadable`.
--- Nothing else allocates.
+-- read. `end` is `None` if another part must be read. It is `Unreadable` if the read of the part
+-- fails, or an allocation for the bytes of the part. An empty part needs no allocation.
 abbrev pub IsReadEnd : ℕ → ℕ → Result FileRead OsFault → Option ReadEnd → Type 0
 IsReadEnd limit got (Err fault) end = end ≡ Some Unreadable
 IsReadEnd limit got (Ok NoFile) end = end ≡ end_after_part limit got NoFile

@@ -16,7 +16,7 @@ list_of (Ok (Part bytes true)) = TooLong
 list_of (Ok (Part bytes false)) = Read bytes
 list_of answer = Unreadable
 
--- `IsListWithin list`: `list` has at most 1,048,576 bytes.
+-- `IsListWithin list`: if `list` was read, it has at most 1,048,576 bytes.
 abbrev pub IsListWithin : ListBytes → Type 0
 IsListWithin (Read bytes) = length bytes ≤ 1048576
 IsListWithin bytes = Unit {0}

@@ -14,11 +14,12 @@ abbrev pub attempt_dir : List ℕ → ℕ → List ℕ
 attempt_dir root number = root ++ codes "/" ++ decimal number
 
 -- `below root number name`: the path of `name` in the directory of the attempt `number` below
--- `root`.
+-- `root`, the root directory of the driver.
 abbrev pub below : List ℕ → ℕ → List ℕ → List ℕ
 below root number name = attempt_dir root number ++ codes "/" ++ name
 
--- `paths_of root number`: the paths of the attempt `number` below `root`.
+-- `paths_of root number`: the paths of the attempt `number` below `root`, the root directory of the
+-- driver.
 abbrev pub paths_of : List ℕ → ℕ → Paths
 paths_of root number =
     record {
@@ -31,14 +32,16 @@ paths_of root number =
       cleanup_err = below root number (codes "cleanup.err");
     }
 
--- `variable_argument v`: the argument that passes the variable `v` to an ATF program.
+-- `variable_argument v`: the argument `-vNAME=VALUE`, which passes the variable `v` to an ATF
+-- program.
 abbrev pub variable_argument : Variable → List ℕ
 variable_argument v = codes "-v" ++ v.name ++ codes "=" ++ v.value
 
 -- `args_of interface want result source variables case_name`: the arguments of a program that is
 -- started for the purpose `want` and has the interface `interface`. `result` is the path of the
--- result file, and `source` the directory of the program. `variables` are the variables of its
--- suite, and `case_name` is the name of the case.
+-- result file, and `source` the absolute path of the program's directory. `variables` are the
+-- variables of its suite, and `case_name` is the name of the case. TAP and plain programs get no
+-- arguments.
 abbrev pub args_of : Interface → Want → List ℕ → List ℕ → List Variable → List ℕ → List (List ℕ)
 args_of Atf Listing result source variables case_name = map variable_argument variables ++ codes "-l" ∷ []
 args_of Atf Body result source variables case_name =

@@ -23,7 +23,7 @@ outcome_of (PolledSignal signal core) = Some (Signaled signal core)
 
 -- `YieldsAfterKill left heard outcome`: a child was killed, and the responses `heard` after the
 -- kill give `outcome`. An exit or a signal gives a timeout. A failed poll gives a failed wait, and
--- so does `running` for the `left`-th time.
+-- so does the `left`-th poll that reports the child as running.
 abbrev pub YieldsAfterKill : ℕ → List ChildResponse → Outcome → Type 0
 YieldsAfterKill left heard outcome =
     ((k : ℕ) × (s : Polled) × (x : Outcome) × (k < left) × (outcome_of s ≡ Some x)
@@ -33,9 +33,9 @@ YieldsAfterKill left heard outcome =
     × (heard ≡ replicate k running ++ PollResponse (Err f) ∷ KillResponse done ∷ []) × (outcome ≡ WaitFailed))
 
 -- `YieldsWithin left heard outcome`: the responses `heard` of a child give `outcome`. An exit or a
--- signal before a kill is the outcome. When the child is `running` for the `left`-th time, it is
--- killed, and the responses after the kill give the outcome. A failed poll or a failed kill gives a
--- failed wait.
+-- signal before a kill is the outcome. After the `left`-th poll that reports the child as running,
+-- it is killed, and the responses after the kill give the outcome. A failed poll or a failed kill
+-- gives a failed wait.
 abbrev pub YieldsWithin : ℕ → List ChildResponse → Outcome → Type 0
 YieldsWithin left heard outcome =
     ((k : ℕ) × (s : Polled) × (k < left) × (outcome_of s ≡ Some outcome)

@@ -7,8 +7,8 @@ use Rattle.kt_child.specs.declared.polling.ChildProgress.TheVariants.{StillRunni
 use Rattle.kt_os.specs.System.Calls.{Call, Poll, Kill}
 use Rattle.kt_child.specs.Polling.ChildOutcome.{ChildResponse, KillResponse, PollResponse}
 
--- `is_due limit w`: one more poll that reports a child as running reaches its timeout of `limit`
--- seconds. `w` has the poll counts of the child, which was not killed.
+-- `is_due limit w`: the next poll that reports a child as running reaches the child's timeout of
+-- `limit` seconds. `w` has the poll counts of the child, which was not killed.
 abbrev pub is_due : ℕ → PollCounts → Bool
 is_due limit w = not w.killed && (w.before + 1 == 100 * limit)
 

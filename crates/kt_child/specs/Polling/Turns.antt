@@ -28,9 +28,9 @@ PollsAll (k ∷ children) calls =
     × (progress_after_poll k.limit k.watch answer done ≡ StillRunning)
     × PollsAll children more
 
--- `EndsAtPoll k calls outcome`: `k` is a child, and `calls` are one poll of it and the kill that
--- may follow the poll. The child has then finished with `outcome`, which follows from all responses
--- about it (`Yields`).
+-- `EndsAtPoll k calls outcome`: `k` is a child, not `None`, and `calls` are one poll of it and the
+-- kill that may follow the poll. The child has then finished with `outcome`, which follows from all
+-- responses about it (`Yields`).
 abbrev pub EndsAtPoll : Option RunningChild → List Call → Outcome → Type 0
 EndsAtPoll None calls outcome = ⊥
 EndsAtPoll (Some k) calls outcome =
@@ -40,8 +40,8 @@ EndsAtPoll (Some k) calls outcome =
     × Yields k.limit (responses_so_far k.limit k.watch ++ poll_responses k.limit k.watch answer done) outcome
 
 -- `PollsUntil children i calls outcome`: `calls` are one poll of each of the running children
--- `children` up to the index `i`, in order. A kill may follow a poll. The child at this index is
--- the first that has finished, and `outcome` is its outcome.
+-- `children` from the first to that at the index `i`, in order. A kill may follow a poll. The child
+-- at this index is the first that has finished, and `outcome` is its outcome.
 abbrev pub PollsUntil : List RunningChild → ℕ → List Call → Outcome → Type 0
 PollsUntil children i calls outcome =
     (before : List Call) × (last : List Call) × (calls ≡ before ++ last)

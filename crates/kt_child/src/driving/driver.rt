@@ -70,7 +70,7 @@ pub struct Driver<O: Drop> {
     pub(crate) alloc: Global,
     /// The absolute path of the root Kyuafile's directory.
     pub(crate) source: Text,
-    /// The path of the root directory, which contains the directories of all attempts.
+    /// The path of the driver's root directory, which contains the directories of all attempts.
     pub(crate) root: Text,
     /// The number of the next attempt, counted from 0. The start of a body uses one number, and so
     /// does the start of a program that lists its test cases.

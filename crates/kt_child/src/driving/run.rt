@@ -44,18 +44,20 @@ pub fn theorem_of_numbers<O: Os + Drop>()
     ensures { AttemptsDiffer O.leads }
 {}
 
-/// Theorem: at no time do two cases of a driver with a running child or a pending cleanup have the
-/// same attempt number. The premise is that the driver began without children and without pending
-/// cleanups.
+/// Theorem: two cases of a driver that have a running child or a pending cleanup at the same time
+/// have different attempt numbers. The premise is that the driver began without children and
+/// without pending cleanups.
 pub fn theorem_of_names()
     ensures { NumbersDiffer }
 {}
 
-/// Theorem: the calls of a driver to the system are the calls of its starts and waits, in order.
+/// Theorem: over a trace, the calls of a driver to the system are exactly those of the starts and
+/// waits in the trace, in order. The premise is that the trace leads the driver from one state to
+/// another.
 ///
-/// Each poll and kill concerns one child. The outcome of a child follows from all results of its
-/// polls and its kill (`Yields`). The directories and files of a start, of the reads and of the
-/// removal are those of the child's attempt.
+/// Each poll and each kill is of one child. The outcome of the child follows from all results of
+/// its polls and its kill (`Yields`). The starts, the reads and the removals use the paths of the
+/// child's attempt.
 pub fn theorem_of_traces<O: Os + Drop>()
     ensures { CallsMatchTraces O.leads }
 {}

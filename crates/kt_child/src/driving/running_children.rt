@@ -136,7 +136,7 @@ impl RunningChildren {
     }
 
     /// Removes the case with the position `position` from the pending cleanups, and returns the
-    /// case.
+    /// case. There must be such a case.
     pub(crate) fn take_pending_cleanup(&mut self, position: u32) -> CaseAttempt
         requires { is_among self.old.pending position ≡ true }
         ensures taken { (place : ℕ) × (slice_get self.old.pending place ≡ Some result)

@@ -24,7 +24,7 @@ pub(crate) struct RunningChild {
     pub case: CaseAttempt,
     /// The timeout of the child, in seconds, from 1 to 1,000,000.
     pub limit: u64,
-    /// The numbers of polls that reported the child as running.
+    /// The numbers of polls that reported the child as running, before and after its kill.
     pub watch: PollCounts,
 }
 

@@ -12,10 +12,10 @@ const POLLS_PER_SECOND: u64 = 100;
 /// last of them has the outcome `WaitFailed` (this profile).
 const REAPING_POLLS: u64 = 500;
 
-/// Polls a child once and returns its state.
+/// Polls a child once and returns the child's state.
 ///
-/// Kills the child if the poll fails or its timeout is reached. `limit` is the timeout in seconds.
-/// `watch` has the poll counts of the child, and is updated while the child is running.
+/// Kills the child if the poll fails or the child reaches its timeout. `limit` is the timeout in
+/// seconds. `watch` has the poll counts of the child, and is updated while the child is running.
 pub(crate) fn poll_once<O: Os>(
     os: &mut O,
     child: Child,
