@@ -75,8 +75,8 @@ form_of_property name = if is_custom name then Some form.Text else option_map (�
 abbrev pub is_kyuafile_property : List ℕ → Bool
 is_kyuafile_property name = not (bytes_eq name (codes "has_cleanup")) && is_some (form_of_property name)
 
--- `valid_words is_wrong found`: the property value that is the list `found`, or nothing if one of
--- its elements satisfies the test `is_wrong`.
+-- `valid_words is_wrong found`: the list `found` as a property value, or nothing if one of its
+-- elements satisfies the test `is_wrong`.
 abbrev pub valid_words : (List ℕ → Bool) → List (List ℕ) → Option Value
 valid_words is_wrong found = if list_any is_wrong found then None else Some (value.Words found)
 

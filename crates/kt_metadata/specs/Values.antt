@@ -9,7 +9,7 @@ use Rattle.kt_base.specs.Utf8.{utf8}
 use Rattle.kt_metadata.specs.declared.value.RequiredUser.{RequiredUser}
 use Rattle.kt_metadata.specs.declared.value.RequiredUser.TheVariants.{Any, Root, Unprivileged}
 
--- `truth_values`: the texts that represent a truth value, each with this value.
+-- `truth_values`: the texts that represent truth values, each with the value that it represents.
 abbrev pub truth_values : List (List ℕ × Bool)
 truth_values = (codes "true", true) ∷ (codes "yes", true) ∷ (codes "false", false) ∷ (codes "no", false) ∷ []
 
@@ -17,7 +17,8 @@ truth_values = (codes "true", true) ∷ (codes "yes", true) ∷ (codes "false", 
 abbrev pub truth_of : List ℕ → Option Bool
 truth_of text = named truth_values text
 
--- `required_users`: the texts that represent a required user, each with this user.
+-- `required_users`: the texts that represent required users, each with the user that it represents.
+-- The empty text represents `Any`.
 abbrev pub required_users : List (List ℕ × RequiredUser)
 required_users = ([], Any) ∷ (codes "root", Root) ∷ (codes "unprivileged", Unprivileged) ∷ []
 
@@ -70,15 +71,15 @@ abbrev pub size_of : List ℕ → Option ℕ
 size_of text = size_in (utf8 text)
 
 -- `timeout_of_number number rest`: the timeout in seconds that the number `number` represents,
--- where 0 is the longest timeout. Nothing if `number` is absent or above the longest timeout, or if
--- the bytes `rest` after its digits aren't empty.
+-- where 0 represents the longest timeout, 1,000,000 seconds. Nothing if `number` is absent or above
+-- 1,000,000, or if the bytes `rest` after its digits aren't empty.
 abbrev pub timeout_of_number : Option ℕ → List ℕ → Option ℕ
 timeout_of_number (Some v) [] = if v == 0 then Some longest_timeout_seconds else if nat_le v longest_timeout_seconds then Some v else None
 timeout_of_number (Some v) (c ∷ cs) = None
 timeout_of_number None rest = None
 
--- `timeout_in bytes`: the timeout in seconds that the ASCII digits `bytes` represent, or nothing if
--- `bytes` aren't a timeout.
+-- `timeout_in bytes`: the timeout in seconds that the bytes `bytes` represent, or nothing if they
+-- aren't ASCII digits or the number isn't a timeout.
 abbrev pub timeout_in : List ℕ → Option ℕ
 timeout_in bytes = timeout_of_number (number_of (digits_of bytes)) (after_digits bytes)
 

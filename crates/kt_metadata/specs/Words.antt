@@ -9,14 +9,14 @@ abbrev pub is_word : List ℕ → Bool
 is_word [] = false
 is_word (c ∷ cs) = not (list_any is_space (c ∷ cs))
 
--- `IsElementEnd text`: an element can end before the text `text`, which is empty or begins with
--- white space.
+-- `IsElementEnd text`: an element can end before the text `text`. It can if `text` is empty or
+-- begins with white space.
 abbrev pub IsElementEnd : List ℕ → Type 0
 IsElementEnd [] = Unit {0}
 IsElementEnd (c ∷ cs) = is_space c ≡ true
 
 -- `AreWords text found`: `found` is the list of the elements of the text `text`, in order. Each
--- element is a part without white space, as long as possible.
+-- element is a part of `text` without white space, as long as possible.
 pub data AreWords : List ℕ → List (List ℕ) → Type 0 where
   over : AreWords [] []
   blank : (c : ℕ) (text : List ℕ) (found : List (List ℕ)) → is_space c ≡ true → AreWords text found

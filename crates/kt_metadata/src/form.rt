@@ -8,7 +8,8 @@ use crate::values::{has_invalid_file, has_invalid_program, size, timeout, truth,
 use kt_base::{Items, NoMemory, Text};
 use std::alloc::Global;
 
-/// A form of property values: it determines how a text is parsed, and which value is the default.
+/// A form of property values: it determines how the text of a value is parsed, and the default
+/// value.
 #[derive(Clone, Copy)]
 pub enum Form {
     /// A list of elements, which white space separates.
@@ -24,7 +25,7 @@ pub enum Form {
     Truth,
     /// A size in bytes: digits, and at most one of the units K, M, G and T after them.
     Size,
-    /// A required user: an empty text, `root` or `unprivileged`.
+    /// A required user: `root`, `unprivileged`, or an empty text for any user.
     RequiredUser,
     /// A timeout: a number of seconds from 0 to 1,000,000, where 0 represents 1,000,000.
     Timeout,
@@ -33,7 +34,7 @@ pub enum Form {
 /// The timeout of a case without a `timeout` property, in seconds.
 pub const DEFAULT_TIMEOUT_SECONDS: u32 = 300;
 
-/// Returns the property value that is the list `words`, or `None` if `wrong` is `true`.
+/// Converts the list `words` to a property value, or returns `None` if `wrong` is `true`.
 ///
 /// `wrong` is `true` if an element of `words` is invalid for the property.
 fn create_list_value(wrong: bool, words: Items<Text>) -> Option<Value>
@@ -73,7 +74,7 @@ impl Form {
         }
     }
 
-    /// Returns the value of an unset property whose values have this form.
+    /// Returns the default value of this form, which a property has if it is not set.
     ///
     /// Allocates nothing.
     pub fn default_value(self, alloc: Global) -> Value

@@ -8,8 +8,8 @@ use kt_base::{NoMemory, Text, Variable, Variables};
 use std::alloc::Global;
 use std::marker::Model;
 
-/// A map from the names of properties to their last definitions, in the order of the first
-/// definitions.
+/// A map from the names of properties to their last definitions, in the order in which the
+/// properties were first defined.
 ///
 /// In contracts, a `Layer` is the list of the names, each with the text of its last definition.
 /// Each name occurs once.
@@ -93,7 +93,7 @@ impl Layer {
     ///
     /// # Errors
     ///
-    /// - `NoMemory`: an allocation fails. Some definitions may have been set.
+    /// - `NoMemory`: an allocation fails. Some definitions may have been copied.
     pub fn put_all(&mut self, more: &Layer) -> Result<(), NoMemory>
         ensures { OnOk result (self.new ≡ last_values (self.old ++ more.now)) }
     {

@@ -55,7 +55,8 @@ impl Meta {
     ghost use Rattle.std.specs.Prelude.{◌≡◌};
     ghost use Rattle.kt_metadata.specs.Common.{needed};
 
-    /// Returns the required files if `need` is `File`, or the required programs if it is `Program`.
+    /// Returns the required files of the case if `need` is `File`, or its required programs if
+    /// `need` is `Program`.
     pub fn needed(&self, need: Need) -> &[Text]
         ensures { result.now ≡ needed need self.now }
     {
@@ -141,7 +142,8 @@ impl Props {
         }
     }
 
-    /// Returns the required files if `need` is `File`, or the required programs if it is `Program`.
+    /// Returns the required files of the case if `need` is `File`, or its required programs if
+    /// `need` is `Program`.
     ///
     /// Allocates nothing.
     pub fn needed(&self, need: Need) -> &[Text]
@@ -153,7 +155,8 @@ impl Props {
         }
     }
 
-    /// Returns the effective properties: each has the value that was last set, or its default.
+    /// Returns the effective properties of the case: each has the value that was last set, or its
+    /// default.
     ///
     /// The timeout 0 represents the longest timeout, 1,000,000 seconds (kyuafile(5)).
     ///

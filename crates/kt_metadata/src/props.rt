@@ -14,8 +14,10 @@ use std::rc::Rc;
 /// A set of properties of a test program or a test case, with their values.
 ///
 /// In contracts, a `Props` is the list of the properties' names, each with the text to which the
-/// property was last set. The order is that in which the properties were first set. All overlays
-/// over one result of [`Props::shared`] share its memory.
+/// property was last set. The order is that in which the properties were first set.
+///
+/// If the properties of a program come from [`Props::shared`], the properties of its cases share
+/// their memory ([`Props::overlay`]).
 pub struct Props {
     program: Option<Rc<SharedLayer>>,
     own: Layer,
@@ -172,7 +174,7 @@ impl Props {
         Ok(layer)
     }
 
-    /// Creates the listing of the properties in memory that copies of the listing share.
+    /// Creates the listing of the properties, such that copies of the listing share its memory.
     fn create_shared_listing(&self) -> Result<Variables, NoMemory>
         ensures { IfOk result (λ pairs. pairs ≡ listing self.now) }
     {
@@ -180,7 +182,7 @@ impl Props {
         pairs.into_shared()
     }
 
-    /// Creates a shared layer from copies of all properties, together with their listing.
+    /// Creates a shared layer with copies of all properties and with their listing.
     fn shared_layer(&self) -> Result<SharedLayer, NoMemory>
         ensures { IfOk result (λ layer. layer ≡ self.now) }
     {
@@ -248,11 +250,10 @@ impl Props {
         }
     }
 
-    /// Appends a pair of name and text to `pairs` for each property in `rows`, rows of
-    /// `PROPERTY_TABLE`.
+    /// Appends the name and the text of each property in `rows` to `pairs`.
     ///
-    /// The text represents the value of the property, or its default value if the property isn't
-    /// set. A property with an empty text is omitted.
+    /// `rows` are rows of `PROPERTY_TABLE`. The text represents the value of the property, or its
+    /// default value if the property isn't set. A property with an empty text is omitted.
     fn add_table_properties(
         &self,
         pairs: &mut Variables,
@@ -294,9 +295,10 @@ impl Props {
     ///
     /// The properties with fixed names come first, in alphabetical order. The custom properties
     /// follow in the order of their first definitions. The elements of a list are joined by one
-    /// space, and numbers are decimal. A property with an empty text is omitted. For an overlay
-    /// that adds no property to the result of [`Props::shared`], the listing shares the memory of
-    /// the listing of that result.
+    /// space, and numbers are decimal. A property with an empty text is omitted.
+    ///
+    /// If these properties are an overlay that adds no property to a result of [`Props::shared`],
+    /// the listings of both share their memory.
     ///
     /// # Errors
     ///

@@ -44,8 +44,7 @@ fn contains_element(words: &[Text], word: &str) -> bool
     words.iter().any(|listed| listed.is_word(word))
 }
 
-/// Returns `true` if the list `words` of allowed values allows `word`: it is empty or contains
-/// `word`.
+/// Returns `true` if the list `words` of allowed values is empty or contains `word`.
 fn is_allowed(words: &[Text], word: &str) -> bool
     ensures { result ≡ is_allowed words.now (chars word.now) }
 {

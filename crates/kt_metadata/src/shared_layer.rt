@@ -5,7 +5,7 @@ use crate::layer::Layer;
 use kt_base::{NoMemory, Variables};
 use std::marker::Model;
 
-/// A layer of a program's properties, and the listing of the layer. The program's cases share both.
+/// The properties of a program with their listing, in memory that the program's cases share.
 ///
 /// In contracts, a `SharedLayer` is the list of the properties' names, each with the text of its
 /// last definition. Each name occurs once.
@@ -43,7 +43,7 @@ impl SharedLayer {
         &self.layer
     }
 
-    /// Copies the listing of the layer. The copy shares the memory of the listing.
+    /// Returns a copy of the layer's listing, which shares the memory of the listing.
     ///
     /// # Errors
     ///

@@ -13,8 +13,8 @@ pub type PropertyRow = (&'static str, &'static str, Form);
 
 /// The properties with fixed names, in the order of a listing of properties.
 ///
-/// A row has the name (kyuafile(5), for `has_cleanup` atf-test-case(4)), the key in a list of ATF
-/// cases (this profile), and the form of the values.
+/// A row has the name of a property, its key in a list of ATF cases (this profile), and the form of
+/// its values. The names are those of kyuafile(5), and `has_cleanup` of atf-test-case(4).
 pub const PROPERTY_TABLE: [PropertyRow; 12] = [
     ("allowed_architectures", "require.arch", Form::Words),
     ("allowed_platforms", "require.machine", Form::Words),

@@ -66,7 +66,7 @@ pub fn words(alloc: Global, text: &Text) -> Result<Items<Text>, NoMemory>
     Ok(found)
 }
 
-/// Theorem: by the rule `AreWords`, each text has exactly one list of elements.
+/// Theorem: by the relation `AreWords`, each text has exactly one list of elements.
 ///
 /// The definition `words` returns this list.
 pub fn theorem_of_words()

@@ -9,29 +9,31 @@ use Rattle.kt_base.specs.LastValues.{last_values}
 use Rattle.kt_metadata.specs.declared.value.PropertyDefinition.{PropertyDefinition}
 use Rattle.kt_metadata.specs.Properties.{value_of_text}
 
--- `pair_in entry`: the pair that the entry `entry` of a layer's map represents: the name of a
--- property and the text of its definition.
+-- `pair_in entry`: the name of the property in `entry`, with the text of its definition. `entry` is
+-- an element of a layer's map: the name of a property, with its definition.
 abbrev pub pair_in : {Z : Type 0} → String Z × PropertyDefinition → Variable
 pair_in entry = record { name = chars (string_bytes entry.0); value = entry.1.text }
 
--- `pairs_in entries`: the pairs of names and texts that the entries `entries` of a layer's map
--- represent, in their order.
+-- `pairs_in entries`: the names of the properties in `entries`, each with the text of its
+-- definition, in order. `entries` are the elements of a layer's map: names of properties, with
+-- their definitions.
 abbrev pub pairs_in : {Z : Type 0} → List (String Z × PropertyDefinition) → List Variable
 pairs_in entries = map pair_in entries
 
--- `IsConsistent name it`: in the definition `it` of the property `name`, the value is the value
--- that the text represents.
+-- `IsConsistent name it`: the definition `it` of the property `name` has the value that its text
+-- represents.
 abbrev pub IsConsistent : List ℕ → PropertyDefinition → Type 0
 IsConsistent name it = value_of_text name it.text ≡ Some it.value
 
--- `HaveParsedValues entries`: in the definition of each of the entries `entries` of a layer's map,
--- the value is the value that the text represents.
+-- `HaveParsedValues entries`: each definition in `entries` has the value that its text represents.
+-- `entries` are the elements of a layer's map: names of properties, with their definitions.
 abbrev pub HaveParsedValues : {Z : Type 0} → List (String Z × PropertyDefinition) → Type 0
 HaveParsedValues [] = Unit {0}
 HaveParsedValues (entry ∷ entries) = IsConsistent (chars (string_bytes entry.0)) entry.1 × HaveParsedValues entries
 
--- `AreConsistent entries`: the entries `entries` of a layer's map are consistent: each name occurs
--- at most once, and each value is the value that its text represents.
+-- `AreConsistent entries`: each name occurs at most once in `entries`, and each definition has the
+-- value that its text represents. `entries` are the elements of a layer's map: names of properties,
+-- with their definitions.
 pub record AreConsistent {Z : Type 0} (entries : List (String Z × PropertyDefinition)) : Type 0 where
   pub settled : pairs_in entries ≡ last_values (pairs_in entries)
   pub read : HaveParsedValues entries
