@@ -25,7 +25,9 @@ abbrev pub list_case : Reason → CaseDef
 list_case reason = record { name = codes "__test_cases_list__"; props = []; fault = Some reason }
 
 -- `AreCases props interface listing cases`: `cases` are the test cases, in order, of a program with
--- the properties `props`, the interface `interface` and the optional listing `listing`.
+-- the properties `props` and the interface `interface`. `listing` is the result of running an ATF
+-- program to list its cases. It must be present for an ATF program, and is ignored for another
+-- program.
 pub data AreCases (props : List Variable) : Interface → Option Listing → List CaseDef → Type 0 where
   tap : (listing : Option Listing) → AreCases props Tap listing (overlaid_case props main_case ∷ [])
   plain : (listing : Option Listing) → AreCases props Plain listing (overlaid_case props main_case ∷ [])

@@ -105,9 +105,9 @@ pub data IsFaultyLine (cases : List CaseDef) (line : List ℕ) : Option CaseDef 
       → IsFaultyLine cases line (Some block) cause
 
 -- `HasFirstFault n cases block lines fault`: one of the lines `lines` is faulty, and `fault` is the
--- fault of the first faulty line. The first of `lines` has the number `n`. Before this line, the
--- finished blocks have the cases `cases`, and `block` is the block that has begun, or nothing
--- between two blocks.
+-- fault of the first faulty line. The first of `lines` has the number `n`. Before the lines
+-- `lines`, the finished blocks have the cases `cases`, and `block` is the block that has begun, or
+-- nothing between two blocks.
 pub data HasFirstFault : ℕ → List CaseDef → Option CaseDef → List (List ℕ) → ListFault → Type 0 where
   here : (n : ℕ) (cases : List CaseDef) (block : Option CaseDef) (first : List ℕ) (rest : List (List ℕ)) (cause : ListCause)
       → IsFaultyLine cases first block cause → HasFirstFault n cases block (first ∷ rest) (fault_at cause n)

@@ -8,10 +8,10 @@ use kt_metadata::{PropFault, Props};
 use std::alloc::Global;
 use std::marker::Model;
 
-/// A block of a list of test cases: the name of one case, and its properties in the lines read so
-/// far.
+/// A block of a list of test cases: the name of one case, and the properties that the block has set
+/// so far.
 ///
-/// In contracts, a `Block` is the test case, without a fault.
+/// In contracts, a `Block` is the `CaseDef` of this case, whose `fault` is `None`.
 #[derive(Drop)]
 pub struct Block {
     name: Text,

@@ -41,6 +41,8 @@ fn parse_list_bytes(alloc: Global, text: &Bytes) -> Result<Result<Items<CaseDef>
 
 /// Returns the test cases in `listing`, or the reason why the listing can't be used.
 ///
+/// `listing` is the result of running an ATF program to list its test cases.
+///
 /// # Errors
 ///
 /// - `NoMemory`: an allocation fails.

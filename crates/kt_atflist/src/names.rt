@@ -42,7 +42,7 @@ impl NameSet {
         self.keys.contains(name.as_str())
     }
 
-    /// Inserts the name `name`. The caller checks that the set doesn't contain it yet.
+    /// Inserts the name `name`, which the set must not contain yet.
     ///
     /// # Errors
     ///

@@ -86,7 +86,8 @@ fn single_case_list(
 
 /// Returns the test cases of an ATF program with the properties `props` and the listing `listing`.
 ///
-/// If the listing can't be used, the program has the one case `__test_cases_list__`.
+/// `listing` is the result of running the program to list its cases. If the listing can't be used,
+/// the program has the one case `__test_cases_list__`.
 fn listed(alloc: Global, props: &Props, listing: &Listing) -> Result<Items<CaseDef>, NoMemory>
     ensures { IfOk result (λ cases. AreCases props.now Atf (Some listing.now) cases) }
 {
@@ -99,10 +100,10 @@ fn listed(alloc: Global, props: &Props, listing: &Listing) -> Result<Items<CaseD
 
 /// Returns the test cases of a program with the properties `props`, in order.
 ///
-/// A TAP or plain program has the one case `main`. An ATF program has the cases of `listing`, which
-/// must be present. If the listing can't be used, the program has the one case
-/// `__test_cases_list__`, whose `fault` is the reason. Each case has the properties of its program.
-/// A property of the case replaces the same property of the program.
+/// A TAP or plain program has the one case `main`. An ATF program has the cases of `listing`, the
+/// result of running the program to list them, which must be present. If the listing can't be used,
+/// the program has the one case `__test_cases_list__`, whose `fault` is the reason. Each case has
+/// the properties of its program. A property of the case replaces the same property of the program.
 ///
 /// # Errors
 ///

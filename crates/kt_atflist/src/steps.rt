@@ -39,7 +39,8 @@ fn begin_block(
     }))
 }
 
-/// Parses `line`, the first line of a block, and returns the name of the case.
+/// Parses `line`, the first line of a block in a list of test cases, and returns the name of the
+/// case.
 ///
 /// Returns `NoIdent` if the line does not begin with `ident: `, or `BadValue` if the name is empty
 /// or contains a colon.
@@ -57,7 +58,8 @@ fn parse_case_name(alloc: Global, line: &[u8]) -> Result<Result<Text, ListCause>
     }
 }
 
-/// Parses `line`, the first line of a block, and returns the reader's state after the line.
+/// Parses `line`, the first line of a block, and returns the state of the list's reader after the
+/// line.
 ///
 /// `cases` are the cases of the earlier blocks, and `names` are their names. If the line is faulty,
 /// returns the cause of the fault instead.
@@ -77,8 +79,7 @@ fn read_first_line(
     }
 }
 
-/// Sets the property `name` of `block` to `value`, and returns `true` if the property accepts
-/// `value`.
+/// Tries to set the property `name` of `block` to `value`, and returns `true` on success.
 ///
 /// Returns `false` and leaves `block` unchanged if the property does not accept `value`, or if no
 /// property has this name. The caller checks that the property is not set yet.
@@ -96,8 +97,8 @@ fn try_set(block: &mut Block, name: &Text, value: &Text) -> Result<bool, NoMemor
     }
 }
 
-/// Sets the property `name` of `block` to `value`, and returns the cause of the line's fault, if
-/// any.
+/// Sets the property `name` of `block` to `value`, as in a line of the block, and returns the cause
+/// of the line's fault, if any.
 ///
 /// The cause is `UnknownKey` if `name` is `None`, since no property has the key of the line. It is
 /// `RepeatedKey` if the property is already set, and `BadValue` if the property does not accept
@@ -125,10 +126,10 @@ fn set_property(
     }
 }
 
-/// Sets the property of `block` that has the key `key` in a list of test cases to `value`.
+/// Sets the property of `block` with the key `key` to `value`.
 ///
-/// Returns the cause of the line's fault, or `None` if the line has no fault. The key `ident` is a
-/// fault, since only the first line of a block has this key.
+/// Returns the cause of the fault in the line with this key and value, or `None` if the line has no
+/// fault. The key `ident` is a fault, since only the first line of a block has this key.
 fn set_key(
     alloc: Global,
     block: &mut Block,
@@ -148,7 +149,8 @@ fn set_key(
 
 /// Decodes `key` and `value` as UTF-8, and sets the property of `block` with this key to the value.
 ///
-/// Returns the cause of the line's fault, or `None` if the line has no fault.
+/// Bytes that aren't UTF-8 are decoded as U+FFFD. Returns the cause of the fault in the line with
+/// this key and value, or `None` if the line has no fault.
 fn decode_and_set(
     alloc: Global,
     block: &mut Block,

@@ -21,21 +21,22 @@ use Rattle.kt_atflist.specs.declared.reading.ListStep.TheVariants.{NextState, Fa
 abbrev pub begin_block : List CaseDef → List ℕ → ListStep
 begin_block cases name = if is_listed cases name then FaultyLine RepeatedIdent else NextState (record { cases = cases; block = Some (empty_case name) })
 
--- `case_name_in ident`: the name of a case whose bytes are `ident`. If `ident` is absent or can't
--- be the name of a case, it is the cause of the line's fault.
+-- `case_name_in ident`: the name of a case that the bytes `ident` encode, or the cause of the
+-- line's fault. `ident` are the bytes after `ident: ` in the first line of a block. The cause is
+-- `NoIdent` if `ident` is absent, and `BadValue` if `ident` can't be the name of a case.
 abbrev pub case_name_in : Option (List ℕ) → Result (List ℕ) ListCause
 case_name_in None = Err NoIdent
 case_name_in (Some ident) = if is_case_name ident then Ok (lossy ident) else Err BadValue
 
--- `first_line_step cases name`: the result of reading the first line of a block: the reader's next
--- state, or the cause of the line's fault. The cases of the earlier blocks are `cases`. `name` is
--- the name in the line, or the cause of the fault.
+-- `first_line_step cases name`: the result of reading the first line of a block in a list: the
+-- reader's next state, or the cause of the line's fault. The cases of the earlier blocks are
+-- `cases`. `name` is the name in the line, or the cause of the fault.
 abbrev pub first_line_step : List CaseDef → Result (List ℕ) ListCause → ListStep
 first_line_step cases (Err cause) = FaultyLine cause
 first_line_step cases (Ok name) = begin_block cases name
 
--- `BlockResult`: the result of reading a line that sets a property: the changed block, or the cause
--- of the line's fault.
+-- `BlockResult`: the result of reading a line that sets a property of a listed case: the changed
+-- block of the case, or the cause of the line's fault.
 abbrev pub BlockResult : Type 0
 BlockResult = Result CaseDef ListCause
 
@@ -45,9 +46,9 @@ abbrev pub change_result : CaseDef → Option ListCause → BlockResult
 change_result block None = Ok block
 change_result block (Some cause) = Err cause
 
--- `set_property block name value`: the block `block` with the property `name` set to `value`, or
--- the cause of the line's fault. If `name` is absent, the cause is `UnknownKey`, since no property
--- has the key of the line.
+-- `set_property block name value`: the block `block` with the property `name` set to `value` by a
+-- line, or the cause of the line's fault. If `name` is absent, the cause is `UnknownKey`, since no
+-- property has the key of the line.
 abbrev pub set_property : CaseDef → Option (List ℕ) → List ℕ → BlockResult
 set_property block None value = Err UnknownKey
 set_property block (Some name) value =
@@ -56,7 +57,7 @@ set_property block (Some name) value =
     else Err BadValue
 
 -- `set_key block key value`: the block `block` with the property of the key `key` set to `value`,
--- or the cause of the line's fault.
+-- or the cause of the fault in the line with this key and value.
 abbrev pub set_key : CaseDef → List ℕ → List ℕ → BlockResult
 set_key block key value = if bytes_eq key (codes "ident") then Err RepeatedKey else set_property block (name_of_key key) value
 
