@@ -22,7 +22,7 @@ abbrev pub covers : Filter → Filter → Bool
 covers filter other = parts_cover filter.program filter.case_name other
 
 -- `do_overlap filter other`: the filter `filter` matches each test case that the filter `other`
--- matches, or conversely.
+-- matches, or `other` matches each test case that `filter` matches.
 abbrev pub do_overlap : Filter → Filter → Bool
 do_overlap filter other = covers filter other || covers other filter
 
@@ -31,7 +31,8 @@ abbrev pub ShareCase : Filter → Filter → Type 0
 ShareCase filter other = (path case_name : List ℕ) × IsTrue (matches filter path case_name) × IsTrue (matches other path case_name)
 
 -- `clash position filter earlier`: the error of the filter `filter`, which is at the position
--- `position` and overlaps with the earlier filter `earlier`.
+-- `position` and overlaps with the earlier filter `earlier`. It is `Repeated` if the two filters
+-- are equal, otherwise `NotDisjoint`.
 abbrev pub clash : ℕ → Filter → Filter → FilterFault
 clash position filter earlier = if is_same_filter filter earlier then Repeated position else NotDisjoint position
 

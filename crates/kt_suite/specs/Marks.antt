@@ -31,8 +31,8 @@ pub data Mark : Type 0 where
   ProgramMark : Site → Program → Mark
   Fault : SuiteFault → Mark
 
--- `Part`: an element of the description of reading one file alone. It is a mark, or an `include`
--- statement with its site and the path of the included file.
+-- `Part`: an event of reading one file without the files that it includes. It is a mark, or an
+-- `include` statement with its site and the path of the included file.
 pub data Part : Type 0 where
   OneMark : Mark → Part
   Includes : Site → List ℕ → Part
@@ -56,14 +56,14 @@ statement_parts at there (meaning.Program interface name suite props) =
     ∷ OneMark (lookup_mark at (record { interface = interface; path = sibling_of at.file name; suite = suite; props = props }) there) ∷ []
 
 -- `suite_after suite meaning`: the test suite of the programs after a statement with the meaning
--- `meaning`. `suite` is the test suite before the statement.
+-- `meaning`, if any. `suite` is the test suite that the file has set before the statement, if any.
 abbrev pub suite_after : Option (List ℕ) → Meaning → Option (List ℕ)
 suite_after suite (meaning.Suite name) = Some name
 suite_after suite other = suite
 
 -- `StatementsGive file suite stmts parts`: `parts` are the marks and includes of the statements
--- `stmts` of the file `file`, for some results of the calls. `suite` is the test suite before these
--- statements, if any.
+-- `stmts` of the file `file`. `suite` is the test suite that the file has set before these
+-- statements, if any. The calls among `parts` may have any results.
 pub data StatementsGive (file : List ℕ) : Option (List ℕ) → List Stmt → List Part → Type 0 where
   none : (suite : Option (List ℕ)) → StatementsGive file suite [] []
   one : (suite : Option (List ℕ)) (stmt : Stmt) (rest : List Stmt) (there : Bool) (parts : List Part)
@@ -71,8 +71,8 @@ pub data StatementsGive (file : List ℕ) : Option (List ℕ) → List Stmt → 
       → StatementsGive file suite (stmt ∷ rest)
       (statement_parts (record { file = file; line = stmt.line }) there (meaning_of suite stmt.action) ++ parts)
 
--- `FileGivesParts file parts`: `parts` are the marks and includes of reading the file `file` alone,
--- for some results of the calls.
+-- `FileGivesParts file parts`: `parts` are the marks and includes of reading the file `file`,
+-- without the marks of the included files. The calls among `parts` may have any results.
 pub data FileGivesParts (file : List ℕ) : List Part → Type 0 where
   fault_of_read : (why : ReadFault)
       → FileGivesParts file (OneMark (CallMark (Read file (Err why))) ∷ OneMark (Fault (read_fault file why)) ∷ [])
@@ -95,10 +95,10 @@ include_fault files path =
     if list_any (bytes_eq path) files then Some IncludeLoop
     else if nat_le depth_limit (length files) then Some TooDeep else None
 
--- `Unfolds files parts marks`: `marks` are the marks of reading the parts `parts` while the files
--- `files` are open. A part that is a mark has this mark. An include has the mark of its error if
--- the file may not be included. Otherwise, it has the mark of the file and the marks of reading the
--- file.
+-- `Unfolds files parts marks`: `marks` are `parts`, the marks and includes of a file, with marks in
+-- place of each include. The files `files` are open. If the file may not be included, the include
+-- is replaced by the mark of its error. Otherwise, it is replaced by the mark of the included file
+-- and the marks of reading this file.
 pub data Unfolds : List (List ℕ) → List Part → List Mark → Type 0 where
   end : (files : List (List ℕ)) → Unfolds files [] []
   says : (files : List (List ℕ)) (mark : Mark) (parts : List Part) (marks : List Mark)
@@ -111,7 +111,7 @@ pub data Unfolds : List (List ℕ) → List Part → List Mark → Type 0 where
       → include_fault files path ≡ None → FileGivesParts path own → Unfolds (files ++ path ∷ []) own inner → Unfolds files parts marks
       → Unfolds files (Includes at path ∷ parts) (File at ∷ (inner ++ marks))
 
--- `TreeGives root marks`: `marks` are the marks of reading the tree with the root Kyuafile `root`,
--- for some results of the calls.
+-- `TreeGives root marks`: `marks` are the marks of reading the tree with the root Kyuafile `root`.
+-- The calls among `marks` may have any results.
 abbrev pub TreeGives : List ℕ → List Mark → Type 0
 TreeGives root marks = Unfolds [] (Includes (record { file = root; line = 0 }) root ∷ []) marks

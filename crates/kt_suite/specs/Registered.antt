@@ -51,7 +51,8 @@ pub record DecidesNothing (marks : List Mark) : Type 0 where
   pub programs : length (programs_in marks) ≤ program_limit
 
 -- `Decides files programs mark fault`: the mark `mark` decides the result of loading, which is the
--- error `fault`. Among the marks before `mark` are `files` files and `programs` programs.
+-- error `fault`. The mark is an error, or a file or a program that exceeds the limit. Among the
+-- marks before `mark` are `files` files and `programs` programs.
 pub data Decides (files programs : ℕ) : Mark → SuiteFault → Type 0 where
   is_fault : (fault : SuiteFault) → Decides files programs (Fault fault) fault
   file_too_many : (at : Site) → file_limit ≤ files → Decides files programs (File at) (site_fault at TooMany)

@@ -31,8 +31,9 @@ abbrev pub value_cause : Option PropFault → Option SuiteCause
 value_cause None = None
 value_cause (Some fault) = Some BadValue
 
--- `key_fault key pair`: the cause of the error in the pair `pair`, if any. The key in this pair is
--- of the kind `key`.
+-- `key_fault key pair`: the cause of the error in the pair `pair`, whose key is of the kind `key`.
+-- It is `UnknownProperty` for an unknown key, `BadValue` for a bad value of a property, and
+-- otherwise `None`.
 abbrev pub key_fault : Key → Variable → Option SuiteCause
 key_fault key.Name pair = None
 key_fault key.TestSuite pair = None

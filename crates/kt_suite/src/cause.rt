@@ -33,13 +33,14 @@ pub enum SuiteCause {
     /// A statement after the first is an assignment, a call of `syntax`, or a call of an unknown
     /// function.
     UnknownCall,
-    /// A key of a program's table is not `name`, `test_suite` or a property that a Kyuafile may
-    /// set.
+    /// A key in the table of a call that registers a program is not `name`, `test_suite` or a
+    /// property that a Kyuafile may set.
     UnknownProperty,
     /// The argument of a call or the value of a key is invalid, or a program has no name or an
     /// empty name.
     BadValue,
-    /// Neither the program's table nor an earlier `test_suite` of the file names a test suite.
+    /// Neither the program's table nor an earlier call of `test_suite` in the file sets a test
+    /// suite.
     NoSuite,
     /// The name of a program has a slash, or is `.` or `..`.
     PathHasDirectory,

@@ -17,7 +17,8 @@ fn covers(filter: &Filter, other: &Filter) -> bool
 
 /// Returns `true` if there is a test case that both `filter` and `other` match.
 ///
-/// This is the case if one of the two filters matches each case that the other filter matches.
+/// Such a case exists if and only if one of the two filters matches each case that the other filter
+/// matches.
 fn do_overlap(filter: &Filter, other: &Filter) -> bool
     ensures { result ≡ do_overlap filter.now other.now }
 {

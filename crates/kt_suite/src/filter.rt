@@ -10,8 +10,8 @@ use thiserror::Error;
 
 /// Errors returned by [`Filter::parse`] and [`check_disjoint`](crate::check_disjoint).
 ///
-/// The field of a variant is a position in the list of filters, from 0. `Display` prints the
-/// message without the filter (this profile).
+/// The field of `Repeated` and of `NotDisjoint` is the position of the filter with the error in the
+/// list of filters, from 0. `Display` prints the message without the filter (this profile).
 #[derive(Clone, Copy, Debug, Error)]
 #[error("{}", self.message())]
 pub enum FilterFault {

@@ -167,6 +167,8 @@ pub fn load<T: Tree>(alloc: Global, tree: &mut T, root: &Text) -> Result<Items<P
 }
 
 /// Theorem: loading an unchanged tree twice gives the same result, unless an allocation fails.
+///
+/// The tree is unchanged if equal calls of its functions have equal results.
 pub fn theorem_of_reloading()
     ensures steady { (first second : List Asked) (root : List ℕ) (r s : Outcome)
         → HasStableResults (first ++ second) → Registered first root r → Registered second root s

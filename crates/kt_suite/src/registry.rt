@@ -40,7 +40,7 @@ impl Registry {
         programs
     }
 
-    /// Removes the file that was opened last from the open files, and returns the registry.
+    /// Removes the last of the open files, and returns the registry.
     ///
     /// All statements of this file were executed.
     pub fn end(self) -> Registry

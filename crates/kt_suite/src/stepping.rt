@@ -46,7 +46,7 @@ fn include_cause(files: &[Text], path: &Text) -> Option<SuiteCause>
 /// Counts the included file at `path` in `registry`, and returns the registry.
 ///
 /// The `include` statement is in the line `line` of `file`. Fails if the included file is already
-/// open, or if a limit of the profile is reached.
+/// open, if 32 files are already open, or if 10,000 files are already counted.
 fn count_include(
     alloc: Global,
     file: &Text,
@@ -67,12 +67,12 @@ fn count_include(
     Ok(registry)
 }
 
-/// Returns the next step of the loader for an `include` of the file `name`: the step reads this
+/// Returns the loader's next step after an `include` of the file `name`, which is to read this
 /// file.
 ///
 /// The step has `registry`, with the included file counted. The `include` statement is in the line
-/// `line` of `file`. `name` is relative to the directory of `file`. Fails if the file may not be
-/// included, or if an allocation fails.
+/// `line` of `file`. `name` is relative to the directory of `file`. Fails if the included file is
+/// already open or exceeds a limit of [`load`](crate::load), or if an allocation fails.
 fn include(
     alloc: Global,
     file: &Text,
@@ -136,8 +136,9 @@ fn register_program<T: Tree>(
 ///
 /// # Errors
 ///
-/// - [`SuiteFault`] with the line of the statement: the statement has an error, the file may not be
-///   included, or the program can't be registered.
+/// - [`SuiteFault`] with the line of the statement: the statement has an error, the included file
+///   is already open, the program's file is missing, or a limit of [`load`](crate::load) is
+///   exceeded.
 /// - [`SuiteFault`] with the cause `NoMemory`: an allocation fails.
 pub fn step<T: Tree>(
     alloc: Global,

@@ -20,7 +20,7 @@ enum Key {
     TestSuite,
     /// The name of a property that a Kyuafile may set.
     Property,
-    /// A key that a table may not have.
+    /// A key that the table of a program may not have.
     Unknown,
 }
 
@@ -143,8 +143,8 @@ fn set_pair(
     }
 }
 
-/// Returns the table of a program that `pairs` declare, or the cause of the error in the first
-/// invalid pair.
+/// Creates the table of a program from the keys and values in `pairs`, or returns the cause of the
+/// error in the first invalid pair.
 fn build_table(alloc: Global, pairs: &[Pair]) -> Result<Result<ProgramTable, SuiteCause>, NoMemory>
     ensures { IfOk result (λ found. found ≡ declared pairs.now) }
 {

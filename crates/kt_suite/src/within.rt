@@ -5,7 +5,7 @@ use kt_base::Text;
 
 /// Returns `true` if a path component can end before the byte at the index `place` of `path`.
 ///
-/// This byte is a slash, or `path` has no such byte.
+/// It can if this byte is a slash, or if `path` has no byte at this index.
 fn ends_component_at(path: &[u8], place: usize) -> bool
     ensures { result ≡ is_within [] (drop place path.now) }
 {
@@ -29,8 +29,8 @@ fn ends_component(rest: &str) -> bool
 
 /// Returns `true` if the path `path` is `directory` or is below `directory`.
 ///
-/// The paths are compared as texts. The byte of `path` after the length of `directory` is checked
-/// first, since this rejects most paths.
+/// The paths are compared as texts. The byte of `path` whose index is the length of `directory` is
+/// checked first, since this rejects most paths.
 pub fn is_within(directory: &Text, path: &Text) -> bool
     ensures { result ≡ is_within directory.now path.now }
 {

@@ -18,14 +18,14 @@ abbrev pub props_with : List Variable → Variable → Result (List Variable) Su
 props_with before pair =
     cause_or_value (value_cause (definition_fault pair.name pair.value)) (last_values (before ++ pair ∷ []))
 
--- `with_props found props`: the table `found` with the properties that `props` contains, or the
--- cause of the error if `props` is an error.
+-- `with_props found props`: the table `found` with its properties replaced by those in `props`, or
+-- the cause in `props` if `props` is an error.
 abbrev pub with_props : ProgramTable → Result (List Variable) SuiteCause → Result ProgramTable SuiteCause
 with_props found (Ok props) = Ok (record found { props = props })
 with_props found (Err cause) = Err cause
 
--- `table_with before pair`: the table of the pairs `before`, followed by the pair `pair`, or the
--- cause of the error in `pair`.
+-- `table_with before pair`: the table that the pairs `before` and then the pair `pair` declare, or
+-- the cause of the error in `pair`.
 abbrev pub table_with : List Variable → Variable → Result ProgramTable SuiteCause
 table_with before pair = cause_or_value (pair_fault pair) (table_of (before ++ pair ∷ []))
 

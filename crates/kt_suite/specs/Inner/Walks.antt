@@ -14,8 +14,8 @@ use Rattle.kt_suite.specs.Meanings.{opening_fault}
 use Rattle.kt_suite.specs.Registered.{file_limit, program_limit, calls_in, Decides, IsAtMostNextCall}
 
 -- `AddsMarks r marks after`: the loader's registry `after` is the registry `r` with the files and
--- programs of `marks` added. `marks` are events of reading a tree. No mark is an error, and no file
--- or program exceeds its limit.
+-- programs of `marks` added. `marks` are events of reading a tree. No mark is an error, and the
+-- limits of files and of programs are not exceeded.
 abbrev pub AddsMarks : Registry → List Mark → Registry → Type 0
 AddsMarks r [] after = after ≡ r
 AddsMarks r (CallMark question ∷ marks) after = AddsMarks r marks after
@@ -24,11 +24,13 @@ AddsMarks r (ProgramMark at program ∷ marks) after =
     (length r.programs < program_limit) × AddsMarks (record r { programs = r.programs ++ program ∷ [] }) marks after
 AddsMarks r (Fault fault ∷ marks) after = ⊥
 
--- `LoadsMarks leads old new Gives r result`: from the registry `r` on, the loader executed a list
--- of marks that has the property `Gives`. The result `result` is the registry after the last mark,
--- the error of the first mark that decides, or the error of a failed allocation. By the relation
--- `leads`, the calls among the executed marks lead from the tree's state `old` to its state `new`.
--- Before a failed allocation, the next call may have been made, too.
+-- `LoadsMarks leads old new Gives r result`: from its registry `r` on, the loader processed a list
+-- of marks that satisfies the predicate `Gives`. If no mark decides the result of loading, `result`
+-- is the registry after the last mark. Otherwise, `result` is the error of the first mark that
+-- decides, and the loader stopped before this mark. `result` may also be the error of a failed
+-- allocation. By the relation `leads`, the calls among the processed marks lead from the tree's
+-- state `old` to its state `new`. If an allocation failed, the call of the next mark may have been
+-- made, too.
 pub data LoadsMarks {S : Type 0} (leads : S → Asked → S → Type 0) (old new : S) (Gives : List Mark → Type 0) (r : Registry)
     : Result Registry SuiteFault → Type 0 where
   through : (marks : List Mark) (after : Registry)
@@ -42,14 +44,15 @@ pub data LoadsMarks {S : Type 0} (leads : S → Asked → S → Type 0) (old new
       → IsNoMemory fault → LoadsMarks leads old new Gives r (Err fault)
 
 -- `FileGives files file marks`: `marks` are the events of reading the file `file` while the files
--- `files` are open, for some results of the calls.
+-- `files` are open. The calls among these events may have any results.
 pub record FileGives (files : List (List ℕ)) (file : List ℕ) (marks : List Mark) : Type 0 where
   pub parts : List Part
   pub says : FileGivesParts file parts
   pub unfolds : Unfolds (files ++ file ∷ []) parts marks
 
 -- `MeaningGives files at meaning marks`: `marks` are the events of executing a statement with the
--- meaning `meaning` at the site `at`, for some results of the calls. The files `files` are open.
+-- meaning `meaning` at the site `at` while the files `files` are open. The calls among these events
+-- may have any results.
 pub record MeaningGives (files : List (List ℕ)) (at : Site) (meaning : Meaning) (marks : List Mark) : Type 0 where
   pub there : Bool
   pub unfolds : Unfolds files (statement_parts at there meaning) marks
@@ -57,7 +60,7 @@ pub record MeaningGives (files : List (List ℕ)) (at : Site) (meaning : Meaning
 module _ {S : Type 0} (leads : S → Asked → S → Type 0) (old new : S) where
   -- `RegistersProgram leads old new at r program result`: the statement at the site `at` registers
   -- the program `program`. `result` is the registry `r` with the program appended, or an error: the
-  -- program's file is missing, the program exceeds the limit, or an allocation failed. By the
+  -- program's file is missing, the limit of programs is exceeded, or an allocation failed. By the
   -- relation `leads`, the statement's calls lead from the tree's state `old` to its state `new`.
   abbrev pub RegistersProgram : Site → Registry → Program → Result Registry SuiteFault → Type 0
   RegistersProgram at r program result =
