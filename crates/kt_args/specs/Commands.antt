@@ -28,8 +28,8 @@ abbrev pub adds_run : Command → Bool
 adds_run (command.Test options file) = true
 adds_run other = false
 
--- `filter_rule_of c`: the rule on the number of filters that the command `c` accepts, if it is
--- `list`, `test` or `debug`: exactly one for `debug`, and any number for the others.
+-- `filter_rule_of c`: the rule on the number of filters that the command `c` accepts: exactly one
+-- for `debug`, and any number for `list` and `test`. The rule of a report is not used.
 abbrev pub filter_rule_of : Command → FilterRule
 filter_rule_of (command.Debug options) = OneCase
 filter_rule_of other = AnyFilters

@@ -79,19 +79,21 @@ report_options before own run' = record {
   run = run';
 }
 
--- `report_or_error before own kinds run'`: the command `report`, or the error of its options. If
--- `kinds`, the kinds of verdicts, is `None`, the error is `BadKind`. Otherwise, if `run'`, the
--- optional run number, is `None`, the error is `BadRun`. `before` are the options before the
--- command's name, and `own` are the options and arguments after it, with their values.
+-- `report_or_error before own kinds run'`: the command `report` with the kinds of verdicts `kinds`
+-- and the run number `run'`, or the error of its options. `kinds` is `None` for a wrong results
+-- filter: the error is `BadKind`. Otherwise, the error is `BadRun` for a wrong run number, where
+-- `run'` is `None`. `run'` is `Some None` if no run number is given. `before` are the options
+-- before the command's name, and `own` are the options and arguments after it, with their values.
 abbrev pub report_or_error : List Row → List Row → Option (List Kind) → Option (Option ℕ) → Result Command CommandFault
 report_or_error before own None run' = Err fault.BadKind
 report_or_error before own (Some kinds) None = Err fault.BadRun
 report_or_error before own (Some kinds) (Some run') =
     Ok (command.Report (report_options before own run') kinds (is_true (first_of (codes "verbose") own)))
 
--- `junit_or_error before own run'`: the command `report-junit`, or the error of its options. If
--- `run'`, the optional run number, is `None`, the error is `BadRun`. `before` are the options
--- before the command's name, and `own` are the options and arguments after it, with their values.
+-- `junit_or_error before own run'`: the command `report-junit` with the run number `run'`, or the
+-- error `BadRun` for a wrong run number, where `run'` is `None`. `run'` is `Some None` if no run
+-- number is given. `before` are the options before the command's name, and `own` are the options
+-- and arguments after it, with their values.
 abbrev pub junit_or_error : List Row → List Row → Option (Option ℕ) → Result Command CommandFault
 junit_or_error before own None = Err fault.BadRun
 junit_or_error before own (Some run') = Ok (command.ReportJunit (report_options before own run'))

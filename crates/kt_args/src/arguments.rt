@@ -20,9 +20,9 @@ pub const DEFAULT_RESULTS_FILE: &str = "kyua.db";
 const OPTIONS_HINT: &str =
     "The options -c FILE and -v NAME=VALUE stand before the command; see 'kyua --help'.";
 
-/// Creates an option such as `--work DIR`. `long` is the name of the option without `--`, and
-/// `value` is the name of its value in the help.
+/// Creates an option with one value, such as `--work DIR`.
 ///
+/// `long` is the name of the option without `--`, and `value` is the name of its value in the help.
 /// `clap` stores the value of the option under the name `id`.
 fn option_arg<'a>(alloc: Global, id: &'a str, long: &'a str, value: &'a str) -> Arg<'a>
     ensures rule { rule_of result ≡ option_rule id.entry.now long.entry.now }

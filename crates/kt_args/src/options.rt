@@ -38,7 +38,7 @@ pub struct ReportOptions {
     pub variables: Items<Text>,
     /// The path of the results file (`-r`).
     pub results: Text,
-    /// The number of the run (`--run`), 1 to 1,000,000, or `None` for the last run.
+    /// The number of the run to show (`--run`), 1 to 1,000,000, or `None` for the last run.
     pub run: Option<u64>,
 }
 

@@ -15,8 +15,10 @@ use std::io;
 /// The message for arguments that are not UTF-8, as `clap` prints it.
 const INVALID_UTF8: &str = "invalid UTF-8 was detected in one or more arguments";
 
-/// Returns the first value of the option `name` in `matches`, the values that `clap` found. Returns
-/// `None` if the option has no value. `name` is the name under which `clap` stores the values.
+/// Returns the first value of the option `name` in `matches`, or `None` if the option has no value.
+///
+/// `matches` has the values that `clap` found. `name` is the name under which `clap` stores the
+/// value.
 fn option_value<'a>(matches: &ArgMatches<'a>, name: &str) -> Option<&'a str>
     ensures { option_map (λ word. word.now) result
         ≡ first_of name.now (rows_of (found_of matches.now)) }
@@ -24,10 +26,10 @@ fn option_value<'a>(matches: &ArgMatches<'a>, name: &str) -> Option<&'a str>
     matches.get_str(name)
 }
 
-/// Returns all values of the option or argument `name` in `matches`, in order. `name` is the name
-/// under which `clap` stores the values.
+/// Returns all values of the option or argument `name` in `matches`, in order.
 ///
-/// Returns `None` if the option or argument has no value.
+/// `matches` has the values that `clap` found. `name` is the name under which `clap` stores the
+/// values. Returns `None` if the option or argument has no value.
 fn option_values<'b, 'a>(matches: &'b ArgMatches<'a>, name: &str) -> Option<&'b [&'a str]>
     ensures { option_map (λ words. map (λ word. word.now) words.now) result
         ≡ all_of name.now (rows_of (found_of matches.now)) }
@@ -38,9 +40,9 @@ fn option_values<'b, 'a>(matches: &'b ArgMatches<'a>, name: &str) -> Option<&'b 
 /// Returns a copy of the first value of the option `name` in `matches`, or of the default `instead`
 /// if the option has no value.
 ///
-/// `clap` has the same default: it prints the default in its help, and uses it as the value of a
-/// missing option. That `clap` uses it for each option is not proved, so this function applies the
-/// default, too.
+/// `matches` has the values that `clap` found. `clap` has the same default: it prints the default
+/// in its help, and uses it as the value of a missing option. That `clap` uses it for each option
+/// is not proved, so this function applies the default, too.
 fn option_text_or_default<'a>(
     alloc: Global,
     matches: &ArgMatches<'a>,
@@ -58,6 +60,8 @@ fn option_text_or_default<'a>(
 
 /// Returns a copy of the first value of the option `name` in `matches`, or `None` if the option has
 /// no value.
+///
+/// `matches` has the values that `clap` found.
 fn option_text<'a>(
     alloc: Global,
     matches: &ArgMatches<'a>,
@@ -82,8 +86,10 @@ fn texts(alloc: Global, words: &[&str]) -> Result<Items<Text>, NoMemory>
     Ok(texts)
 }
 
-/// Returns copies of all values of the option or argument `name` in `matches`, in order. The result
-/// is empty if there is no value.
+/// Returns copies of all values of the option or argument `name` in `matches`, in order.
+///
+/// `matches` has the values that `clap` found. The result is empty if the option or argument has no
+/// value.
 fn option_texts<'a>(
     alloc: Global,
     matches: &ArgMatches<'a>,
@@ -97,7 +103,7 @@ fn option_texts<'a>(
     }
 }
 
-/// Parses the value of `--run` in `matches` as a run number. Returns `None` if the option is not
+/// Parses the value of `--run` in `matches` as a run number, or returns `None` if the option is not
 /// given.
 ///
 /// Fails with `BadRun` if the value is not a run number.
@@ -114,10 +120,10 @@ fn run_option<'a>(matches: &ArgMatches<'a>) -> Result<Option<u64>, CommandFault>
     }
 }
 
-/// Parses the value of `--results-filter` in `matches` as kinds of verdicts. Returns the default
-/// kinds if the option is not given.
+/// Parses the value of `--results-filter` in `matches` as kinds of verdicts.
 ///
-/// Fails with `BadKind` if an element does not name a kind.
+/// Returns the default kinds if the option is not given. Fails with `BadKind` if an element of the
+/// value does not name a kind.
 fn kinds_option<'a>(alloc: Global, matches: &ArgMatches<'a>) -> Result<Items<Kind>, CommandFault>
     ensures { ParsesKinds (kinds_option (first_of (codes "kinds") (rows_of (found_of matches.now))))
         result }
@@ -167,18 +173,18 @@ fn case_options<'a>(
     })
 }
 
-/// Returns the path of the results file (`-r`) in `own`, or the default path `kyua.db`.
+/// Returns the path of the results file (`-r`) in `own`, the values after the command's name, or
+/// the default path `kyua.db`.
 fn results_of<'a>(alloc: Global, own: &ArgMatches<'a>) -> Result<Text, NoMemory>
     ensures { IfOk result (λ text. text ≡ results_path (rows_of (found_of own.now))) }
 {
     option_text_or_default(alloc, own, "results", DEFAULT_RESULTS_FILE)
 }
 
-/// Returns the values of the options of `report` or `report-junit`. `run` is the run number, if it
-/// is given.
+/// Returns the values of the options that `report` and `report-junit` share.
 ///
 /// `before` has the values before the command's name (`-c` and `-v`). `own` has the values after
-/// this name.
+/// this name. `run` is the run number, or `None` if it is not given.
 fn report_options<'a>(
     alloc: Global,
     before: &ArgMatches<'a>,
