@@ -15,8 +15,8 @@ pub data InitialDatabase : Type 0 where
   Schema1 : (runs : List Run) → InitialDatabase
   Numbered : (n : ℤ) → InitialDatabase
 
--- `Describes was s`: `was` describes the database of a connection in state `s`. Each description
--- holds for a closed connection, or if the disk has returned wrong data.
+-- `Describes was s`: `was` describes the database of a connection in state `s`. Any description
+-- holds if the connection is closed or the disk has returned wrong data.
 abbrev pub Describes : InitialDatabase → State → Type 0
 Describes Blank s = IsEmpty s
 Describes (Schema2 runs) s = StandsFor s runs
@@ -24,11 +24,12 @@ Describes (Schema1 runs) s = RepresentsInSchema1 s runs
 Describes (Numbered n) s = StoresSchemaNumber n s
 
 -- `AttachSucceeds was old new`: the effect of a successful `Results::attach`, which led a
--- connection from state `old` to `new`. The database in `old` is as `was` describes. In `new`, the
--- tables represent the runs of `was` (no runs for `Blank`), and a crash leaves only these runs. A
--- crash during the call leaves what a crash in `old` leaves or, if the call wrote, these runs. For
--- `Numbered`, the schema number is 1 or 2, and SQLite can prepare the queries of this schema,
--- unless the disk has returned wrong data.
+-- connection from state `old` to `new`. `was` describes the database in `old`. For `Blank`,
+-- `Schema1` and `Schema2`, the tables in `new` represent the runs of `was` (no runs for `Blank`),
+-- and a crash leaves only these runs. `Survives` also holds: the call adds at most these runs to
+-- what a crash may leave, and for `Schema2` nothing. For `Numbered`, the schema number is 1 or 2,
+-- and SQLite can prepare the queries of this schema. Nothing is stated of the runs and the queries
+-- if the disk has returned wrong data.
 abbrev pub AttachSucceeds : InitialDatabase → State → State → Type 0
 AttachSucceeds Blank old new = StandsFor new [] × Leaves new (IsSchema2Of []) × Survives old new (IsSchema2Of [])
 AttachSucceeds (Schema2 runs) old new = StandsFor new runs × Leaves new (IsSchema2Of runs) × Survives old new (λ _. ⊥)
@@ -36,13 +37,14 @@ AttachSucceeds (Schema1 runs) old new = StandsFor new runs × Leaves new (IsSche
 AttachSucceeds (Numbered n) old new = HasCleanDisk new → ((n ≡ pos 1) ⊎ (n ≡ pos 2)) × HasTables n old
 
 -- `AttachFails was old new fault`: the effect of a failed `Results::attach`, which led a connection
--- from state `old` to `new`. The database in `old` is as `was` describes, and `fault` is the error.
--- For the first three descriptions, the database in `new` is also as `was` describes. Unless the
--- disk has returned wrong data, `fault` then reports that memory ran out or that the database
--- failed. If the connection was open, a crash in `new` leaves the runs of `was`, for `Schema1` in
--- schema 1 or 2. For `Numbered n` with `n` other than 1, nothing changed or the open transaction
--- was rolled back, unless the disk has returned wrong data. A crash during the call leaves what a
--- crash in `old` leaves or, for `Blank` and `Schema1`, the runs of `was` in schema 2.
+-- from state `old` to `new`. `was` describes the database in `old`, and `fault` is the error. For
+-- `Blank`, `Schema1` and `Schema2`, `was` also describes the database in `new`. Unless the disk has
+-- returned wrong data, `fault` then reports that memory ran out or that the database failed. If the
+-- connection was open, a crash in `new` leaves the runs of `Schema2` in schema 2, or the runs of
+-- `Schema1` in schema 1 or 2. For `Numbered n` with `n` other than 1, nothing changed or the open
+-- transaction was rolled back, unless the disk has returned wrong data. A crash in `new` leaves
+-- what a crash in `old` leaves or, for `Blank` and `Schema1`, the runs of `was` in schema 2. For
+-- `Numbered 1`, nothing is stated.
 abbrev pub AttachFails : InitialDatabase → State → State → StoreFault → Type 0
 AttachFails Blank old new fault = IsEmpty new × Survives old new (IsSchema2Of []) × (HasCleanDisk new → IsDatabaseFault fault)
 AttachFails (Schema2 runs) old new fault = StandsFor new runs × Survives old new (λ _. ⊥) × (HasCleanDisk new → IsDatabaseFault fault) × (IsTrue old.is_open → Leaves new (IsSchema2Of runs))

@@ -98,8 +98,9 @@ module _ {D : Type 0} {g : disk.Ghosts D} where
     pub whose : Lists image store ⊎ ((results : Held (FileStore D g)) × AreResultsOf image results × Follows results store)
     pub numbered : IsClean (view store) → MustBeChecked image → IsTrue (view store).is_numbered
 
-  -- `Ends store`: the close of `store` succeeded and left two files. Unless the disk has returned
-  -- wrong data, the last commit of `store` is in the database file alone, also after a crash.
+  -- `Ends store`: the close of `store` succeeded and left the log and the database file. Unless the
+  -- disk has returned wrong data, the files contain the last commit of `store`, also without the
+  -- log. This also holds after a crash.
   pub record Ends (store : FileStore D g) : Type 0 where
     pub last : FileStore D g
     pub quiet : IsQuiet view faults recovers is_shielded store last
@@ -110,8 +111,8 @@ module _ {D : Type 0} {g : disk.Ghosts D} where
         × HasTrees (view store).is_numbered (view store).committed (record image { log = [] })
 
   -- `FailsToClose store last`: the close of `store` failed and left the store `last`. Unless the
-  -- disk has returned wrong data, the two files of `last` have B-trees that a crash of `store` may
-  -- leave. This also holds after a crash.
+  -- disk has returned wrong data, the log and the database file of `last` have B-trees that a crash
+  -- of `store` may leave. This also holds after a crash.
   pub record FailsToClose (store last : FileStore D g) : Type 0 where
     pub quiet : IsQuiet view faults recovers is_shielded store last
     pub left : AreClean g (files_in last).0 (files_in last).1 → (image : Image) → outcomes g (files_in last).0 (files_in last).1 image

@@ -13,13 +13,13 @@ kind_code ExpectedFailure = 2
 kind_code Failed = 3
 kind_code Broken = 4
 
--- `flag finished`: the number that represents `finished`, which is `true` for a finished run, in
--- the table `runs`: 1 for `true`, 0 for `false`
+-- `flag finished`: the value of the column `finished` in the table `runs`: 1 for a finished run,
+-- where `finished` is `true`, else 0
 abbrev pub flag : Bool → ℤ
 flag finished = if finished then pos 1 else pos 0
 
--- `run_row r`: the row of run `r` in the table `runs` as SQLite stores it. It has the rowid, NULL
--- in the column of the rowid, and the other columns.
+-- `run_row r`: the row of run `r` in the table `runs` as SQLite stores it: the rowid, then the
+-- columns. The first column, `id`, is NULL, since its value is the rowid.
 abbrev pub run_row : Run → Row
 run_row r = Int (pos r.number) ∷ Null ∷ Int (pos r.started) ∷ Int (pos r.total) ∷ Int (flag r.finished) ∷ []
 

@@ -50,9 +50,9 @@ module _ {R : Type 0} (LeavesOne : R → List (List Run) → Type 0) where
   SurvivesCrash _ runs may old new = LeavesOne old may → LeavesOne new may
 
 -- `Serves r call old new`: `call` leads a store with the specification `r` from `old` to `new`. If
--- `old` represents runs, `new` represents the changed runs, and a crash leaves the runs that
--- `SurvivesCrash` states. If `new` is sound, `old` was sound, and the result of `call` agrees with
--- the runs.
+-- `old` represents runs, `new` represents the runs after the call (`runs_after`), and a crash
+-- leaves the runs that `SurvivesCrash` states. If `new` is then sound, `old` was sound, and the
+-- result of `call` agrees with the runs (`Agrees`).
 pub record Serves {R : Type 0} (r : store.Ghosts R) (call : StoreCall) (old new : R) : Type 0 where
   pub asked : r.answers old call new
   pub stands : (runs : List Run) → r.stands old runs → r.stands new (runs_after call runs)

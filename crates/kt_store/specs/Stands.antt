@@ -20,8 +20,8 @@ pub record IsSettled (P : Database → Type 0) (s : State) : Type 0 where
 abbrev pub IsSettledWhileOpen : (Database → Type 0) → State → Type 0
 IsSettledWhileOpen P s = HasCleanDisk s → IsTrue s.is_open → IsSettled P s
 
--- `IsSettledWithRuns s runs`: in state `s` of a connection no transaction is open, and the tables have
--- exactly `runs`
+-- `IsSettledWithRuns s runs`: in state `s` of a connection, no transaction is open, and the
+-- connection shows its last commit: a database of schema 2 with exactly `runs`
 abbrev pub IsSettledWithRuns : State → List Run → Type 0
 IsSettledWithRuns s runs = IsSettled (λ db. Tables db runs) s
 

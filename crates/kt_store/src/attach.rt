@@ -14,20 +14,20 @@ use sqlite::{Alter, Connection};
 pub const CREATE_META: &str =
     "CREATE TABLE meta (name TEXT PRIMARY KEY, value INTEGER NOT NULL) STRICT";
 
-/// The statement that creates the table `runs`, with a row for each run.
+/// The SQL statement that creates the table `runs`, with a row for each run.
 pub const CREATE_RUNS: &str =
     "CREATE TABLE runs (id INTEGER PRIMARY KEY, started INTEGER NOT NULL, total INTEGER NOT NULL, finished INTEGER NOT NULL CHECK (finished IN (0, 1))) STRICT";
 
-/// The statement that creates the table `entries`, with a row for each recorded test case.
+/// The SQL statement that creates the table `entries`, with a row for each recorded test case.
 pub const CREATE_ENTRIES: &str =
     "CREATE TABLE entries (run INTEGER NOT NULL REFERENCES runs (id), position INTEGER NOT NULL, program TEXT NOT NULL, case_name TEXT NOT NULL, kind INTEGER NOT NULL CHECK (kind BETWEEN 0 AND 4), reason TEXT NOT NULL, started INTEGER NOT NULL, millis INTEGER NOT NULL, body_out BLOB NOT NULL, body_err BLOB NOT NULL, clean_out BLOB NOT NULL, clean_err BLOB NOT NULL, PRIMARY KEY (run, position)) STRICT";
 
-/// The statement that creates the table `props`, with a row for each property of an entry.
+/// The SQL statement that creates the table `props`, with a row for each property of an entry.
 pub const CREATE_PROPS: &str =
     "CREATE TABLE props (run INTEGER NOT NULL, position INTEGER NOT NULL, place INTEGER NOT NULL, name TEXT NOT NULL, value TEXT NOT NULL, PRIMARY KEY (run, position, place)) STRICT";
 
-/// Theorem: while a connection is open, both the database that it shows and the database of its
-/// last commit are valid.
+/// Theorem: while a connection is open, the rows that it shows and the rows of its last commit obey
+/// their schemas.
 // No effect: the call states the fact for the prover.
 pub fn lives<S: Alter>(conn: &Connection<S>)
     ensures { IsLive (state S.Store conn.now) }

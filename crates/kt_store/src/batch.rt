@@ -14,9 +14,9 @@ pub(crate) trait Batch {
     /// execution.
     ghost statements: { Self → List Statement };
 
-    /// The condition that a batch must meet before `fill` is called, which each implementation
-    /// defines. It implies that each statement creates a table of the store or can be prepared over
-    /// these tables.
+    /// The condition under which the statements of a batch can be executed. Each implementation
+    /// defines this condition. Each statement then creates a table of the store, or can be prepared
+    /// over the tables of the store.
     ghost is_ready: { Self → Type 0 };
 
     /// Executes the statements of the batch in order in the open transaction `tx`, without

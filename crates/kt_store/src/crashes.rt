@@ -3,11 +3,12 @@ ghost use Rattle.kt_store.specs.Common.{Run, Held, state, Survives, IsSchema2Of,
 
 use sqlite::Alter;
 
-/// Theorem: the calls on a store determine which lists of runs a crash may leave, if the disk has
-/// returned no wrong data.
+/// Theorem: if the disk has returned no wrong data, the calls on a store determine which lists of
+/// runs a crash may leave.
 ///
-/// After a committed call, a crash leaves the runs after this call. A later call that may write
-/// adds one possible list: the runs after it. A later call that only reads adds no list.
+/// After a call that committed, a crash leaves the runs after this call. A later call that may
+/// write adds one possible list: the runs after the later call. A later call that only reads adds
+/// no list.
 pub fn theorem_of_crashes<S: Alter>()
     ensures done { (s : Held S) (runs : List Run) → Leaves (state S.Store s) (IsSchema2Of runs)
         → Leaves (state S.Store s) (IsSchema2OfOne (runs ∷ [])) }

@@ -10,8 +10,9 @@ use sqlite::{Alter, Connection};
 /// The maximum number of runs in a store (this profile).
 pub const MAX_RUNS: u32 = 1_000_000;
 
-/// Reads the number of selected cases and the finished flag of the run with the key `run` in the
-/// tables. The flag is 1 for a finished run, else 0. Returns `None` if there is no such run.
+/// Reads two columns of the run with the key `run` in the table `runs`: the number of selected
+/// cases, and the finished flag. The flag is 1 for a finished run, else 0. Returns `None` if there
+/// is no such run.
 pub(crate) fn find<S: Alter>(
     conn: &mut Connection<S>,
     run: u32,
@@ -76,7 +77,7 @@ pub(crate) fn look_up_run<S: Alter>(
     Ok((total, finished > 0))
 }
 
-/// Returns `true` if the run with the key `run` in the tables has an entry at `position`.
+/// Returns `true` if the table `entries` has an entry at `position` for the run with the key `run`.
 pub(crate) fn there<S: Alter>(
     conn: &mut Connection<S>,
     run: u32,

@@ -31,7 +31,7 @@ pub trait StoreSpec {
     ghost use Rattle.kt_store.specs.StoreCalls.{StoreCall};
 
     /// `answers old call new`: `call`, a call with its result, may change the store from `old` to
-    /// `new`. The relation also holds for a store that returns wrong data.
+    /// `new`. Each call meets this relation, even if the store has returned wrong data.
     ghost answers: { Self → StoreCall → Self → Type 0 };
 
     /// `stands store runs`: `store` represents `runs`.
@@ -63,7 +63,7 @@ pub trait ResultStore: StoreSpec {
     ghost use Rattle.kt_store.specs.Common.{IsMoment, IsNumbered, IsStorable, IsDatabaseFault, Serves, Began, Put, Finished, Head, Outline, Pairs, Outputs, map_success};
 
     /// Adds an unfinished run of `total` cases, and returns the number of the run. `moment` is the
-    /// start of the run, in milliseconds since 1970-01-01 UTC.
+    /// start of the run, in milliseconds since 1970-01-01 UTC, up to the end of the year 9999.
     ///
     /// # Errors
     ///

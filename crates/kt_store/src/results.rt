@@ -86,7 +86,7 @@ impl<S: Alter> Results<S> {
     }
 
     /// Adds an unfinished run of `total` cases, and returns the number of the run. `moment` is the
-    /// start of the run, in milliseconds since 1970-01-01 UTC.
+    /// start of the run, in milliseconds since 1970-01-01 UTC, up to the end of the year 9999.
     ///
     /// # Errors
     ///

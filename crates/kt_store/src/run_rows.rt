@@ -20,8 +20,8 @@ pub(crate) fn is_full<S: Alter>(conn: &mut Connection<S>) -> Result<bool, Databa
 }
 
 /// Inserts an unfinished run of `total` cases with the next number, and returns this number.
-/// `moment` is the start of the run, in milliseconds since 1970-01-01 UTC. The caller has checked
-/// that there are fewer than 1,000,000 runs.
+/// `moment` is the start of the run, in milliseconds since 1970-01-01 UTC, up to the end of the
+/// year 9999. The caller has checked that there are fewer than 1,000,000 runs.
 pub(crate) fn add_run<S: Alter>(
     conn: &mut Connection<S>,
     total: u32,
@@ -70,7 +70,7 @@ pub(crate) fn check<S: Alter>(conn: &mut Connection<S>, run: u64) -> Result<(), 
     Ok(())
 }
 
-/// Marks the run with the key `run` in the tables as finished, in one commit. The caller has
+/// Marks the run with the key `run` as finished in the table `runs`, in one commit. The caller has
 /// checked that the run has an entry for each selected case.
 pub(crate) fn mark_finished<S: Alter>(
     conn: &mut Connection<S>,

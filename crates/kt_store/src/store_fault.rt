@@ -17,7 +17,7 @@ use thiserror::Error;
 pub enum StoreFault {
     /// An allocation failed.
     NoMemory(AllocationFailure),
-    /// The database failed.
+    /// The database failed, for example because a call of SQLite failed or the file is damaged.
     Store(DatabaseFailure),
     /// No run has the requested number, or the run has no entry at the requested position.
     NoRun,
@@ -61,7 +61,7 @@ impl StoreFault {
 pub enum DatabaseError {
     /// An allocation failed.
     NoMemory(AllocationFailure),
-    /// The database failed.
+    /// The database failed, for example because a call of SQLite failed or the file is damaged.
     Failed(DatabaseFailure),
 }
 
@@ -194,11 +194,12 @@ pub fn unopened(error: &OpenError) -> DatabaseError
     }
 }
 
-/// Checks that `is_sound`, the result of a check of stored data, is `true`. Allocates nothing.
+/// Checks that `is_sound`, the result of a check of the results file or of its path, is `true`.
+/// Allocates nothing.
 ///
 /// # Errors
 ///
-/// - `Failed`: `is_sound` is `false`, so the data is damaged.
+/// - `Failed`: `is_sound` is `false`.
 pub fn ensure_sound(is_sound: bool) -> Result<(), DatabaseError>
     ensures sound { OnOk result (is_sound ≡ true) }
     ensures damaged { OnErr result (is_sound ≡ false) }
@@ -210,11 +211,11 @@ pub fn ensure_sound(is_sound: bool) -> Result<(), DatabaseError>
     }
 }
 
-/// Returns the value of `found`, which must be present in sound data.
+/// Returns the value of `found`, without which the database operation fails. Allocates nothing.
 ///
 /// # Errors
 ///
-/// - `Failed`: the value is missing, so the data is damaged.
+/// - `Failed`: `found` is `None`.
 pub fn present<T>(found: Option<T>) -> Result<T, DatabaseError>
     ensures there { IfOk result (λ it. found ≡ Some it) }
     ensures damaged { OnErr result (found ≡ None) }

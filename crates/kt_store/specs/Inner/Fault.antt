@@ -50,6 +50,6 @@ abbrev pub MatchesRecoverError : RecoverError → DatabaseError → Type 0
 MatchesRecoverError error trouble = (IsAllocationFailure trouble × (error ≡ recovery.OutOfMemory)) ⊎ (IsDatabaseFailure trouble × (error ≢ recovery.OutOfMemory))
 
 -- `MatchesWriteError error trouble`: `trouble` reports that memory ran out only if `error`, an
--- error of writing rows, is a B-tree's report of this
+-- error of writing rows, is the error of a B-tree that ran out of memory
 abbrev pub MatchesWriteError : WriteError → DatabaseError → Type 0
 MatchesWriteError error trouble = IsAllocationFailure trouble → error ≡ write.Failed OutOfMemory

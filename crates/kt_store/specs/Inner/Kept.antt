@@ -19,8 +19,8 @@ module _ {S : Type 0} (g : Ghosts S) (old new : Held S) where
   WasClean = HasCleanDisk (state g new) → HasCleanDisk (state g old)
 
   -- `CommitsNothing g old new`: a call led from connection `old` to `new` without a commit. A crash
-  -- after it leaves only what a crash before it leaves, unless the disk has returned wrong data.
-  -- `g` is the specification of connections.
+  -- after the call leaves only what a crash before the call leaves, unless the disk has returned
+  -- wrong data. `g` is the specification of connections.
   abbrev pub CommitsNothing : Type 0
   CommitsNothing = Survives (state g old) (state g new) (λ _. ⊥)
 

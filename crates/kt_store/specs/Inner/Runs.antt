@@ -27,7 +27,7 @@ abbrev pub entries_of : Option Run → List Entry
 entries_of None = []
 entries_of (Some r) = r.entries
 
--- `finished_run_row r`: the values that replace the row of run `r` when it is finished. The first
--- value is the rowid, and the others are the row of `r` with the finished flag 1.
+-- `finished_run_row r`: the values that replace the row of run `r` when the run is finished. The
+-- first value is the rowid, and the others are the row of `r` with the finished flag 1.
 abbrev pub finished_run_row : Run → Row
 finished_run_row r = Int (pos r.number) ∷ Int (pos r.number) ∷ Null ∷ Int (pos r.started) ∷ Int (pos r.total) ∷ Int (pos 1) ∷ []

@@ -48,7 +48,7 @@ creation_statements = plain_statements (create_meta_sql ∷ create_runs_sql ∷ 
 abbrev pub migration_statements : List Statement
 migration_statements = plain_statements (create_props_sql ∷ update_schema_sql ∷ [])
 
--- `begun h`: the connection `h` at the start of a transaction
+-- `begun h`: the connection `h`, changed only in that a transaction is open
 abbrev pub begun : {S : Type 0} → Held S → Held S
 begun h = record h { in_transaction = true }
 
