@@ -41,19 +41,21 @@ pub record KeepsRuns (before after : Image) : Type 0 where
 
 module _ {D : Type 0} {g : Ghosts D} (was : Image → Type 0) (before : Image) (left : Leftover D g) where
   -- `LeavesRuns was before left fault`: an open of the results file and its log failed with
-  -- `fault`. Their content was `before`, and `left` is what remains of them. Before the open, a
-  -- crash could leave the contents for which `was` holds. Now a crash leaves such a content, or a
-  -- content with the runs in `before`. If `before` has runs, `fault` reports that memory ran out or
-  -- that the database failed. Nothing is stated if the disk has returned wrong data.
+  -- `fault`. Their content was `before`, and `left` are the files after the failure. Before the
+  -- open, a crash could leave the contents for which `was` holds. After the failure, a crash leaves
+  -- such a content, or a content with the runs in `before`. If `before` has runs, `fault` reports
+  -- that memory ran out or that the database failed. Nothing is stated if the disk has returned
+  -- wrong data.
   pub record LeavesRuns (fault : StoreFault) : Type 0 where
     pub kept : AreClean g (files_left left).0 (files_left left).1 → (after : Image) → outcomes g (files_left left).0 (files_left left).1 after → was after ⊎ KeepsRuns before after
     pub known : AreClean g (files_left left).0 (files_left left).1 → (runs : List Run) → HoldsRuns before runs ⊎ HoldsInSchema1 before runs → IsDatabaseFault fault
 
   -- `LeavesUnconnected was before left`: an open read the schema list of the results file and its
-  -- log. Their content was `before`, and they are `seen` after the read. SQL then failed to open
-  -- them, and `left` is what remains. A crash after the read leaves a content for which `was`
-  -- holds, or one with the databases in `before`. The library doesn't state that the disk returned
-  -- right data for `seen` if it did for `left`.
+  -- log. Their content was `before`, and `seen` are the files after the read. The SQLite library
+  -- then failed to open `seen`, and `left` are the files after this failure. A crash of `seen`
+  -- leaves a content for which `was` holds, or a content with the databases in `before`. Nothing is
+  -- stated of `seen` if the disk has returned wrong data up to `seen`. The library doesn't exclude
+  -- such data, even if the disk has returned none up to `left`.
   pub record LeavesUnconnected : Type 0 where
     pub seen : Files D
     pub read : AreClean g seen.log seen.db → IsReadAs before (image_of g seen)
@@ -61,9 +63,9 @@ module _ {D : Type 0} {g : Ghosts D} (was : Image → Type 0) (before : Image) (
     pub left_of : IsCleanLeft left → LeavesFiles seen left
 
   -- `FailsToOpen was before left fault`: an open of the results file and its log failed with
-  -- `fault`. Their content was `before`, and `left` is what remains of them. Either they still have
-  -- their runs (`LeavesRuns`), or SQL failed to open them (`LeavesUnconnected`). In the second
-  -- case, `fault` reports that memory ran out or that the database failed. Before the open, a crash
-  -- could leave the contents for which `was` holds.
+  -- `fault`. Their content was `before`, and `left` are the files after the failure. Either they
+  -- still have their runs (`LeavesRuns`), or the SQLite library failed to open them
+  -- (`LeavesUnconnected`). In the second case, `fault` reports that memory ran out or that the
+  -- database failed. Before the open, a crash could leave the contents for which `was` holds.
   abbrev pub FailsToOpen : StoreFault → Type 0
   FailsToOpen fault = LeavesRuns fault ⊎ (LeavesUnconnected × IsDatabaseFault fault)

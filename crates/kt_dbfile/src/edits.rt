@@ -121,8 +121,8 @@ fn create_entry_row<'a>(
     )
 }
 
-/// Returns the number of the next run. First checks the last rows of the tables `entries` and
-/// `props`. Fails with `StoreFull` if there are 1,000,000 runs.
+/// Returns the number of the next run. Fails with `StoreFull` if there are 1,000,000 runs. Also
+/// fails if the last entry or the last property is damaged, as [`check_last_run`] checks.
 fn find_next_number<S: Alter>(store: &mut S, alloc: Global) -> Result<u64, StoreFault>
     ensures number { HoldsForTrees S.Store store.old store.new (λ runs.
         IfOk result (λ n. (n ≡ suc (length runs)) × (length runs < greatest_run_number))) }
@@ -140,8 +140,8 @@ fn find_next_number<S: Alter>(store: &mut S, alloc: Global) -> Result<u64, Store
 }
 
 /// Writes an unfinished run after the last run, without a commit, and returns its number. The run
-/// has `total` selected cases, and starts at `moment`, in milliseconds since 1970-01-01 UTC. Fails
-/// with `StoreFull` if there are 1,000,000 runs.
+/// has `total` selected cases, and starts at `moment`, in milliseconds since 1970-01-01 UTC, up to
+/// the end of the year 9999. Fails with `StoreFull` if there are 1,000,000 runs.
 pub(crate) fn write_run<S: Alter>(
     store: &mut S,
     alloc: Global,

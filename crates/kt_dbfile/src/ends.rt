@@ -33,10 +33,10 @@ pub(crate) const NO_RUN: RunHead = RunHead {
     finished: false,
 };
 
-/// Returns the run number and the position in the greatest key of the index of `table` that isn't
-/// above `key`. Both values are NULL if there is no such key. Only as many columns as `key` has are
-/// compared, so an empty `key` finds the greatest key of the index. Fails if the row of the found
-/// key is missing or has another key.
+/// Finds the greatest key in the index of `table` that is at most `key`, and returns its run number
+/// and position. Both values are NULL if there is no such key. Only as many columns as `key` has
+/// are compared, so an empty `key` finds the greatest key of the index. Fails if the row of the
+/// found key is missing or has another key.
 fn find_last_key<S: Store>(
     store: &mut S,
     alloc: Global,
@@ -110,7 +110,8 @@ fn has_entry<S: Store>(store: &mut S, alloc: Global, pair: &Row) -> Result<bool,
 }
 
 /// Checks that the index of the table `entries` has the last row of the table. The greatest key of
-/// the index must also be possible for the last run, whose head is `last`. Fails otherwise.
+/// the index must also agree with `last`, the head of the last run ([`is_possible_last_key`]).
+/// Fails otherwise.
 fn check_last_entry<S: Store>(
     store: &mut S,
     alloc: Global,
@@ -132,8 +133,8 @@ fn check_last_property<S: Store>(store: &mut S, alloc: Global) -> Result<(), Dat
 }
 
 /// Checks that the indexes of the tables `entries` and `props` have the last rows of the tables.
-/// The greatest key of the first index must be possible for the last run, whose head is `last`. The
-/// last property in the second index must belong to an existing entry. Fails otherwise.
+/// The greatest key of the first index must agree with `last`, the head of the last run. The last
+/// property in the second index must belong to an existing entry. Fails otherwise.
 pub(crate) fn check_last_rows<S: Store>(
     store: &mut S,
     alloc: Global,
@@ -180,9 +181,10 @@ fn read_last_head<S: Store>(
     require_head(store, alloc, last)
 }
 
-/// Checks that the last entry and the last property in the tables are possible for the last run.
-/// `last` is the number of this run, or 0 if there are no runs. The check is made before a run
-/// begins and before a head is returned.
+/// Checks that the last entry agrees with the head of the last run, and that the last property
+/// belongs to an entry. Fails otherwise, or if the index of the entries or of the properties lacks
+/// the last row. `last` is the number of the last run, or 0 if there are no runs. The check is made
+/// before a run begins and before a head is returned.
 pub(crate) fn check_last_run<S: Store>(
     store: &mut S,
     alloc: Global,
@@ -208,8 +210,9 @@ fn are_contiguous(entries: &[Entry]) -> bool
     true
 }
 
-/// Returns `true` if `entries` can be all entries of the run with the head `head`. A finished run
-/// has an entry at each position below its total.
+/// Returns `true` if `entries` can be the complete list of entries of the run with the head `head`.
+/// A finished run has an entry at each position below its total. An unfinished run has at most as
+/// many entries as its total.
 fn is_possible_entry_list(head: RunHead, entries: &[Entry]) -> bool
     ensures { (r : Run) → IsValidRun r → head ≡ head_of r
         → entries.now ≡ map outline_entry r.entries
@@ -223,8 +226,8 @@ fn is_possible_entry_list(head: RunHead, entries: &[Entry]) -> bool
     }
 }
 
-/// Returns the number of properties that the index of `table`, the table `props`, has for
-/// `entries`, which are entries of run `run`.
+/// Returns the number of properties of `entries` that are in the index of `table`. `entries` are
+/// entries of run `run`, and `table` is the table `props`.
 fn count_properties<S: Store>(
     store: &mut S,
     alloc: Global,
@@ -264,9 +267,9 @@ fn properties_have_entries<S: Store>(
     Ok(all == count_properties(store, alloc, &table, run, entries)?)
 }
 
-/// Checks that `entries` can be all entries of the run with the head `head`. Fails if the number or
-/// the positions of `entries` contradict the head, or if a checked property of the run has no
-/// entry.
+/// Checks that `entries` can be the complete list of entries of the run with the head `head`. Fails
+/// if the number or the positions of `entries` contradict the head, or if a checked property of the
+/// run has no entry.
 pub(crate) fn check_entries<S: Store>(
     store: &mut S,
     alloc: Global,

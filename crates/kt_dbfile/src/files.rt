@@ -47,7 +47,7 @@ pub(crate) fn open_both<S: Start>(
 
 /// Opens a connection to the database in `files`, the results file and its log, and checks each
 /// page and row. Creates the database if the database file is empty. On failure, returns the error
-/// with what is left of the files.
+/// with both files, as a `Leftover`.
 pub(crate) fn connect<D: Disk + Drop>(
     alloc: Global,
     files: Files<D>,

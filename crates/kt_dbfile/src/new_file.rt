@@ -99,7 +99,7 @@ fn may_have_frames<R: Files>(rt: &R, file: &Text) -> Result<bool, NoMemory> {
     })
 }
 
-/// Opens the unfinished results file at the path `name`, to which the first page is written.
+/// Opens the unfinished results file at the path `name`, so that its first page can be written.
 /// Creates the file, unless a killed process left one. `results` is the path of the finished file.
 /// Returns `None` if something other than a regular file has the path `name`, or if the open fails.
 // Tested, not proved: results_file_creation_is_atomic.
@@ -268,10 +268,11 @@ fn remove_new_paths<R: Files + AllocGlobal + Clone + Drop>(
 /// Creates the results file at the path `file` if it doesn't exist. If it exists, removes its other
 /// paths in the same directory that end in `-new`.
 ///
-/// The new file is an empty database. The file is empty if a database can't be created, for example
-/// without hard links in the file system, or next to an older log. The later open turns an empty
-/// file into a database with larger pages. The content of an existing file isn't changed. A failure
-/// is reported by the later open, which also creates the log, with the file's permissions.
+/// The new file is a database without tables. If this database can't be created, the new file has
+/// no bytes. For example, the file system may have no hard links, or an older log may be present.
+/// The later open turns an empty file into a database with larger pages. The content of an existing
+/// file isn't changed. A failure is reported by the later open, which also creates the log, with
+/// the file's permissions.
 pub(crate) fn create_missing_file<R: Files<File = File> + AllocGlobal + Clone + Drop>(
     rt: &R,
     file: &Text,

@@ -56,8 +56,8 @@ const KEY: (Shape, u64) = (Shape::Index(Order::PLAIN), 0);
 /// bit mask of the columns of the type REAL.
 const LAYOUTS: [(Shape, u64); 7] = [TABLE, KEY, TABLE, TABLE, KEY, TABLE, KEY];
 
-/// Returns the options of a store that caches at most `pages` pages that it has read. Returns
-/// `None` if the system provides no random number.
+/// Returns store options that limit the cache of read pages to `pages` pages. Returns `None` if the
+/// system provides no random number.
 pub(crate) fn options(rt: &HostRuntime, pages: usize) -> Option<Options>
     ensures pages { IfSome result (CachesPages pages) }
 {
@@ -228,9 +228,9 @@ fn with_database_error<T, L>(returned: Result<T, (OpenError, L)>) -> Result<T, (
     }
 }
 
-/// Opens `files`, which contain a database of the schema that they list. Checks all pages and trees
-/// if `is_full_check` is `true`. Otherwise, checks only the pages of the schema and the free pages.
-/// On failure, returns the error with the files.
+/// Opens the database in `files`, from which the schema list has been read already. Checks all
+/// pages and trees if `is_full_check` is `true`. Otherwise, checks only the pages of the schema and
+/// the free pages. On failure, returns the error with the files.
 fn open_sound_files<D: Disk + Drop>(
     files: Unopened<D>,
     is_full_check: bool,
@@ -259,8 +259,9 @@ fn open_sound_files<D: Disk + Drop>(
 }
 
 /// Opens `files`, the results file and its log, if they list the tables of schema 2 in pages
-/// without checksums. Recovers the log. If the files aren't recognized, only reads them and returns
-/// them as the inner error. On failure, returns the error with what is left of the files.
+/// without checksums. Recovers the log. If `files` aren't such files, only reads them and returns
+/// them as the inner error. It does the same if the page size can't be read or the store can't be
+/// allocated. On any other failure, returns the error with both files, as a `Leftover`.
 pub(crate) fn open_known_files<D: Disk + Drop>(
     alloc: Global,
     mut files: Files<D>,

@@ -22,7 +22,8 @@ use sqlite_disk::Disk;
 ///
 /// A close that fails returns its store. The files then have the runs that a crash may leave
 /// (`left`). The next store finds these runs if the trees are still numbered (`failed`). If the
-/// returned store is open, the files hold the runs of the last commit (`kept`).
+/// trees were numbered before the close and the returned store is open, the files hold the runs of
+/// the last commit (`kept`).
 pub fn theorem_of_reopening<D: Disk, E: Disk>()
     ensures held { (before after : Image) (last : Stored D D.Disk) (runs : List Run)
         → OpensAndCloses before last runs after

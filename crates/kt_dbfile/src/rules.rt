@@ -33,8 +33,8 @@ pub(crate) struct TableEdit<'a> {
     pub(crate) sources: &'a [Row],
 }
 
-/// Returns the indexes of all tables of `schema`, as the functions [`write`] and [`are_kept`]
-/// require them.
+/// Returns the database indexes of all tables of `schema`, as the functions [`write`] and
+/// [`are_kept`] require them.
 fn list_indexes(alloc: Global, schema: &Schema) -> Result<Vec<Index<'_>>, NoMemory>
     ensures { IfOk result (λ all. IsCatalogOf schema.now all.items) }
 {

@@ -35,8 +35,8 @@ use std::time::Duration;
 /// An open results file: recorded runs in an SQLite database of schema 2 (docs/formats/store.md).
 ///
 /// Reads find rows by seeks in the B-trees of the file. Writes follow the constraints of the
-/// schema. In contracts, the value is the store of the B-trees. The clauses hold while the disk
-/// returns the data that was written and no other process writes the database.
+/// schema. In contracts, the value of a `RunsFile` is its store of B-trees. The clauses hold while
+/// the disk returns the data that was written and no other process writes the database.
 #[derive(Drop)]
 pub struct RunsFile<S: Alter> {
     store: S,
@@ -273,10 +273,10 @@ fn wrap_schema_2<S: Alter>(alloc: Global, mut store: S) -> Result<RunsFile<S>, (
     }
 }
 
-/// Opens `files`, the results file and its log, if they list the tables of schema 2. If the files
-/// aren't recognized, only reads them and returns them as the inner error. Fails with
-/// `UnknownSchema` if the table `meta` has another schema number. On failure, returns the error
-/// with what is left of the files.
+/// Opens `files`, the results file and its log, if they list the tables of schema 2. If
+/// [`open_known_files`] doesn't recognize the files, they are only read and returned as the inner
+/// error. Fails with `UnknownSchema` if the table `meta` has another schema number. On failure,
+/// returns the error with both files, as a `Leftover`.
 fn open_known_results<D: Disk + Drop>(
     alloc: Global,
     files: Files<D>,
@@ -306,7 +306,7 @@ fn open_known_results<D: Disk + Drop>(
 /// tables are created, checked or migrated by [`Results::attach`]. Fails with `UnknownSchema` if
 /// the files list the tables of schema 2, but the schema number isn't 2. For other tables, fails
 /// with `UnknownSchema` if the schema number is missing or neither 1 nor 2. On failure, returns the
-/// error with what is left of the files.
+/// error with both files, as a `Leftover`.
 fn open_results<D: Disk + Drop>(
     alloc: Global,
     files: Files<D>,
@@ -437,9 +437,9 @@ impl<S: TrustedContents> RunsFile<FileStore<FileFrom<S>>> {
     ///
     /// # Errors
     ///
-    /// What is left of the files is returned with the error. The file and its log have the runs
-    /// from before the open. Runs in schema 1 may have been migrated. If no file was opened,
-    /// `start` is returned instead.
+    /// The open results file and its log are returned with the error, as a `Leftover`. They have
+    /// the runs from before the open, but runs in schema 1 may have been migrated. If no file was
+    /// opened, `start` is returned instead.
     ///
     /// - `NoMemory`: memory ran out.
     /// - `Store`: another process uses the file for 5 seconds, or the file can't be created, read

@@ -32,8 +32,8 @@ pub(crate) fn read_last_number<S: Store>(store: &mut S, alloc: Global) -> Result
 }
 
 /// Returns the head of run `number`, or of the last run if `number` is `None`. A head is a run
-/// without its entries. Returns `None` if there is no such run. Fails if `number` is at most the
-/// number of the last run, but the file lacks the run.
+/// without its entries. Returns `None` if there is no such run. Fails if `number` is from 1 to the
+/// number of the last run, but the file lacks this run.
 pub(crate) fn head<S: Store>(
     store: &mut S,
     alloc: Global,
@@ -136,8 +136,8 @@ pub(crate) fn outline<S: Store>(
     Ok(found)
 }
 
-/// Returns a key in the index of the table `entries` or `props` that is below each key of the entry
-/// at `position` of run `run`. It is the key of the previous position or, for position 0, of the
+/// Returns an index key for the table `entries` or `props` that is below each key of the entry at
+/// `position` of run `run`. It is the key of the previous position or, for position 0, of the
 /// previous run. For position 0 of run 0, which doesn't exist, it is the key of run 0.
 fn key_before_entry(alloc: Global, run: u32, position: u32) -> Result<row::Row, NoMemory>
     ensures { IfOk result (λ key. key ≡ key_before run position) }

@@ -225,8 +225,8 @@ fn read_rows_by_key<S: Store>(
 }
 
 /// Reads the values in `columns` of each row whose index entry begins with `key`, in the order of
-/// the index. First compares the last index entry at or before the key `before` with its row. If
-/// this entry is damaged, its row could belong to `key`.
+/// the index. First reads the row of the last index entry at or before the key `before`. Fails if
+/// this row is missing or has another key than the entry, since it could belong to `key`.
 pub(crate) fn read_rows_after<S: Store>(
     store: &mut S,
     alloc: Global,

@@ -113,7 +113,8 @@ KeepsLastCommit old new = IsTrue new.is_open → IsTrue old.is_open × (new.comm
 -- `OnlyReadsStore g old new`: `old` and `new` are a store before and after a call that only read
 -- it. Unless `new` is broken by a failed call, it shows the trees of `old`. Both have the same last
 -- commit. A crash of `new` leaves only trees that a crash of `old` may leave. The first two facts
--- are not stated if the disk has returned wrong data. `g` is the specification of the store.
+-- are not stated if the disk has returned wrong data up to `new`. If it has returned none, it had
+-- returned none up to `old`. `g` is the specification of the store.
 pub record OnlyReadsStore {S : Type 0} (g : Ghosts S) (old new : S) : Type 0 where
   pub clean : IsClean (g.view new) → IsClean (g.view old)
   pub schema : KeepsSchema (g.view old) (g.view new)

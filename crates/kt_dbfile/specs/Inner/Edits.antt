@@ -42,8 +42,8 @@ module _ (schema : Schema) where
   PutsRows place gone rowids from sources old new =
       (table : Table) → slice_get schema.tables place ≡ Some table → Writes schema Enforced old (edit_of old table gone rowids from sources) (Ok new)
 
--- `row_without_rowid row`: the values `row` after a NULL, which is replaced by a rowid when the row
--- is written.
+-- `row_without_rowid row`: the row with NULL as its first value, and then the values `row`. A rowid
+-- replaces the NULL when the row is written.
 abbrev pub row_without_rowid : Row → Row
 row_without_rowid row = Null ∷ row
 
@@ -62,12 +62,13 @@ WritesEntryRows schema run' e old new =
     × PutsRows schema 3 [] Chosen 0 (map row_without_rowid (pair_rows run' e)) mid new)
 
 module _ {S : Type 0} (g : Ghosts S) (schema : Schema) where
-  -- `WritesRows g schema call old new result`: a call of the store `old` had the result `result`,
-  -- committed nothing, and left the store `new`. It wrote its rows or failed. `call result` is this
-  -- call. On success, the trees of `new` obey `schema` and represent the runs after the call. The
-  -- last commit is unchanged, and a crash leaves only what a crash of `old` may leave. Except for
-  -- the crash, nothing is stated if the disk has returned wrong data. `g` is the specification of
-  -- the store.
+  -- `WritesRows g schema call old new result`: a call of the store `old` wrote rows or failed,
+  -- committed nothing, and left the store `new`. `call result` is this call with its result
+  -- `result`. If the trees of `old` represent runs, the result is correct for these runs
+  -- (`Agrees`). On success, the trees of `new` then represent the runs after the call, and they
+  -- obey `schema`. The last commit is unchanged, and a crash of `new` leaves only what a crash of
+  -- `old` may leave. Except for the crash, nothing is stated if the disk has returned wrong data.
+  -- `g` is the specification of the store.
   pub record WritesRows {T : Type 0} (call : Result T StoreFault → StoreCall) (old new : S) (result : Result T StoreFault) : Type 0 where
     pub clean : IsClean (g.view new) → IsClean (g.view old)
     pub held : IsClean (g.view new) → KeepsLastCommit (g.view old) (g.view new)
@@ -80,8 +81,10 @@ module _ {S : Type 0} (g : Ghosts S) where
   -- `EndsTransaction g old new written result`: a call ended the transaction of the store `old`,
   -- and left the store `new`. `written` is the result of writing the rows. If it is a success, the
   -- rows are committed. If it is an error, or if the commit fails, the transaction is rolled back.
-  -- `result` is the result of writing and committing. The effect on the trees is not stated if the
-  -- disk has returned wrong data. `g` is the specification of the store.
+  -- `result` is the result of writing and committing. A crash of `new` leaves trees that a crash of
+  -- `old` may leave or, if `written` is a success, the trees of `old`. Except for the crash, the
+  -- effect on the trees is not stated if the disk has returned wrong data. `g` is the specification
+  -- of the store.
   pub record EndsTransaction {T : Type 0} (old new : S) (written result : Result T StoreFault) : Type 0 where
     pub numbered : StaysNumbered (g.view old) (g.view new)
     pub value : IfOk result (λ value. written ≡ Ok value)

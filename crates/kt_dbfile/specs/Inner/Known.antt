@@ -22,9 +22,9 @@ HoldsForTrees g old new P = (runs : List Run) → HasRuns (g.view old) runs → 
 
 module _ {S : Type 0} (g : Ghosts S) where
   -- `spec_over_trees g Has`: the specification of a results store over a store of B-trees. The
-  -- results store represents runs that are numbered from 1 if `Has` holds for the state of the
-  -- B-trees and these runs. Unless the disk has returned wrong data, the entries of each run ascend
-  -- by position. `g` is the specification of the store of B-trees.
+  -- results store represents a list of runs if they are numbered from 1, and `Has` holds for the
+  -- state of the B-trees and these runs. The entries of each run must also ascend by position,
+  -- unless the disk has returned wrong data. `g` is the specification of the store of B-trees.
   abbrev pub spec_over_trees : (View → List Run → Type 0) → store.Ghosts S
   spec_over_trees Has = record {
     answers = λ old _ new. StaysNumbered (g.view old) (g.view new);

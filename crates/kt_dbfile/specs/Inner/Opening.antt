@@ -83,9 +83,10 @@ module _ {D : Type 0} {g : Ghosts D} (old new : Unopened D g) where
         → IsOurs (state_of old).page_size true (wanted_by new) pages × (db ≡ file_trees (state_of old).page_size (wanted_by new) pages)
 
 -- `IsAttached g conn it`: `Results::attach` succeeded on the connection `conn` and led to a
--- connection `results`. The store `it` has the last commit of `results`, and a crash of `it` leaves
--- only trees that a crash of `results` may leave. Unless the disk has returned wrong data, the
--- trees of `it` are numbered. `g` is the specification of the store.
+-- connection `results`. The last commit of the store `it` has the runs of `results`, and a crash of
+-- `it` leaves only trees that a crash of `results` may leave. If the disk has returned no wrong
+-- data up to `it`, it had returned none up to `results`, and the trees of `it` are numbered. `g` is
+-- the specification of the store.
 abbrev pub IsAttached : {S : Type 0} → StoreGhosts S → Held S → S → Type 0
 IsAttached g conn it = (results : Held _) × ((was : InitialDatabase) → Describes was (state g conn) → AttachSucceeds was (state g conn) (state g results))
     × ((runs : List Run) → StandsFor (state g results) runs → HasCommitted (g.view it) runs)
@@ -93,23 +94,25 @@ IsAttached g conn it = (results : Held _) × ((was : InitialDatabase) → Descri
     × (IsClean (g.view it) → IsTrue (g.view it).is_numbered)
 
 -- `IsAttachedFiles conn it`: `Results::attach` succeeded on the connection `conn` to files. The
--- store `it` has the last commit of the connection after this call, as `Follows` states.
+-- connection after this call was converted to the store `it`, as `Follows` states.
 abbrev pub IsAttachedFiles : {D : Type 0} {g : Ghosts D} → Held (FileStore D g) → FileStore D g → Type 0
 IsAttachedFiles conn it = (results : Held _) × ((was : InitialDatabase) → Describes was (file_state conn) → AttachSucceeds was (file_state conn) (file_state results)) × Follows results it
 
 -- `IsConvertedFrom g held it`: `it` is the store to which the connection `held` was converted. A
--- crash of `it` leaves only trees that a crash of `held` may leave. Unless the disk has returned
--- wrong data, these trees are databases, and the trees of `it` are numbered. `g` is the
--- specification of the store.
+-- crash of `it` leaves only trees that a crash of `held` may leave. If the disk has returned no
+-- wrong data up to `it`, it had returned none up to `held`. Each crash then leaves a database that
+-- obeys its schema, and the trees of `it` are numbered. `g` is the specification of the store.
 pub record IsConvertedFrom {S : Type 0} (g : StoreGhosts S) (held : Held S) (it : S) : Type 0 where
   pub earlier : IsClean (g.view it) → HasCleanDisk (state g held)
   pub crash : (trees : Trees) → g.recovers it trees → (state g held).may_leave trees
   pub numbered : IsClean (g.view it) → IsTrue (g.view it).is_numbered
   pub sound : IsClean (g.view it) → AreDatabases (g.recovers it)
 
--- `FailsToAttach g conn fault it`: `Results::attach` failed on the connection `conn`, or the
--- resulting connection was not converted to a `RunsFile`. The error was `fault`, and `it` is the
--- store that remains. `g` is the specification of the store.
+-- `FailsToAttach g conn fault it`: `Results::attach` failed on the connection `conn`, or it
+-- succeeded, but its connection was not converted to a `RunsFile`. The error was `fault`. In the
+-- second case, `fault` reports that memory ran out or that the database failed. `it` is the store
+-- to which the connection was converted instead (`IsConvertedFrom`). `g` is the specification of
+-- the store.
 abbrev pub FailsToAttach : {S : Type 0} → StoreGhosts S → Held S → StoreFault → S → Type 0
 FailsToAttach g conn fault it = (held : Held _) × IsConvertedFrom g held it
     × (((was : InitialDatabase) → Describes was (state g conn) → AttachFails was (state g conn) (state g held) fault)
