@@ -30,18 +30,19 @@ candidates_of program cases = map (candidate_of program) cases
 abbrev pub IsSelectable : List Filter → Program → Type 0
 IsSelectable filters program = (filters ≡ []) ⊎ ((one : Filter) × Contains filters one × MayMatch one program.path)
 
--- `ListsAtfCases config program replies cases`: `replies` is a list of one call, which runs the ATF
--- program `program` so that it lists its cases. `cases` are the program's test cases by this list.
--- The program gets the variables that the configuration `config` sets for its test suite.
+-- `ListsAtfCases config program replies cases`: `replies` has one call, which runs the ATF program
+-- `program` to list its test cases. `cases` are the test cases in the program's list, or one case
+-- that represents a list with an error. The program gets the variables that the configuration
+-- `config` sets for its test suite.
 pub data ListsAtfCases (config : Values) (program : Program) : List Reply → List CaseDef → Type 0 where
   listed : (listing : Listing) (cases : List CaseDef) → AreCases program.props Atf (Some listing) cases
       → ListsAtfCases config program (Lists program (variables_for config program.suite) listing ∷ []) cases
 
 -- `ListsProgramCases config filters program answers found`: `found` are the candidates of the
 -- program `program`, and `answers` are the calls that list its cases. An ATF program is run to list
--- its cases if there is no filter, or if one of `filters` may match a case of it. The run gets
--- variables from the configuration `config`. Otherwise, an ATF program has no candidates and no
--- calls. A program with another interface has the case `main`, without a call.
+-- its cases if there is no filter, or if one of `filters` may match a case of it. Otherwise, it has
+-- no candidates and no calls. The run gets the variables that the configuration `config` sets for
+-- the test suite. A program with another interface has the case `main`, without a call.
 pub data ListsProgramCases (config : Values) (filters : List Filter) (program : Program) : List Reply → List Candidate → Type 0 where
   listing : (answers : List Reply) (cases : List CaseDef) → program.interface ≡ Atf → IsSelectable filters program → ListsAtfCases config program answers cases
       → ListsProgramCases config filters program answers (candidates_of program cases)

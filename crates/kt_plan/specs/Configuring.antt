@@ -40,7 +40,7 @@ results_of_each meaning [] = Ok []
 results_of_each meaning (word ∷ words) = cons_result (meaning word) (results_of_each meaning words)
 
 -- `values_after before result`: the list of the values `before`, followed by the values in
--- `result`. If `result` is an error, the result is the same error.
+-- `result`. If `result` is an error, it is returned unchanged.
 abbrev pub values_after : {A : Type 0} → List A → Result (List A) SelectionError → Result (List A) SelectionError
 values_after before (Ok more) = Ok (before ++ more)
 values_after before (Err fault) = Err fault
@@ -61,8 +61,8 @@ argument_definitions words = results_of_each argument_definition words
 
 -- ---- the configuration
 
--- `IsReadFailure fault`: `fault`, an error of reading a file, is that the file is missing or can't
--- be read. It is not a failed allocation.
+-- `IsReadFailure fault`: `fault` reports that a file is missing or can't be read. It is not a
+-- failed allocation.
 pub data IsReadFailure : ReadFault → Type 0 where
   missing : IsReadFailure Missing
   failed : IsReadFailure Failed

@@ -61,9 +61,9 @@ finds need word (Finds other_need other answer) = is_same_need other_need other 
 finds need word other = false
 
 -- `Surveys candidates answers host`: `host` has the properties of the host, by the results of the
--- calls `answers`. These calls read whether the user is root, the memory and the disk space. They
--- then check for the files and programs that the cases `candidates` require. A file or program
--- exists if a call found it.
+-- calls `answers`. These calls first read three values: whether the user is root, the memory and
+-- the disk space. They then check for the files and programs that the cases `candidates` require. A
+-- file or program exists if a call found it.
 pub record Surveys (candidates : List Candidate) (answers : List Reply) (host : Host) : Type 0 where
   pub looked : List Reply
   pub asked : answers ≡ IsRoot host.root ∷ HasMemory host.memory ∷ HasDisk host.disk ∷ looked
@@ -71,8 +71,9 @@ pub record Surveys (candidates : List Candidate) (answers : List Reply) (host : 
   pub found : (need : Need) (word : List ℕ) → is_found need host word ≡ list_any (finds need word) looked
 
 -- `IsSurveyPrefix candidates answers`: `answers` may be the calls to the host before an allocation
--- failed. They read whether the user is root, the memory and the disk space. They then check for
--- the first files and programs that the cases `candidates` require, possibly none.
+-- failed. They first read three values: whether the user is root, the memory and the disk space.
+-- They then check for the first files and programs that the cases `candidates` require, possibly
+-- none.
 pub record IsSurveyPrefix (candidates : List Candidate) (answers : List Reply) : Type 0 where
   pub root : Bool
   pub memory : Option ℕ

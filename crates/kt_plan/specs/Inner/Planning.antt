@@ -6,9 +6,9 @@ use Rattle.kt_metadata.specs.Requirements.{is_found}
 use Rattle.kt_plan.specs.Planning.{finds}
 use Rattle.kt_plan.specs.Reply.{Reply}
 
--- `RecordsFound answers old new`: `new`, the properties of the host, are the properties `old` with
--- the files and programs added that the calls `answers` found. The user, the memory and the disk
--- space are the same.
+-- `RecordsFound answers old new`: `old` and `new` are properties of the host. `new` has all of
+-- `old`, and also the files and programs that the calls `answers` found. The user, the memory and
+-- the disk space are the same.
 pub record RecordsFound (answers : List Reply) (old new : Host) : Type 0 where
   pub found : (need : Need) (word : List ℕ) → is_found need new word ≡ (is_found need old word || list_any (finds need word) answers)
   pub root : new.root ≡ old.root

@@ -7,9 +7,10 @@ use kt_base::{Items, NoMemory};
 use kt_suite::{Filter, Item, SelectFault, select};
 use std::alloc::Global;
 
-/// Creates an item for each of `candidates`, in order. The filters select items.
+/// Creates an item for each of `candidates`, in order. An item is the part of a candidate that
+/// filters match.
 ///
-/// An item has copies of the path of the candidate's program and of the name of its case.
+/// It has copies of the path of the program and of the name of the case.
 fn create_items(alloc: Global, candidates: &[Candidate]) -> Result<Vec<Item>, NoMemory>
     ensures { IfOk result (λ items. items.items ≡ map item_of candidates.now) }
 {

@@ -16,8 +16,9 @@ pub struct Candidate {
     pub path: Text,
     /// The name of the program's test suite.
     pub suite: Text,
-    /// The name of the case, and its properties with those of its program. If the program's list of
-    /// cases has an error, one candidate represents the list, and this field has the error.
+    /// The name of the case, and its properties, which include the properties of its program. If
+    /// the program's list of cases has an error, one candidate represents the list, and this field
+    /// has the error.
     pub case: CaseDef,
 }
 
@@ -48,6 +49,6 @@ pub struct CaseSelection {
 pub struct CommandSelection {
     /// The settings of the command.
     pub settings: Settings,
-    /// The selected cases.
+    /// The selected cases, and the filters that match no case.
     pub chosen: CaseSelection,
 }

@@ -9,11 +9,11 @@ use kt_suite::{Filter, Program};
 use std::alloc::Global;
 
 /// Returns the cases of the program `program`. An ATF program is run with the variables of its test
-/// suite, and lists its cases.
+/// suite to list its cases. A program with another interface isn't run and has one case, `main`.
 ///
-/// If this list can't be used, returns one case that represents the list and has the error. If
-/// there are filters and none may match a case of an ATF program, the program is not run and no
-/// cases are returned.
+/// If the list of an ATF program can't be used, returns one case that represents the list and has
+/// the error. If there are filters and none may match a case of an ATF program, the program is not
+/// run and no cases are returned.
 fn list_program_cases<W: World>(
     alloc: Global,
     settings: &Settings,
