@@ -1,4 +1,4 @@
--- The faults with which a driver could not be created.
+-- The faults because of which a driver can't be created.
 use Rattle.std.proofs.Common.{List, ℕ, [], arith, refl}
 use Rattle.kt_cli.proofs.Common.{FailsToCreateRoot, none_made}
 use Rattle.kt_base.specs.declared.no_memory.NoMemory.{NoMemory as OutOfMemory}

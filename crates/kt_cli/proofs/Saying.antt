@@ -1,4 +1,4 @@
--- Facts about `WritesNext`, the output after earlier output.
+-- Lemmas about `WritesNext`, the relation of output that stops after a failed write.
 use Rattle.std.proofs.Common.{Option, ◌≡◌, ℕ, Bool, true, false, List, [], ◌++◌, refl, sym, ◌∙◌, subst}
 use Rattle.kt_cli.proofs.Common.{Emits, shows_both, shows_more, shows_none, shows_of, WritesNext, WritesMore}
 

@@ -6,9 +6,9 @@ use Rattle.kt_cli.specs.Pages.{Printed}
 use Rattle.kt_cli.specs.Refused.{failure_exit}
 
 -- `CloseFailed failed fault old new due exit`: a command with the exit status `due` failed with
--- `fault` to close its results file. `failed` is `true` if `due` is 2. Then nothing is printed, and
--- `exit` is `due`. Otherwise the error line of `fault` is printed, and `exit` is 2.
--- `old` and `new` are the contents of the writer before and after.
+-- `fault` to close its results file. `failed` is whether the command had failed before the close
+-- (`due` is 2). If so, nothing is printed, and `exit` is `due`. Otherwise the error line of `fault`
+-- is printed, and `exit` is 2. `old` and `new` are the contents of the writer before and after.
 abbrev pub CloseFailed : Bool → StoreFault → Option (List ℕ) → Option (List ℕ) → ℕ → ℕ → Type 0
 CloseFailed true fault old new due exit = (new ≡ old) × (exit ≡ due)
 CloseFailed false fault old new due exit = Printed old new exit (utf8 (store_fault_line fault)) failure_exit

@@ -8,9 +8,9 @@ use Rattle.kt_plan.specs.WorldCalls.{host_calls}
 use Rattle.kt_plan.specs.Selecting.{Selects, IsSelectionPrefix}
 use Rattle.kt_cli.specs.CommandStates.{World}
 
--- The calls of one command with their results, each list in order. `questions` are the calls of the
--- world, and `calls` are those of the store. `plan` and `trace` are the jobs and the events of the
--- launcher.
+-- The calls of one command with their results. `questions` are the calls of the world, and `calls`
+-- are those of the store, each in order. `plan` are the jobs of the launcher, and `trace` are its
+-- events.
 pub record CommandCalls : Type 0 where
   pub questions : List WorldCall
   pub plan : List Job

@@ -3,7 +3,7 @@ use Rattle.std.specs.Prelude.{ℕ, List, ◌++◌, codes}
 use Rattle.kt_cli.specs.Types.{StoreFault}
 use Rattle.kt_store.specs.Ask.{fault_message}
 
--- `fault_line words`: the error line with the message `words`, in characters.
+-- `fault_line words`: the error line, in characters, with the message `words`.
 abbrev pub fault_line : List ℕ → List ℕ
 fault_line words = codes "kyua: E: " ++ words ++ codes "\n"
 

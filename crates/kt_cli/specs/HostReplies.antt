@@ -16,13 +16,14 @@ use Rattle.kt_plan.specs.Reply.{ReadConfig, Lists, Finds, IsRoot, HasMemory, Has
 use Rattle.kt_suite.specs.Answers.{Read, Exists}
 use Rattle.kt_suite.specs.declared.tree.ReadFault.TheVariants.{Failed, Memory, Missing}
 
--- `file_fault fault`: the fault of the machine that the world returns as `fault`.
+-- `file_fault fault`: the fault of the machine's files for which the world returns `fault`.
 abbrev pub file_fault : ReadFault → FileFault
 file_fault Missing = file.Missing
 file_fault Failed = file.Failed
 file_fault (Memory refusal) = file.Memory refusal
 
--- `file_answer answer`: the result of the machine that the world returns as `answer`.
+-- `file_answer answer`: the result of the machine's read of a file for which the world returns
+-- `answer`.
 abbrev pub file_answer : Result (List ℕ) ReadFault → Result (List ℕ) FileFault
 file_answer (Ok bytes) = Ok bytes
 file_answer (Err fault) = Err (file_fault fault)
@@ -48,9 +49,10 @@ module _ {M O : Type 0} where
 
 module _ {M O : Type 0} (answers : M → HostResponse → M → Type 0) where
   -- `IsFileCall answers old asked new`: `asked`, a call for a file below the Kyuafile's directory,
-  -- leads the world from `old` to `new`. The world makes the call of the machine for the joined
-  -- path. If this path is too long, no call is made: a read fails, and the file doesn't exist. A
-  -- content that was read has at most `read_limit` bytes. `answers` is the relation of the machine.
+  -- leads the world from `old` to `new`. The world calls the machine with the path of the directory
+  -- and the path of the file, joined. If the joined path is too long, the machine isn't called: a
+  -- read fails, and the file counts as missing. A content that was read has at most `read_limit`
+  -- bytes. `answers` is the relation of the machine.
   abbrev pub IsFileCall : HostWorld M O → Asked → HostWorld M O → Type 0
   IsFileCall old (Read path answer) new =
       CallsMachine old (CallsAtPath answers (path_below old.directory path) (ReadsFile (path_below old.directory path) (file_answer answer)) (answer ≡ Err Failed)) new × IsWithinReadLimit answer

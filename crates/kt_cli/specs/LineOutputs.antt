@@ -45,9 +45,9 @@ line_state contents l = record { given = given_bytes contents l; unwritten = unw
 
 -- `FlushResult failed flush unwritten fails`: `fails` is whether a flush failed. After the flush,
 -- `failed` is whether a write has failed, `flush` is the fault of the inner writer's flush, and
--- `unwritten` are the unwritten bytes. Without both faults, all bytes are written and the flush
--- succeeded. If a write has failed, bytes are unwritten and the flush failed. If only the inner
--- flush failed, the flush failed.
+-- `unwritten` are the unwritten bytes. If no write and no inner flush failed, all bytes are written
+-- and the flush succeeded. If a write has failed, bytes are unwritten and the flush failed. If only
+-- the inner flush failed, the flush failed.
 abbrev pub FlushResult : Bool → Option FlushFault → List ℕ → Bool → Type 0
 FlushResult false None unwritten fails = (unwritten ≡ []) × (fails ≡ false)
 FlushResult true flush unwritten fails = (0 < length unwritten) × (fails ≡ true)

@@ -83,9 +83,10 @@ module _ {M O : Type 0} (o : system.Ghosts O) (before : HostHandles M O) where
   FailsToCreateDriver base fault after = FailsToCreateRoot o before.os base fault after.os × (after.machine ≡ before.machine)
 
 module _ {M O : Type 0} (o : system.Ghosts O) (before : HostHandles M O) (around : ProcessEnv) (options : CaseOptions) where
-  -- `IsFirstWorld o before around options world`: `world` is that in which a command with `options`
-  -- starts, in the process environment `around`. It has the machine of the handles `before` of the
-  -- host, the directory of the Kyuafile, and a new driver. `o` has the relations of the system.
+  -- `IsFirstWorld o before around options world`: `world` is the world in which a command with
+  -- `options` starts, in the process environment `around`. It has the machine of the handles
+  -- `before` of the host, the directory of the Kyuafile, and a new driver. `o` has the relations of
+  -- the system.
   pub record IsFirstWorld (world : HostWorld M O) : Type 0 where
     pub machine : world.machine ≡ before.machine
     pub made : IsNewDriver o before.os around.here options.work options.kyuafile world.driver
@@ -101,10 +102,10 @@ module _ {M O P S R : Type 0} (p : Program M O P S) (r : keeping.Ghosts R) where
   -- over a store with the specification `r`, and its exit status is `exit`. A report uses only the
   -- store (`needs_nothing`). A command over test cases reads the working directory and the
   -- environment of the process. It uses the files below its Kyuafile's directory, and a new driver,
-  -- whose root directory is removed at the end (`done`). Nothing else is called, and the calls of the
-  -- driver's system are those for the events of the trace. If the environment or the driver is
-  -- missing, an error line is printed, and the store is unchanged. `p` has the relations of the
-  -- program.
+  -- whose root directory is removed at the end (`done`). Nothing else is called. While cases run,
+  -- the calls of the driver's system are those for the events of the trace. If the environment
+  -- can't be read or the driver can't be created, an error line is printed, and the store is
+  -- unchanged. `p` has the relations of the program.
   pub data ExecutesOnHost (c : Command) (old new : CommandState (State M O P) R) (exit : ℕ) : Type 0 where
     needs_nothing : cases_of c ≡ None → new.world ≡ old.world → CommandResult no_world r c (with_world tt old) (with_world tt new) exit → ExecutesOnHost c old new exit
     done : (options : CaseOptions) (around : ProcessEnv) (first last : HostWorld M O) → cases_of c ≡ Some options → p.platform.provides old.world.platform (Found (Ok around)) new.world.platform
@@ -158,8 +159,8 @@ module _ {M O P S : Type 0} (p : Program M O P S) where
   -- `ExecutesInFile p c old new exit file`: from state `old` to `new`, the command `c` was executed
   -- with the exit status `exit`. `file` is its results file, which was opened first and closed once
   -- (`closed`). If the open failed, an error line was printed, and nothing else was called
-  -- (`not_opened`). A command without a results file was executed over a store without runs,
-  -- which it doesn't call (`no_file`). `p` has the relations of the program.
+  -- (`not_opened`). A command without a results file (`file` is `None`) was executed over a store
+  -- without runs, which it doesn't call (`no_file`). `p` has the relations of the program.
   pub data ExecutesInFile (c : Command) (old new : CommandState (State M O P) (Unit {0})) (exit : ℕ) : Option (List ℕ) → Type 0 where
     no_file : ExecutesOnHost p no_store c old new exit → ExecutesInFile c old new exit None
     not_opened : (file : List ℕ) (fault : StoreFault) → p.platform.provides old.world.platform (Opened file (access_of c) (Err fault)) new.world.platform → new.world.outside ≡ old.world.outside

@@ -8,6 +8,6 @@ abbrev pub absolute : List ℕ → List ℕ → List ℕ
 absolute here path = if is_absolute path then path else here ++ codes "/" ++ path
 
 -- `source_directory here kyuafile`: the absolute path of the directory of `kyuafile`, without a
--- slash at its end. `here` is the working directory.
+-- slash at its end, so that it is empty for `/`. `here` is the working directory.
 abbrev pub source_directory : List ℕ → List ℕ → List ℕ
 source_directory here kyuafile = parent_of (absolute here kyuafile)

@@ -18,9 +18,10 @@ pub data HostCall (S : Type 0) : Type 0 where
 
 -- `IsHostOfFiles path image call`: the result of `call` is that of a platform that stores runs in
 -- files. The results file at `path` has the content `image`, and a store that is opened at `path`
--- has the runs of this file. After a close, the database file has the runs without its log. An open
--- fails only with out of memory, a failed database or an unknown schema. A close fails only with
--- one of the first two. The working directory and the environment meet `IsProcessEnv`.
+-- has the runs of this file. After a successful close, the database file has the runs without its
+-- log. An open fails only if memory ran out, the database failed or the schema is unknown. A close
+-- fails only if memory ran out or the database failed. The working directory and the environment
+-- meet `IsProcessEnv`.
 abbrev pub IsHostOfFiles : {D : Type 0} {g : disk.Ghosts D} → List ℕ → Image → HostCall (FileStore D g) → Type 0
 IsHostOfFiles path image (Opened file access (Ok results)) = file ≡ path → Finds image results
 IsHostOfFiles path image (Opened file access (Err fault)) = IsDatabaseFault fault ⊎ (fault ≡ UnknownSchema)

@@ -12,7 +12,7 @@ abbrev pub driver_line : DriverFault → List ℕ
 driver_line fault = fault_line (driver_message fault)
 
 -- `command_text fault`: the text that is printed for arguments that were rejected with `fault`: the
--- message of `clap`, or an error line.
+-- text of a `Usage` fault (the message of `clap`), and an error line for another fault.
 abbrev pub command_text : CommandFault → List ℕ
 command_text (command.Usage text) = text
 command_text other = fault_line (command_message other)

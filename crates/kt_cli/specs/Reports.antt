@@ -7,11 +7,11 @@ use Rattle.kt_report.specs.Texts.{text_bytes, text_layout}
 use Rattle.kt_store.specs.Heads.{IsNumbered, outputs_of, without_outputs, without_pairs}
 use Rattle.kt_cli.specs.FaultLines.{memory_line, store_fault_line}
 
--- The error line of a store without runs.
+-- The error line of a report on a store without runs.
 abbrev pub no_runs_line : List ℕ
 no_runs_line = codes "kyua: E: no runs\n"
 
--- `no_run_line number`: the error line of a store that has runs, but no run `number`.
+-- `no_run_line number`: the error line of a report on a store that has runs, but no run `number`.
 abbrev pub no_run_line : ℕ → List ℕ
 no_run_line number = codes "kyua: E: no run " ++ decimal number ++ codes "\n"
 
@@ -54,8 +54,8 @@ asked_outputs number entries = map (λ (e : Entry). Outputs number e.position (O
 -- `number` is `None`, with the entries whose verdicts are of the kinds `kinds`. No outputs are
 -- read. If `verbose` is true, the properties of each entry are read before its line is written, and
 -- else no properties are read. If a call for properties fails, its error line follows the lines of
--- the entries before, and the title if a section begins. If a write failed (`failed`), no further
--- properties are read.
+-- the entries before. If the entry is the first of its section, the title of the section precedes
+-- the error line. If a write failed (`failed`), no further properties are read.
 pub data ReportCompletes (number : Option ℕ) (kinds : List Kind) (failed : Bool) : Bool → List StoreCall → List ℕ → ℕ → Type 0 where
   run_shown : (head : RunHead) (outline : List Entry) (date : Date) → IsNumbered number head → IsDateOf head.started date
       → ReportCompletes number kinds failed false (Head number (Ok (Some head)) ∷ Outline head.number (Ok outline) ∷ []) (text_bytes date kinds false (run_of head outline)) 0
@@ -77,9 +77,10 @@ pub data ReportCompletes (number : Option ℕ) (kinds : List Kind) (failed : Boo
 
 -- `JunitCompletes number failed calls bytes exit`: by the store calls `calls`, `report-junit`
 -- prints `bytes` and has the exit status `exit`. It shows run `number`, or the last run if `number`
--- is `None`. The outputs of each entry are read, but no properties. If a call for outputs fails,
--- its error line follows the cases before. If an allocation fails, the out-of-memory line follows a
--- proper prefix of the report. If a write failed (`failed`), no further outputs are read.
+-- is `None`. The outputs of each entry are read, but no properties. If a call for the outputs of an
+-- entry fails, its error line follows the cases of the entries before. If an allocation fails, the
+-- out-of-memory line follows a proper prefix of the report. If a write failed (`failed`), no
+-- further outputs are read.
 pub data JunitCompletes (number : Option ℕ) (failed : Bool) : List StoreCall → List ℕ → ℕ → Type 0 where
   run_shown : (head : RunHead) (outline shown : List Entry) → IsNumbered number head → DifferInOutputs shown outline
       → JunitCompletes number failed (Head number (Ok (Some head)) ∷ Outline head.number (Ok outline) ∷ asked_outputs head.number shown) (junit_bytes (run_of head shown)) 0

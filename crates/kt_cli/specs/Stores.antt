@@ -19,9 +19,9 @@ abbrev pub puts : ℕ → List Entry → List StoreCall
 puts number [] = []
 puts number (e ∷ es) = Put number e (Ok tt) ∷ puts number es
 
--- `crash_runs_after call runs may`: the lists of runs that a crash may leave after `call` on a
--- store with `runs`, other than the runs that the store then represents. `may` are the lists that a
--- crash might leave before the call, other than `runs`.
+-- `crash_runs_after call runs may`: the lists of runs that a crash after `call` may leave, apart
+-- from the list that the store then represents. Before the call the store represents `runs`, and a
+-- crash may leave `runs` or one of `may`.
 abbrev pub crash_runs_after : StoreCall → List Run → List (List Run) → List (List Run)
 crash_runs_after (Began total moment (Ok number)) runs may = []
 crash_runs_after (Began total moment (Err fault)) runs may = (runs ++ new_run runs total moment ∷ []) ∷ may
@@ -36,14 +36,15 @@ crash_runs_after (Outputs number position answer) runs may = may
 
 -- ---- calls in sequence
 
--- `runs_after_calls calls runs`: the runs of a store with `runs` after `calls`, in order.
+-- `runs_after_calls calls runs`: the runs of a store that had `runs`, after `calls` were made in
+-- order.
 abbrev pub runs_after_calls : List StoreCall → List Run → List Run
 runs_after_calls [] runs = runs
 runs_after_calls (call ∷ calls) runs = runs_after_calls calls (runs_after call runs)
 
--- `crash_runs_after_calls calls runs may`: the lists of runs that a crash may leave after `calls`
--- on a store with `runs`, other than the runs that the store then represents. `may` are the lists
--- that a crash might leave before the calls, other than `runs`.
+-- `crash_runs_after_calls calls runs may`: the lists of runs that a crash after `calls` may leave,
+-- apart from the list that the store then represents. Before the calls the store represents `runs`,
+-- and a crash may leave `runs` or one of `may`.
 abbrev pub crash_runs_after_calls : List StoreCall → List Run → List (List Run) → List (List Run)
 crash_runs_after_calls [] runs may = may
 crash_runs_after_calls (call ∷ calls) runs may = crash_runs_after_calls calls (runs_after call runs) (crash_runs_after call runs may)
@@ -56,9 +57,9 @@ Agree runs (call ∷ calls) = Agrees runs call × Agree (runs_after call runs) c
 
 module _ {R : Type 0} (r : keeping.Ghosts R) where
   -- `ChangesRuns r calls old new`: the effect of `calls` on a store with the specification `r`,
-  -- from state `old` to `new`. If `old` represents runs, `new` represents the changed runs. If
-  -- `new` is sound, `old` was sound, and each result agrees with the runs. If a crash in `old` left
-  -- `runs` or one of `may`, a crash in `new` leaves the changed runs or one of
+  -- from state `old` to `new`. If `old` represents `runs`, `new` represents the runs after `calls`.
+  -- If `new` is then sound, `old` was sound, and the result of each call is correct. If a crash in
+  -- `old` left `runs` or one of `may`, a crash in `new` leaves the runs after `calls` or one of
   -- `crash_runs_after_calls calls runs may`.
   pub record ChangesRuns (calls : List StoreCall) (old new : R) : Type 0 where
     pub stands : (runs : List Run) → r.stands old runs → r.stands new (runs_after_calls calls runs)

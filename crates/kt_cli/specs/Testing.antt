@@ -12,7 +12,7 @@ all_matched (position ∷ unmatched) = false
 
 -- `ending good total bad words unmatched`: the end of the output of `test`: the totals of the run,
 -- and a warning for each of the filters `words` at an index in `unmatched`. `good` of `total` cases
--- are good, and `bad` are bad.
+-- passed, were skipped or failed as expected, and `bad` cases failed or are broken.
 abbrev pub ending : ℕ → ℕ → ℕ → List (List ℕ) → List ℕ → List ℕ
 ending good total bad words unmatched = utf8 (totals_text good total bad) ++ utf8 (warnings words unmatched)
 
@@ -27,7 +27,8 @@ abbrev pub exit_of : ℕ → List ℕ → ℕ
 exit_of bad unmatched = if bad == 0 && all_matched unmatched then 0 else 1
 
 -- `results_exit entries unmatched`: the exit status of `test` with the recorded `entries` and the
--- unmatched filters `unmatched`.
+-- unmatched filters `unmatched`: 0 if no entry failed or is broken and `unmatched` is empty, else
+-- 1.
 abbrev pub results_exit : List Entry → List ℕ → ℕ
 results_exit entries unmatched = exit_of (bad_count entries) unmatched
 

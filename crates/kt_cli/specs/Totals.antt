@@ -12,8 +12,9 @@ good_count entries = count_by (λ (e : Entry). is_good e.verdict.kind) entries
 abbrev pub bad_count : List Entry → ℕ
 bad_count entries = count_by (λ (e : Entry). not (is_good e.verdict.kind)) entries
 
--- `totals_text good total bad`: an empty line and the totals of a run, for example
--- `1/3 passed (2 failed)`. `good` of its `total` cases are good, and `bad` are bad.
+-- `totals_text good total bad`: an empty line and the totals of a run, as `1/3 passed (2 failed)`.
+-- `good` of its `total` cases passed, were skipped or failed as expected, and `bad` cases failed or
+-- are broken.
 abbrev pub totals_text : ℕ → ℕ → ℕ → List ℕ
 totals_text good total bad = codes "\n" ++ decimal good ++ codes "/" ++ decimal total ++ codes " passed (" ++ decimal bad ++ codes " failed)\n"
 

@@ -134,8 +134,8 @@ pub fn print_close_fault<O: Write>(exit: Exit, closed: Result<(), StoreFault>, o
     }
 }
 
-/// Writes the text of `fault`, the fault of rejected arguments: the message of `clap`, or an error
-/// line.
+/// Writes the text of `fault`, the fault of rejected arguments: the text of a `Usage` fault, and an
+/// error line for another fault.
 fn write_command_fault<O: Write>(fault: &CommandFault, out: &mut O) -> Result<(), OutputFault>
     ensures { Emits (O.contents out.old) (O.contents out.new) (is_err result)
         (utf8 (command_text fault.now)) }

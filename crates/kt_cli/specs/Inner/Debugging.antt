@@ -8,9 +8,9 @@ use Rattle.kt_cli.specs.Recordings.{AllRecorded}
 use Rattle.kt_cli.specs.Debugging.{all_debug_bytes, debug_bytes}
 
 -- `Prints failed held entry answer failed' held'`: a put of `entry` into a `Printer` prints the
--- entry, unless an earlier write `failed`. Its result `answer` is always a success. `held` and
--- `held'` are the contents of the writer before and after, and `failed'` is whether a write has
--- failed then.
+-- entry, unless a write fails. If an earlier write failed (`failed`), nothing is printed. The
+-- result `answer` of the put is always a success. `held` and `held'` are the contents of the writer
+-- before and after, and `failed'` is whether a write has failed after the put.
 abbrev pub Prints : Bool → Option (List ℕ) → Entry → Result (Unit {0}) SinkFault → Bool → Option (List ℕ) → Type 0
 Prints failed held entry answer failed' held' = (answer ≡ Ok tt) × WritesNext held failed held' failed' (debug_bytes entry)
 
@@ -24,9 +24,9 @@ DebugEnds plan T entries (Err (SinkFailed fault)) = ⊥
 
 module _ {L : Type 0} (l : launcher.Ghosts L) (plan : List Job) where
   -- `ExecutesDebug l plan old new was now failed answer`: `plan` was executed one case at a time,
-  -- from launcher `old` to `new`, with the result `answer`, and each entry was printed. `was` and
-  -- `now` are the contents of the writer before and after, and `failed` is whether a write failed.
-  -- `l` has the relations of the launcher.
+  -- from launcher `old` to `new`, with the result `answer`. Each entry was printed, up to a failed
+  -- write (`failed`). `was` and `now` are the contents of the writer before and after. `l` has the
+  -- relations of the launcher.
   pub record ExecutesDebug (old new : L) (was now : Option (List ℕ)) (failed : Bool) (answer : Result Totals RunFault) : Type 0 where
     pub trace : Trace
     pub leads : Leads l.starts l.waits plan trace old new

@@ -33,9 +33,10 @@ recording store number failed held = record { store = store; number = number; fa
 
 module _ {R : Type 0} (r : keeping.Ghosts R) where
   -- `Recorded r old e result new`: a put of the entry `e` into a recorder in state `old` led to
-  -- state `new`, with the result `result`. The put into the store succeeded and the entry's line
-  -- was written, unless an earlier write failed. Or the put into the store failed and nothing was
-  -- written. `r` is the specification of the store.
+  -- state `new`, with the result `result`. If the put into the store succeeded, the entry's line
+  -- was written, or a proper prefix if the write failed. After an earlier failed write, nothing was
+  -- written. If the put into the store failed, nothing was written either. `r` is the specification
+  -- of the store.
   abbrev pub Recorded : Recording R → Entry → Result (Unit {0}) SinkFault → Recording R → Type 0
   Recorded old e (Ok x) new =
       (new.number ≡ old.number) × CallsStore r (Put old.number e (Ok tt) ∷ []) old.store new.store × WritesNext old.held old.failed new.held new.failed (line_bytes e)

@@ -12,8 +12,8 @@ use Rattle.kt_cli.specs.Totals.{lines}
 use Rattle.kt_cli.specs.Recordings.{AllRecorded, IsStopped}
 
 -- `RecordedAll plan n T entries last totals`: each case of `plan` was recorded in `entries`, with
--- the trace `T` at width `n`, and `totals` counts them. No other store call was made: `last` is
--- empty.
+-- the trace `T` at width `n`, and `totals` counts them. `last`, the store calls after the puts of
+-- `entries`, is empty.
 pub record RecordedAll (plan : List Job) (n : ℕ) (T : Trace) (entries : List Entry) (last : List StoreCall) (totals : Totals) : Type 0 where
   pub all : AllRecorded plan n T entries
   pub counts : Counts entries totals
@@ -39,7 +39,8 @@ module _ (plan : List Job) (n number : ℕ) (T : Trace) (entries : List Entry) (
 
   -- `RecordEnds plan n number T entries last outcome`: the execution of `plan` at width `n` with
   -- the trace `T` had the result `outcome`. It recorded `entries` in run `number`, and `last` is
-  -- the failed put, if any. `RecordedAll`, `RecordedSome` or `RecordedNone` holds, by the result.
+  -- the failed put, if any. For a success `RecordedAll` holds, for a failed put `RecordedSome`, and
+  -- for a failed allocation `RecordedNone`.
   abbrev pub RecordEnds : Result Totals RunFault → Type 0
   RecordEnds (Ok totals) = RecordedAll plan n T entries last totals
   RecordEnds (Err (SinkFailed fault)) = RecordedSome fault

@@ -22,16 +22,17 @@ pub data FindsRun (number : Option ℕ) : List StoreCall → Result Run ReportEr
   missing : (calls : List StoreCall) (why : ReportError) → RunIsNotShown number calls (not_shown_line why) → FindsRun number calls (Err why)
 
 module _ {R : Type 0} (r : keeping.Ghosts R) where
-  -- `ReadsRun r number old new answer`: calls that look up run `number` led a store from `old` to
-  -- `new`, and `answer` is the run or the error. `r` is the specification of the store.
+  -- `ReadsRun r number old new answer`: calls that look up run `number`, or the last run if
+  -- `number` is `None`, led a store from `old` to `new`. `answer` is the run without properties and
+  -- outputs, or the error. `r` is the specification of the store.
   pub record ReadsRun (number : Option ℕ) (old new : R) (answer : Result Run ReportError) : Type 0 where
     pub calls : List StoreCall
     pub stored : CallsStore r calls old new
     pub finds : FindsRun number calls answer
 
-  -- `IsMissing r number old new why`: the lookup of run `number` returned no run. The calls after
-  -- it led the store from `old` to `new`, and `why` is the error of the lookup. `r` is the
-  -- specification of the store.
+  -- `IsMissing r number old new why`: a store has no run `number`, or no last run if `number` is
+  -- `None`. The calls that find the cause led the store from `old` to `new`, and `why` is the
+  -- error. `r` is the specification of the store.
   pub record IsMissing (number : Option ℕ) (old new : R) (why : ReportError) : Type 0 where
     pub calls : List StoreCall
     pub stored : CallsStore r calls old new

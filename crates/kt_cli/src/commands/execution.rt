@@ -83,8 +83,8 @@ pub fn execute_all<W: World, R: ResultStore, O: Write>(
     Ok(exits)
 }
 
-/// Theorem: if the store is sound after `execute`, then `execute` added at most one run to it, and
-/// changed no other run.
+/// Theorem: if the store represents runs before `execute` and is sound after it, then `execute`
+/// added at most one run to the store, and changed no other run.
 ///
 /// A store is sound if it returns exactly what was written. The new run has exactly the entries
 /// that were put, and is finished only if it has an entry for each of its cases. A call of the

@@ -86,7 +86,7 @@ fn write_totals<O: Write>(good: u64, total: u64, bad: u64, out: &mut O) -> Resul
     )
 }
 
-/// Writes the totals `totals`, and a warning for each filter in `options` that selects no case. If
+/// Writes the totals of a run, and a warning for each filter in `options` that selects no case. If
 /// `written`, the result of the earlier writes, is an error, writes nothing and returns this error.
 fn write_ending<O: Write>(
     written: Result<(), OutputFault>,

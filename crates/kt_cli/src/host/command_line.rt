@@ -13,10 +13,10 @@ use std::io::Write;
 
 /// Executes the command in the arguments of the process, and returns the exit status.
 ///
-/// The first of `words` is the program's own name. Wrong arguments are reported on `errors`, the
-/// standard error. The output of `kyua test` is written line by line, and the output of another
-/// command in blocks of 64 KiB. `platform` opens and closes the results file. `outside` has the
-/// handles of the host, and is returned in its state after the command.
+/// `words` are the arguments, of which the first is the program's own name. `out` is standard
+/// output: `test` writes it line by line, and other commands write it in blocks of 64 KiB. Wrong
+/// arguments are reported on `errors`, the standard error. `platform` opens and closes the results
+/// file. `outside` has the handles of the host, and is returned in its state after the command.
 pub fn run_args<M: HostFiles + Drop, O: Os + Drop, P: ResultsHost, W: Write, E: Write>(
     outside: HostHandles<M, O>,
     platform: &mut P,

@@ -9,7 +9,8 @@ use kt_os::{HostFiles, Os, ProcessEnv};
 use kt_suite::{parent_path, split_path};
 use std::alloc::Global;
 
-/// Returns the absolute path of the directory of `kyuafile`, without a slash at its end.
+/// Returns the absolute path of the directory of `kyuafile`, without a slash at its end, so that it
+/// is empty for `/`.
 ///
 /// `here` is the absolute working directory.
 ///

@@ -16,7 +16,8 @@ pub trait ResultsHost {
     /// `new`.
     ghost provides: { Self → HostCall Self.Results → Self → Type 0 };
 
-    /// Opens the results file with the path `file`, to add a run or only to read runs.
+    /// Opens the results file with the path `file`, to add a run or only to read runs, as `access`
+    /// selects.
     ///
     /// # Errors
     ///
@@ -31,8 +32,9 @@ pub trait ResultsHost {
     ///
     /// # Errors
     ///
-    /// After an error, `RunsFile` leaves the runs in the file and its log. Only the clause `left`
-    /// of its `close` states this.
+    /// This contract doesn't state which runs are left after an error. An implementation that
+    /// closes a `RunsFile` leaves them in the file and its log, by the clause `left` of
+    /// `RunsFile::close`.
     ///
     /// - `Store`: the log can't be copied into the file.
     /// - `NoMemory`: an allocation fails.

@@ -8,7 +8,7 @@ use std::marker::Model;
 /// The capacity of a [`FixedBuffer`], in bytes.
 pub const BUFFER_BYTES: usize = 65_536;
 
-/// A buffer of fixed size on the stack.
+/// A buffer of 65,536 bytes on the stack.
 ///
 /// In contracts its value is the buffered bytes, in order.
 #[derive(Drop)]

@@ -5,7 +5,8 @@ use std::io::Write;
 /// An error that exists only if a flush of a writer failed. Only `flush_writer` creates it.
 #[derive(Clone, Copy)]
 pub struct FlushFault {
-    /// A field whose value only this module can create.
+    /// A value that only this module can create, so that only this module can create a
+    /// `FlushFault`.
     flush: FlushSeal,
 }
 

@@ -19,7 +19,8 @@ pub struct LineOutput<W> {
     out: W,
     /// The bytes that are not written to the inner writer yet.
     held: FixedBuffer,
-    /// Whether a complete line is written at once.
+    /// Whether bytes are also written when a line is complete, and not only when the buffer is
+    /// full.
     by_line: bool,
     /// Whether a write of the inner writer has failed.
     failed: bool,

@@ -8,7 +8,8 @@ use std::io::{ErrorKind, Write};
 /// The maximum number of times that one `step` or write offers held bytes to the inner writer.
 const MAX_OFFERS: usize = 16;
 
-/// The maximum number of bytes that are held in memory before the first `step`: 1 MiB.
+/// The maximum number of bytes that a `NonblockingOutput` holds in memory before the first call of
+/// `step`: 1 MiB.
 const MAX_HELD_BYTES: usize = 1_048_576;
 
 /// A writer that does not wait for its reader.
@@ -24,8 +25,8 @@ pub struct NonblockingOutput<W> {
     out: W,
     /// The bytes in memory that the reader did not take yet.
     held: Backlog,
-    /// The maximum number of held bytes in memory: 1 MiB before the first `step`, and then no
-    /// limit.
+    /// The maximum number of bytes in `held`: 1 MiB before the first call of `step`, and no limit
+    /// afterwards.
     most: usize,
     /// Whether a write of the inner writer has failed.
     failed: bool,

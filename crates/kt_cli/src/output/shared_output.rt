@@ -20,8 +20,8 @@ impl<'a, W> SharedOutput<'a, W> {
     }
 }
 
-/// Creates the error of a call during another call of the same output. The program makes no such
-/// call.
+/// Creates the error of a call on an output that is already executing another call. The program
+/// makes no such call.
 fn borrow_error() -> io::Error {
     io::Error::from(ErrorKind::Other)
 }

@@ -25,11 +25,12 @@ const BLOCK_BYTES: usize = 65_536;
 /// The file exists until the process exits.
 #[derive(Drop)]
 pub struct Spool {
-    /// The descriptor of the file.
+    /// The descriptor of the spool's file.
     fd: i32,
-    /// The offset in the file, in bytes, of the first byte that is not written yet.
+    /// The offset in the spool's file, in bytes, of the first byte that is not written to standard
+    /// output yet.
     start: u64,
-    /// The number of bytes that are not written yet.
+    /// The number of bytes in the spool's file that are not written to standard output yet.
     left: u64,
 }
 
@@ -86,7 +87,7 @@ impl Spool {
         })
     }
 
-    /// Appends bytes to the file.
+    /// Appends bytes to the spool's file.
     ///
     /// # Errors
     ///
@@ -103,8 +104,8 @@ impl Spool {
         Ok(())
     }
 
-    /// Writes all bytes that are not written yet to standard output, in order, and waits for its
-    /// reader.
+    /// Writes all bytes of the spool that are not written yet to standard output, in order, and
+    /// waits for the reader of standard output.
     ///
     /// # Errors
     ///

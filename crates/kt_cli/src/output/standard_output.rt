@@ -20,11 +20,12 @@ const PATH: &str = "/proc/self/fd/1";
 pub struct StandardOutput<'a, R> {
     /// The runtime, through which standard output is written.
     rt: &'a R,
-    /// The terminal or pipe, if standard output is one, opened a second time.
+    /// A second descriptor of standard output, or `None` if standard output is neither a terminal
+    /// nor a pipe, or can't be opened again.
     ///
-    /// Writes to this descriptor don't wait, while writes to the inherited descriptor do. Polling
-    /// does not help with a terminal, which may be ready for one byte only. A pipe that can't be
-    /// opened is polled.
+    /// Writes to this descriptor don't wait, while writes to the inherited descriptor do. A
+    /// terminal or pipe that can't be opened again is polled before each write. Polling alone is
+    /// not enough for a terminal, which may be ready for one byte only.
     again: Option<File>,
     /// Whether standard output is a file or a device, whose writes wait for no reader.
     is_file: bool,
