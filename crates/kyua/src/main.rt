@@ -42,8 +42,8 @@ fn run<S: InitialContents>(rt: &HostRuntime, start: S) -> ExitCode {
     execute(rt, &mut host)
 }
 
-/// The size of the block that `keep_large_blocks` allocates and frees, in bytes. It is half of the
-/// greatest threshold for mapping that glibc sets by itself.
+/// The size of the block that `keep_large_blocks` allocates and frees, in bytes. It is half of 32
+/// MiB, the greatest value to which glibc raises M_MMAP_THRESHOLD by itself (mallopt(3)).
 const LARGE_BLOCK: usize = 16_777_216;
 
 /// Makes glibc allocate large blocks on its heap, instead of mapping and unmapping each of them.
