@@ -47,7 +47,7 @@ FindsPlace runs number (Ok place) = (number ≡ suc place) × (place < length ru
 FindsPlace runs number (Err fault) = (fault ≡ NoRun) × (run_at runs number ≡ None)
 
 -- `insert_index position entries`: the number of `entries` before the first entry with a position
--- greater than `position`.
+-- greater than `position`, or of all `entries` if there is no such entry.
 abbrev pub insert_index : ℕ → List Entry → ℕ
 insert_index position [] = 0
 insert_index position (x ∷ es) = if nat_lt position x.position then 0 else suc (insert_index position es)

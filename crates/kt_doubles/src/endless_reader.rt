@@ -11,9 +11,9 @@ pub struct EndlessReader {
     pub remaining_reads: u64,
     /// `true` if reads fail with `Interrupted`, `false` if they fail with `Other`.
     pub is_interrupted: bool,
-    /// The number of bytes that the reads returned.
+    /// The total number of bytes that the reads so far returned.
     pub returned_bytes: usize,
-    /// The number of reads that failed.
+    /// The number of reads so far that failed.
     pub failed_reads: u64,
 }
 

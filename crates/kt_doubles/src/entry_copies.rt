@@ -5,7 +5,7 @@ use kt_base::{Entry, NoMemory, Output, Text, Variables, Verdict};
 use kt_store::{CaseOutputs, no_output};
 use std::alloc::Global;
 
-/// Copies a verdict. The reason of the copy is an allocated text.
+/// Copies a verdict. The copy owns the text of its reason.
 fn copy_verdict(alloc: Global, verdict: &Verdict) -> Result<Verdict, NoMemory>
     ensures { IfOk result (λ copy. copy ≡ verdict.now) }
 {
@@ -38,7 +38,7 @@ pub fn copy_outputs(entry: &Entry) -> Result<CaseOutputs, NoMemory>
     })
 }
 
-/// Copies an entry without its properties and outputs. The reason of the copy is an allocated text.
+/// Copies an entry without its properties and outputs. The copy owns the text of its reason.
 fn outline_entry(alloc: Global, entry: &Entry) -> Result<Entry, NoMemory>
     ensures { IfOk result (λ copy. copy ≡ outline_entry entry.now) }
 {

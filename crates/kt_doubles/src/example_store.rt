@@ -23,8 +23,8 @@ pub trait ExampleStore {
     ///
     /// - `NoRun`: no run has the number.
     /// - `RunClosed`: the run is finished.
-    /// - `BadPosition`: the position is not below the run's total.
-    /// - `RepeatedPosition`: the run has an entry at the position.
+    /// - `BadPosition`: the position of the entry is not below the run's total.
+    /// - `RepeatedPosition`: the run has an entry at this position.
     /// - `NoMemory`, `Store`: an allocation or the store failed.
     fn put(&mut self, run: u64, entry: &Entry) -> Result<(), StoreFault>
         requires { IsStorable entry.now };

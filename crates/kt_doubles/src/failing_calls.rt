@@ -28,8 +28,8 @@ impl FailingCalls {
     ///
     /// # Errors
     ///
-    /// - `InvalidExample`: CALLS isn't one or two numbers, or the real error for the calls can't be
-    ///   provoked.
+    /// - `InvalidExample`: CALLS isn't one or two numbers, or the failure whose error the calls
+    ///   return can't be provoked.
     /// - `NoMemory`: an allocation failed.
     pub fn parse(alloc: Global, example: &Example<'_>) -> Result<FailingCalls> {
         let (calls, no_memory) = match example.text("refused-memory") {

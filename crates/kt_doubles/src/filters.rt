@@ -9,9 +9,9 @@ use std::alloc::Global;
 /// The cases and the filters that the lines of an example have added so far.
 #[derive(Drop)]
 struct FilterState {
-    /// The cases, in the order of their lines.
+    /// The cases that the example added, in the order of its lines.
     items: Vec<Item>,
-    /// The filters, in the order of their lines.
+    /// The filters that the example added, in the order of its lines.
     filters: Vec<Filter>,
 }
 
@@ -61,7 +61,7 @@ fn push_position_list(out: &mut ExampleOutput, label: &str, positions: &[usize])
 }
 
 /// Checks that `filters` are disjoint, and appends `disjoint`, or the error and the position of the
-/// filter that has it.
+/// filter that causes it.
 fn push_disjoint(out: &mut ExampleOutput, filters: &[Filter]) {
     match check_disjoint(filters) {
         Ok(()) => out.push("disjoint"),
@@ -111,8 +111,8 @@ impl FilterState {
     }
 
     /// Appends the positions of the selected cases and of the filters that match no case, or the
-    /// error's message. The output is `cases 0 2, unmatched none`, or `2 cases, 0 unmatched` if
-    /// `is_brief` is set.
+    /// message of the error if the selection fails. The output is `cases 0 2, unmatched none`, or
+    /// `2 cases, 0 unmatched` if `is_brief` is set.
     fn push_selection(&self, out: &mut ExampleOutput, is_brief: bool) {
         match select(out.alloc, &self.items, &self.filters) {
             Ok(found) if is_brief => {

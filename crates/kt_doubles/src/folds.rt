@@ -1,6 +1,6 @@
 use kt_examples::ExampleOutput;
 
-/// The maximum number of lines of a block whose copies are folded, plus 1.
+/// One more than the maximum length, in lines, of a block whose copies are folded into one block.
 const BLOCK_LINES_END: usize = 12;
 
 /// Returns the number of consecutive copies of the block of `length` lines at index `at` of

@@ -257,7 +257,8 @@ fn find_run(runs: &[Run], number: u64) -> Option<&Run>
 
 /// Returns the index in `entries` at which an entry with the position `position` is inserted.
 ///
-/// The index is the number of entries before the first entry with a greater position.
+/// The index is the number of entries before the first entry with a greater position, or of all
+/// entries if there is no such entry.
 fn insert_index(entries: &[Entry], position: u32) -> usize
     ensures { result ≡ insert_index position entries.now }
 {

@@ -7,27 +7,27 @@ use std::alloc::Global;
 pub struct ChildScript {
     /// The number of polls that find the child running.
     pub running_polls: u32,
-    /// The result of later polls: an exit status or a signal.
+    /// The result of the polls after `running_polls` polls: an exit status or a signal.
     pub exit: Polled,
 }
 
 /// A fault in reading a file in parts, which the scripted system has and a real system never has.
 #[derive(Clone, Copy)]
 pub enum PartFault {
-    /// Parts are read without a fault.
+    /// The parts of a file are read without a fault.
     None,
-    /// Each part after the first is empty, although more bytes follow.
+    /// Each part of a file after the first is empty, although more bytes follow.
     EmptyPart,
-    /// After the first part the file is missing.
+    /// After the first part of a file was read, the file is missing.
     MissingFile,
 }
 
 /// A file of a scripted system (`Os`) or of scripted host files (`HostFiles`).
 #[derive(Drop)]
 pub struct SceneFile {
-    /// The path of the file, in which the first `*` represents any text without `/`.
+    /// The path of the scripted file, in which the first `*` represents any text without `/`.
     pub path: String,
-    /// The contents of the file.
+    /// The contents of the scripted file.
     pub bytes: Vec<u8>,
 }
 
@@ -38,11 +38,11 @@ pub struct Scene {
     /// The allocator of the scene and of the test doubles that follow it.
     pub alloc: Global,
     /// The scripts of the children, in the order of their starts. Later children have the last
-    /// script, too.
+    /// script, too. Without scripts, each child exits with 0 at once.
     pub child_scripts: Vec<ChildScript>,
-    /// The files that can be read.
+    /// The files that the scripted system and the scripted host files have.
     pub files: Vec<SceneFile>,
-    /// The contents of every other file, or `None` if other files are missing.
+    /// The contents of each file that is not in `files`, or `None` if such files are missing.
     pub default_bytes: Option<Vec<u8>>,
     /// The range of calls of the system that fail: the number of the first, counted from 0, and the
     /// number of the last plus 1.
@@ -50,18 +50,19 @@ pub struct Scene {
     /// The failed allocation that the calls in `failing_calls` return as their error, or `None` if
     /// they return another error.
     pub no_memory: Option<NoMemory>,
-    /// The fault of reads that read a file in parts.
+    /// The fault that reading a file in parts has.
     pub part_fault: PartFault,
-    /// The timestamps that the system returns, in milliseconds since 1970 in UTC.
+    /// The first timestamps that the system returns, in order, in milliseconds since 1970 in UTC.
     pub moments: Vec<u64>,
     /// The difference between two timestamps of the system after those in `moments`, in
     /// milliseconds.
     pub step: u64,
     /// The timestamps of the host's clock, in milliseconds since 1970 in UTC. The last is repeated.
     pub clock: Vec<u64>,
-    /// Paths, each with a keyword that states a fact about the path. `program`: the test program
-    /// exists. `locked`: the file can't be read. `dear`: an allocation fails when the file is read.
-    /// `found-file`, `found-program`: the required file or program exists.
+    /// Paths, each after a keyword that states a fact about the path. The first `*` in a path
+    /// represents any text without `/`. `program`: the test program exists. `locked`: the file
+    /// can't be read. `dear`: an allocation fails when the file is read. `found-file`,
+    /// `found-program`: the required file or program exists.
     pub paths: Vec<(String, String)>,
 }
 
@@ -94,7 +95,7 @@ impl Scene {
         self.default_bytes.as_deref()
     }
 
-    /// Returns `true` if the scene has `path` with the keyword `keyword`.
+    /// Returns `true` if `path` matches a path in `paths` that has the keyword `keyword`.
     pub fn has_path(&self, keyword: &str, path: &str) -> bool {
         let mut paths = self.paths.as_slice().iter();
         paths.any(|(known, pattern)| known.as_str() == keyword

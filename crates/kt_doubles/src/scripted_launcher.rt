@@ -23,9 +23,9 @@ pub struct ScriptedLauncher<'a> {
     /// The timestamps that the calls return, in milliseconds since 1970 in UTC. The last timestamp
     /// is repeated.
     pub moments: &'a [u64],
-    /// The calls, one per line: `start 1`, `start cleanup 1`, `end 1`.
+    /// The calls of the launcher so far, one per line: `start 1`, `start cleanup 1`, `end 1`.
     pub log: ExampleOutput,
-    /// The states of the cases, by position.
+    /// The states of the plan's cases, by position.
     pub places: ChildSlots,
 }
 

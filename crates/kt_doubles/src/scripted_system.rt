@@ -20,9 +20,9 @@ pub struct ScriptedSystem<'a> {
     children: Vec<(Child, u32)>,
     /// The number of timestamps of the scene that `now` has returned so far.
     moment_count: usize,
-    /// The last timestamp that was returned, in milliseconds since 1970 in UTC.
+    /// The timestamp of the last call of `now`, in milliseconds since 1970 in UTC.
     moment: u64,
-    /// The calls, one per line.
+    /// The calls of the system so far, one per line.
     pub log: ExampleOutput,
     /// A line for each started program: path, arguments, directory, variables, and removed
     /// variables.
@@ -30,7 +30,8 @@ pub struct ScriptedSystem<'a> {
 }
 
 /// Returns the script of the child with index `number` in the order of starts. `child_scripts` are
-/// the scripts of the first children, and later children have the last script.
+/// the scripts of the first children, and later children have the last script. Without scripts, a
+/// child exits with 0 at once.
 fn find_child_script(child_scripts: &[ChildScript], number: usize) -> ChildScript {
     let exit = Polled::Exited(0);
     let script = child_scripts.get(number).or(child_scripts.last());

@@ -8,7 +8,7 @@ use kt_examples::{
 };
 use kt_store::{RunHead, StoreFault};
 
-/// Appends `done`, or the name of the error of a call.
+/// Appends `done` if a call succeeded, or else the name of its error.
 fn push_done_or_error(out: &mut ExampleOutput, done: Result<(), StoreFault>) {
     match done {
         Ok(()) => out.push("done"),
@@ -46,7 +46,7 @@ fn execute_begin<R: ExampleStore>(
 /// to `out`.
 ///
 /// `text` is `RUN POSITION VERDICT`: the run, the position of the first entry and the verdict of
-/// each entry. The lines `content` describe the rest of the entries.
+/// each entry. The lines `content` describe the other parts of each entry.
 fn execute_put<R: ExampleStore>(
     out: &mut ExampleOutput,
     results: &mut R,

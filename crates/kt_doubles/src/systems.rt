@@ -28,7 +28,7 @@ const SCRIPT_READ_BYTES: usize = 1_048_577;
 /// The result of executing a plan by a driver over a system.
 #[derive(Drop)]
 struct DriverRun<O: Drop> {
-    /// The system after the run.
+    /// The system after the execution of the plan.
     os: O,
     /// The recorded entries, in the order of their puts.
     entries: Vec<Entry>,
@@ -184,7 +184,7 @@ fn run_plan<'a>(example: &Example<'_>, scene: &'a Scene) -> Result<DriverRun<Scr
 
 /// Executes the plan of `example` once, over a system that follows `scene`. Appends the parts of
 /// the result that `show WORDS` selects, by default the entries, and the error that ended the run
-/// early.
+/// early, if any.
 fn push_run(out: &mut ExampleOutput, example: &Example<'_>, scene: &Scene) -> Result<()> {
     let run = run_plan(example, scene)?;
     for keyword in example.text("show").unwrap_or("entries").split_whitespace() {
@@ -289,9 +289,10 @@ fn push_list_output(out: &mut ExampleOutput, example: &Example<'_>, scene: &Scen
     Ok(())
 }
 
-/// Reads the endless file `file`, and returns the number of bytes, and `true` if more bytes are
-/// known to follow. With `limit`, `read_and_peek` reads the file as an output. Without it,
-/// `read_up_to` reads the file as a Kyuafile. Returns `None` if the read fails.
+/// Reads the endless file `file`, and returns the number of bytes that were read, and `true` if
+/// more bytes are known to follow. With `limit`, `read_and_peek` reads at most `limit` bytes, as of
+/// a child's output. Without it, `read_up_to` reads the file as a Kyuafile. Returns `None` if the
+/// read fails.
 fn read_front(
     alloc: Global,
     file: &mut EndlessReader,
