@@ -25,7 +25,7 @@ fn prepend_header(alloc: Global, blocks: &str) -> Result<Vec<u8>> {
 }
 
 /// Creates the `Listing` of a program that printed `text`, the list of its cases. `ending` is the
-/// program's outcome, such as `exited 0`.
+/// program's outcome, such as `exited 0`. Fails if `text` is an error or `ending` isn't an outcome.
 fn create_listing(ending: &str, text: Result<Vec<u8>>) -> Result<Listing> {
     let (text, ending) = zip_results(text, parse_outcome(ending))?;
     Ok(Listing::Ended(ending, ListBytes::Read(Bytes::from_vec(text))))

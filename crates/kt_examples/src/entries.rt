@@ -135,8 +135,8 @@ pub fn is_entry_line(line: &ExampleLine<'_>) -> bool {
     }
 }
 
-/// Returns the lines that describe the entry at index `place` of `lines`: those directly after this
-/// index, up to the first other line.
+/// Returns the lines that describe the entry that begins at index `place` of `lines`: the entry
+/// lines directly after this index, up to the first line of another kind.
 pub fn find_entry_lines<'a, 'b>(
     lines: &'b [ExampleLine<'a>],
     place: usize,

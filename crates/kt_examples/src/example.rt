@@ -18,9 +18,9 @@ pub struct ExampleLine<'a> {
 pub struct Example<'a> {
     /// The number of the example's first line in its `.rows` file, counted from 1.
     pub line_number: u64,
-    /// The lines of the input, in order.
+    /// The lines of the example's input, in order.
     pub lines: Vec<ExampleLine<'a>>,
-    /// The lines of the expected output. Their escapes are not decoded.
+    /// The lines of the example's expected output. Their escapes are not decoded.
     pub expected: Vec<&'a str>,
 }
 
@@ -91,14 +91,14 @@ impl<'a> Example<'a> {
         require_part(self.lines.first().copied(), "the row is empty")
     }
 
-    /// Returns the text of the first line of the input with the keyword `keyword`, or `None` if
-    /// there is no such line. The escapes of the text are not decoded.
+    /// Returns the text of the first line of the example's input with the keyword `keyword`, or
+    /// `None` if there is no such line. The escapes of the text are not decoded.
     pub fn text(&self, keyword: &str) -> Option<&'a str> {
         find_text(self.lines.as_slice(), keyword)
     }
 
-    /// Returns the number in the first line of the input with the keyword `keyword`, or `other` if
-    /// there is no such line. Allocates nothing.
+    /// Returns the number in the first line of the example's input with the keyword `keyword`, or
+    /// `other` if there is no such line. Allocates nothing.
     ///
     /// # Errors
     ///
@@ -107,8 +107,8 @@ impl<'a> Example<'a> {
         find_number(self.lines.as_slice(), keyword, other)
     }
 
-    /// Returns the text of the first line of the input with the keyword `keyword`, with its escapes
-    /// decoded to bytes. Returns `None` if there is no such line.
+    /// Returns the text of the first line of the example's input with the keyword `keyword`, with
+    /// its escapes decoded to bytes. Returns `None` if there is no such line.
     ///
     /// # Errors
     ///
@@ -120,8 +120,8 @@ impl<'a> Example<'a> {
             .transpose()
     }
 
-    /// Returns the text of the first line of the input with the keyword `keyword`, with its escapes
-    /// decoded to bytes. The example must have such a line.
+    /// Returns the text of the first line of the example's input with the keyword `keyword`, with
+    /// its escapes decoded to bytes. The example must have such a line.
     ///
     /// # Errors
     ///

@@ -11,7 +11,7 @@ pub struct ExampleOutput {
     /// The allocator of the text.
     pub alloc: Global,
     text: String,
-    /// The first failed allocation, if any.
+    /// The error of the first failed allocation for the text, or `None`.
     refusal: Option<NoMemory>,
 }
 
@@ -32,7 +32,7 @@ impl ExampleOutput {
         }
     }
 
-    /// Appends the text that `write!` formats to the output.
+    /// Appends the text that `write!` formats.
     pub fn write_fmt<D: Display + Drop>(&mut self, text: D) {
         self.push_or_record(text.to_string(self.alloc));
     }

@@ -10,7 +10,7 @@ pub enum WriteFault {
     Broken,
     /// The write fails with `Interrupted`.
     Interrupted,
-    /// The write returns 0.
+    /// The write accepts no bytes and returns 0.
     ZeroBytes,
 }
 
@@ -18,7 +18,7 @@ pub enum WriteFault {
 /// bytes. If `failing_write` isn't 0, write number `failing_write` and all later writes fail.
 #[derive(Drop)]
 pub struct ScriptedWriter {
-    /// The bytes that were written.
+    /// The bytes that the writes so far accepted, in order.
     written: Vec<u8>,
     /// The last allocation that failed in a write, if any.
     refusal: Option<NoMemory>,
@@ -28,7 +28,7 @@ pub struct ScriptedWriter {
     pub writes: u64,
     /// The number of the first write that fails, counted from 1, or 0 for none.
     pub failing_write: u64,
-    /// The way in which writes fail.
+    /// The way in which the writes from number `failing_write` on fail.
     pub fault: WriteFault,
     /// `true` if each flush fails with `BrokenPipe`.
     pub flush_fails: bool,

@@ -9,8 +9,8 @@ use kt_base::NoMemory;
 use kt_claim::{Claim, ClaimReader, Tap, TapReader, read_claim, read_tap};
 use std::alloc::Global;
 
-/// The maximum length of a result file or TAP stream that is split at each of its indexes, in
-/// bytes.
+/// The maximum length, in bytes, of a result file or TAP stream that is read in two pieces for each
+/// index at which it can be split.
 const MAX_SPLIT_BYTES: usize = 1_000;
 
 /// A reader of evidence in pieces: of a result file or of a TAP stream.

@@ -17,7 +17,7 @@ fn push_kind(out: &mut ExampleOutput, verdict: &Verdict) {
     }
 }
 
-/// Appends the kind and the reason of a verdict, as `failed: REASON`.
+/// Appends the kind and the reason of a verdict, as `failed: REASON` or `passed`.
 pub fn push_verdict(out: &mut ExampleOutput, verdict: &Verdict) {
     push_kind(out, verdict);
     let mut reason = Text::new(out.alloc);
