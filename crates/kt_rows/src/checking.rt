@@ -6,8 +6,8 @@ use std::io::Eprint;
 use std::rt::{Files, Runtime};
 use std::{env, fs, io};
 
-/// The maximum number of bytes that a message prints of an output, unless `--whole` precedes the
-/// file's name in the arguments.
+/// The maximum number of bytes of an output in a message, unless `--whole` precedes the name of the
+/// `.rows` file in the arguments.
 const SHOWN_BYTES: usize = 1_000;
 
 /// Returns the index of the first byte of the first line in which the outputs `expected` and

@@ -19,8 +19,8 @@ use kt_os::OsFault;
 use kt_store::StoreFault;
 use std::alloc::Global;
 
-/// The number of the first write that the line `writes each` of an example doesn't make fail.
-/// Writes are counted from 1.
+/// The maximum number of writes that the line `writes each` of an example makes fail in turn, plus
+/// 1.
 const MAX_TRIALS: u64 = 10_000;
 
 /// Parses `fault` as the error of a results store: `no-memory`, `failed` or `unknown-schema`.
@@ -96,9 +96,10 @@ fn create_host(alloc: Global, example: &Example<'_>) -> Result<ScriptedResultsHo
 }
 
 /// Executes the command lines of an example, and returns the state after them. Writes to standard
-/// output fail from number `failing_write` on, or never if it is 0. Flushes of standard output fail
-/// for the line `flush fails`. Writes to standard error fail from number N on for the line `error
-/// N`. The line `takes BYTES` limits the bytes of a write to standard output.
+/// output fail from write number `failing_write` on, or never if it is 0. The line `flush fails`
+/// makes flushes of standard output fail. The line `error N` makes writes to standard error fail
+/// from write number N on. The line `takes BYTES` limits the bytes of a write to standard output,
+/// which are 4,096 by default.
 fn run_example(
     example: &Example<'_>,
     scene: &Scene,
@@ -171,8 +172,8 @@ fn find_violation(
 }
 
 /// Executes the command lines of `example` once without a failed write, and then with each write
-/// failing in turn. Appends the first output, and that of the first execution for which
-/// `find_violation` returns a message.
+/// failing in turn. Appends the output without a failed write. If `find_violation` returns a
+/// message for another execution, appends this message and the output of that execution, and stops.
 fn push_each_failing(out: &mut ExampleOutput, example: &Example<'_>, scene: &Scene) -> Result<()> {
     let mut whole = run_example(example, scene, 0)?;
     push_result_and_state(out, example, &mut whole)?;

@@ -90,7 +90,8 @@ impl<R: ResultStore + Drop> CommandsRun<R> {
     ///
     /// # Errors
     ///
-    /// - `InvalidExample`: an argument has an invalid escape or isn't UTF-8.
+    /// - `InvalidExample`: an argument has an invalid escape or isn't UTF-8, or no failed
+    ///   allocation can be provoked for `words no-memory`.
     /// - `NoMemory`: an allocation outside the command failed.
     pub fn execute_lines(&mut self, lines: &[ExampleLine<'_>], scene: &Scene) -> Result<()> {
         let alloc = self.log.alloc;

@@ -30,18 +30,18 @@ const OTHER_RUNS_TEXT: &str =
 /// The result of an execution of the command `test`.
 #[derive(Drop)]
 struct TestResult {
-    /// The text that the command wrote to standard output.
+    /// The text that `test` wrote to standard output.
     stdout: String,
-    /// The exit status of the command.
+    /// The exit status of `test`.
     status: u8,
-    /// `true` if the command started a child.
+    /// `true` if `test` started a child.
     has_spawned: bool,
 }
 
 /// An execution of `test` on a disk that fails, and the content of the files after a crash.
 #[derive(Drop)]
 struct CrashRun {
-    /// The result of the command, or `None` if the results tables couldn't be attached.
+    /// The result of `test`, or `None` if the results tables couldn't be attached.
     test_result: Option<TestResult>,
     /// The schema number in the database after the crash, or 0 if there is none.
     schema: i64,
@@ -53,7 +53,7 @@ struct CrashRun {
 /// tables, 1 is `begin`, from 2 on each `put` adds an entry, and the last is `finish`.
 #[derive(Drop)]
 struct BaselineRun {
-    /// The result of the command.
+    /// The result of `test`.
     test_result: TestResult,
     /// The texts of the runs before the execution: for each run its head, its entries and its
     /// state.
@@ -64,7 +64,7 @@ struct BaselineRun {
 }
 
 impl BaselineRun {
-    /// Returns the number of the store call `finish`.
+    /// Returns the number of the store call `finish`, the last call of the execution.
     fn finish_number(&self) -> usize {
         self.remaining_runs
             .len()
@@ -250,7 +250,8 @@ impl DiskTrial<'_> {
     ///
     /// Consecutive executions that stop in the same call are appended once. The trial ends after an
     /// execution that no call stopped, in which an allocation failed, or whose output or runs are
-    /// wrong. If the output or the runs are wrong, appends both without and with the failure.
+    /// wrong. If the output or the runs of an execution are wrong, appends its result and runs, and
+    /// those of the execution without a failure.
     fn push_stops(self, out: &mut ExampleOutput, whole: &BaselineRun) -> Result<()> {
         out.push("stopped in");
         let mut last = String::new(self.scene.alloc);

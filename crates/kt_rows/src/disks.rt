@@ -22,7 +22,7 @@ pub trait DatabaseOperation {
     type WorkResult;
 
     /// Executes the operation on the database of `conn`. Returns the result of the operation, and
-    /// the store that the connection used.
+    /// the storage of the connection's database files.
     ///
     /// # Errors
     ///
@@ -226,8 +226,9 @@ pub fn crash_and_read<D: Crash + Drop>(
     Ok(left)
 }
 
-/// Returns `true` if `left` consists of the first `first` + `lines` lines of `whole` and the line
-/// `unfinished`.
+/// Returns `true` if `left` consists of the first `first` + `lines` texts of `whole`, followed by
+/// the text `unfinished`. `left` and `whole` are texts of runs. `first` is the number of texts of
+/// the earlier runs, and `lines` that of the head and the entries of the unfinished run.
 pub fn is_partial_run(left: &[String], whole: &[String], first: usize, lines: usize) -> bool {
     left.split_last().is_some_and(|(last, front)| {
         last.as_str() == "unfinished"

@@ -19,8 +19,8 @@ impl FailingStore {
     ///
     /// # Errors
     ///
-    /// - `InvalidExample`: CALLS isn't one or two numbers, or the real error for the calls can't be
-    ///   provoked.
+    /// - `InvalidExample`: CALLS isn't one or two numbers, or the failure whose error the calls
+    ///   return can't be provoked.
     /// - `NoMemory`: an allocation failed.
     pub fn new(alloc: Global, example: &Example<'_>) -> kt_examples::Result<FailingStore> {
         Ok(FailingStore {

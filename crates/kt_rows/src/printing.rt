@@ -120,8 +120,9 @@ pub fn push_printed_text(
     Ok(())
 }
 
-/// Prints the pieces of an example, `piece TEXT` each, to a line buffer, and appends the written
-/// text. With the line `unflushed` the buffer isn't flushed, and with the line `held` it doesn't
+/// Prints the pieces in the lines `piece TEXT` of an example to a line buffer, and appends the
+/// written text. The buffer is flushed, and the output is that of [`push_printed_text`]. With the
+/// line `unflushed`, the buffer isn't flushed. With the lines `unflushed` and `held`, it doesn't
 /// write complete lines either.
 ///
 /// # Errors

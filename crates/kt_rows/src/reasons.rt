@@ -40,8 +40,8 @@ fn push_number(out: &mut ExampleOutput, text: &str) -> Result<()> {
 }
 
 /// Sends `bytes` to a writer, and appends the numbers of sent bytes and of writes, and `done` or
-/// `failed`. The writer accepts `taking N` bytes per write, and fails from write number `failing
-/// WRITE` on.
+/// `failed`. The line `taking N` limits each write to N bytes, which are 1 by default. The line
+/// `failing WRITE` makes writes fail from write number WRITE on.
 fn push_send_output(out: &mut ExampleOutput, example: &Example<'_>, bytes: &[u8]) -> Result<()> {
     let at_most = example.number("taking", 1)? as usize;
     let failing = example.number("failing", 0)?;

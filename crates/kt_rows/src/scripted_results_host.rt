@@ -21,7 +21,8 @@ pub struct ScriptedResultsHost<R: ResultStore + Drop> {
     pub path: Option<Text>,
     /// The value of the environment variable `USER`, or `None` if it is unset.
     pub user: Option<Text>,
-    /// The calls, separated by commas: `open FILE`, `close`, and `surroundings` for `process_env`.
+    /// The calls of the host so far, separated by commas: `open FILE`, `close`, and `surroundings`
+    /// for `process_env`.
     pub calls: ExampleOutput,
 }
 
@@ -40,8 +41,8 @@ impl<R: ResultStore + Drop> ScriptedResultsHost<R> {
         }
     }
 
-    /// Logs the call `name` with the file name `file`, and fails if the log's allocation fails for
-    /// the first time.
+    /// Logs the call `name` with the file name `file`, and fails if this is the first call whose
+    /// allocation in the log fails.
     fn log_host_call(&mut self, name: &str, file: &str) -> Result<(), NoMemory> {
         let was_refused = self.calls.as_str().is_err();
         self.calls.push_separator(", ");
