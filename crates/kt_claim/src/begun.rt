@@ -62,7 +62,8 @@ pub enum LineProgress {
     DirectiveSearch(DirectivePurpose, bool),
     /// A hash was read, and blanks if any. A directive for this purpose may follow.
     Hash(DirectivePurpose),
-    /// A hash, blanks if any, and the first letters of a directive for this purpose were read.
+    /// A hash, blanks if any, and the first letters of a directive's keyword were read. The first
+    /// field is the purpose of the search for the directive.
     DirectiveLetters(DirectivePurpose, DirectivePrefix),
     /// The keyword `SKIP` of a directive was read, and possibly more bytes, but no blank after it.
     Word,

@@ -93,10 +93,11 @@ fn next_letter(letters: DirectivePrefix) -> u8
     }
 }
 
-/// Returns the state of a TAP line after `letters`, the first letters of a directive, and the next
-/// letter of its keyword.
+/// Returns the state of a TAP line after one more letter of a directive's keyword. `letters` are
+/// the letters before it.
 ///
-/// `purpose` is the purpose of the search for the directive.
+/// `purpose` is the purpose of the search for the directive: to excuse a failed test, or to explain
+/// a plan of no tests.
 fn state_after_letter(purpose: DirectivePurpose, letters: DirectivePrefix) -> LineProgress
     ensures facts { (kept more : List ℕ) → facts_with result kept more
         ≡ facts_after_letter purpose letters more }

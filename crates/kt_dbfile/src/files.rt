@@ -11,12 +11,11 @@ use sqlite_pager::Options;
 use std::alloc::Global;
 use std::marker::PhantomData;
 
-/// A witness that the results file couldn't be opened, although the open has consumed its argument
-/// of type `S`.
+/// A witness that no file was opened by a failed open of the results file.
 ///
-/// The argument represents the initial content of the file, in contracts alone. The method
-/// `returned` of `TrustedContents` exchanges the witness for the argument, so that the open can be
-/// retried. Only [`open_both`] creates witnesses.
+/// The open has consumed a value of the type `S`, which represents the initial content of the file
+/// in contracts. The method `returned` of `TrustedContents` exchanges the witness for this value,
+/// so that the open can be retried. Only [`open_both`] creates witnesses.
 #[derive(Drop)]
 pub struct OpenFailure<S> {
     marker: PhantomData<S>,

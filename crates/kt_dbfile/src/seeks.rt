@@ -136,9 +136,11 @@ pub(crate) fn outline<S: Store>(
     Ok(found)
 }
 
-/// Returns an index key for the table `entries` or `props` that is below each key of the entry at
-/// `position` of run `run`. It is the key of the previous position or, for position 0, of the
-/// previous run. For position 0 of run 0, which doesn't exist, it is the key of run 0.
+/// Returns a key that sorts before all keys of the entry at `position` of run `run`, in the index
+/// of the table `entries` and in that of `props`.
+///
+/// It is the key of the previous position or, for position 0, of the previous run. For position 0
+/// of run 0, which doesn't exist, it is the key of run 0.
 fn key_before_entry(alloc: Global, run: u32, position: u32) -> Result<row::Row, NoMemory>
     ensures { IfOk result (λ key. key ≡ key_before run position) }
 {

@@ -25,9 +25,9 @@ use std::cmp::Ordering;
 /// A description of a table and of the index of its key, by the numbers of their B-trees.
 #[derive(Clone, Copy)]
 pub(crate) struct TreeTable<'a> {
-    /// The number of the B-tree of the table.
+    /// The number of the B-tree of the table: its position in the schema list, from 0.
     pub(crate) tree: u32,
-    /// The number of the B-tree of the index.
+    /// The number of the B-tree of the index of the table's key.
     pub(crate) index: u32,
     /// The indexes of the key's columns in a stored row, which has the rowid at index 0.
     pub(crate) key: &'a [usize],

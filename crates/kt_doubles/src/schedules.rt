@@ -7,8 +7,8 @@ use kt_examples::{
 };
 use kt_sched::{MAX_WIDTH, RunFault, Totals, run_cases};
 
-/// Appends the calls of the launcher in `log`, and a line with the positions of `entries` in the
-/// order of their puts.
+/// Appends the lines of `log`, one for each call of a launcher's method, and a line with the
+/// positions of `entries`, in the order in which they were put into the sink.
 fn push_calls_and_puts(out: &mut ExampleOutput, log: &str, entries: &[Entry]) {
     for call in log.lines() {
         out.push_separator(", ");

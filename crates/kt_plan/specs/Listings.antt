@@ -15,9 +15,9 @@ pub data Loads (kyuafile : List ℕ) : List Asked → Outcome → Type 0 where
   unnamed : is_empty (name_in kyuafile) ≡ true → Loads kyuafile [] (Err (fault_at kyuafile 0 Unreadable))
   named : (asked : List Asked) (outcome : Outcome) → is_empty (name_in kyuafile) ≡ false → Registered asked (name_in kyuafile) outcome → Loads kyuafile asked outcome
 
--- `IsLoadPrefix kyuafile asked`: `asked` may be the calls to the tree of the Kyuafile `kyuafile`
--- before an allocation failed. If the tree reported the failed allocation, they include the call
--- that reported it.
+-- `IsLoadPrefix kyuafile asked`: the load of the Kyuafile at the path `kyuafile` may have made
+-- exactly the calls `asked`, to read Kyuafiles, before an allocation failed. If one of the reads
+-- reported the failed allocation, `asked` includes it.
 pub data IsLoadPrefix (kyuafile : List ℕ) : List Asked → Type 0 where
   before_tree : IsLoadPrefix kyuafile []
   unfinished : (asked : List Asked) (outcome : Outcome) → Unfinished asked (name_in kyuafile) outcome → IsLoadPrefix kyuafile asked

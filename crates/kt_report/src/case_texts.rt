@@ -4,7 +4,7 @@ use kt_base::Text;
 pub struct CaseTexts {
     /// The path of the test program, relative to the directory of the root Kyuafile.
     pub program: Text,
-    /// The name of the test case.
+    /// The name of the test case, such as `main` for a plain program.
     pub case_name: Text,
     /// The reason of the verdict.
     pub reason: Text,

@@ -43,10 +43,10 @@ pub fn write_text_report<D: Details, W: Write>(
     Ok(())
 }
 
-/// Writes the text report of `run` with the properties that its entries have (this profile).
+/// Writes the text report of `run`, whose entries contain their properties (this profile).
 ///
-/// The sections are those of the chosen `kinds`. Their entries have properties if `verbose` is
-/// `true`. [`write_text_report`] describes the report. The function doesn't allocate.
+/// The sections are those of the chosen `kinds`. The properties of an entry follow its line if
+/// `verbose` is `true`. [`write_text_report`] describes the report. The function doesn't allocate.
 ///
 /// # Errors
 ///

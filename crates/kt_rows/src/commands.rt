@@ -171,9 +171,12 @@ fn find_violation(
     Ok(None)
 }
 
-/// Executes the command lines of `example` once without a failed write, and then with each write
-/// failing in turn. Appends the output without a failed write. If `find_violation` returns a
-/// message for another execution, appends this message and the output of that execution, and stops.
+/// Executes the command lines of `example` once without a failed write. Then executes them again
+/// for each number N of a write, from 1 up: write N and all later writes fail.
+///
+/// Appends the output without a failed write. If `find_violation` returns a message for another
+/// execution, appends the number of the write, this message and the output of that execution, and
+/// stops.
 fn push_each_failing(out: &mut ExampleOutput, example: &Example<'_>, scene: &Scene) -> Result<()> {
     let mut whole = run_example(example, scene, 0)?;
     push_result_and_state(out, example, &mut whole)?;

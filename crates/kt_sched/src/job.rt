@@ -16,7 +16,7 @@ pub struct Job {
     pub interface: Interface,
     /// The path of the test program, relative to the directory of the root Kyuafile.
     pub program: Text,
-    /// The name of the test case.
+    /// The name of the test case, such as `main` for a plain program.
     pub case_name: Text,
     /// The configuration variables of the case's test suite, as names with values.
     pub vars: Variables,

@@ -112,7 +112,7 @@ module _ {D : Type 0} {g : disk.Ghosts D} where
 
   -- `FailsToClose store last`: the close of `store` failed and left the store `last`. Unless the
   -- disk has returned wrong data, the log and the database file of `last` have B-trees that a crash
-  -- of `store` may leave. This also holds after a crash.
+  -- of `store` may leave. A crash after the close leaves such B-trees, too.
   pub record FailsToClose (store last : FileStore D g) : Type 0 where
     pub quiet : IsQuiet view faults recovers is_shielded store last
     pub left : AreClean g (files_in last).0 (files_in last).1 → (image : Image) → outcomes g (files_in last).0 (files_in last).1 image

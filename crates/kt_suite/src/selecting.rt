@@ -64,7 +64,7 @@ pub struct Selection {
     pub unmatched: Vec<usize>,
 }
 
-/// The maximum number of items that [`select`] accepts.
+/// The maximum number of test cases that [`select`] accepts.
 const ITEM_LIMIT: usize = 100_000;
 
 /// Returns `true` if `filter` matches the test case `item`.

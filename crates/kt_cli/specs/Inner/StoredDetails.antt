@@ -8,7 +8,7 @@ use Rattle.kt_store.specs.Heads.{outputs_of, without_outputs, without_pairs}
 use Rattle.kt_store.specs.declared.result_store.StoreSpec as keeping
 use Rattle.kt_cli.specs.Stores.{CallsStore}
 
--- One part of an entry, its properties or its outputs, and the store calls that read the part.
+-- `Reading`: how a report reads one part of an entry from the store: its properties or its outputs.
 -- `without e` is the entry `e` without the part. `call number e` is the successful call for the
 -- entry `e` of run `number`. `failed number e fault` is this call if it fails with `fault`.
 pub record Reading : Type 0 where
@@ -16,11 +16,11 @@ pub record Reading : Type 0 where
   pub call : ℕ → Entry → StoreCall
   pub failed : ℕ → Entry → StoreFault → StoreCall
 
--- The `Reading` whose part is the properties of an entry.
+-- `pairs_reading`: how a report reads the properties of an entry from the store.
 abbrev pub pairs_reading : Reading
 pairs_reading = record { without = without_pairs; call = λ number e. Pairs number e.position (Ok e.meta); failed = λ number e fault. Pairs number e.position (Err fault) }
 
--- The `Reading` whose part is the outputs of an entry.
+-- `outputs_reading`: how a report reads the outputs of an entry from the store.
 abbrev pub outputs_reading : Reading
 outputs_reading = record { without = without_outputs; call = λ number e. Outputs number e.position (Ok (outputs_of e)); failed = λ number e fault. Outputs number e.position (Err fault) }
 

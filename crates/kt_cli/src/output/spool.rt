@@ -104,8 +104,8 @@ impl Spool {
         Ok(())
     }
 
-    /// Writes all bytes of the spool that are not written yet to standard output, in order, and
-    /// waits for the reader of standard output.
+    /// Writes all bytes of the spool that are not written yet to standard output, in order. Waits
+    /// while the reader of standard output takes no bytes.
     ///
     /// # Errors
     ///

@@ -95,9 +95,11 @@ impl Pace {
         }
     }
 
-    /// Returns `true` if the child has missed more than two polls at `now`, at 100 polls a second.
+    /// Returns `true` if the child was polled too rarely up to the time `now`.
     ///
-    /// Returns `false` after the last poll of its timeout, and without a start time.
+    /// A child should be polled 100 times a second since its start. It was polled too rarely if
+    /// more than two of these polls are missing. Returns `false` after the last poll of its
+    /// timeout, and without a start time.
     pub(crate) fn is_late_at(&self, now: Instant) -> bool
         ensures { IsTrue result ↔ IsSomeAnd self.now.started (λ start.
             IsLate self.now.limit self.now.answers
