@@ -377,7 +377,7 @@ kt_cli/src/messages.rt: write_error_line(OUT_OF_MEMORY, out)
 kt_base/src/phrase.rt: Phrase::NoMemoryToStart => "Test case could not be started for want of memory",
 # The property `required_memory`.
 kt_base/src/parts.rt: " bytes of physical memory but only ",
-kt_metadata/src/meta.rt: required_memory: self.size("required_memory"),
+kt_metadata/src/meta.rt: required_memory: self.size_value("required_memory"),
 kt_metadata/src/table.rt: ("required_memory", "require.memory", Form::Size),
 # Names that SQLite doesn't take for the path of a file.
 kt_dbfile/src/runs_file.rt: path != ":memory:" && !path.starts_with("file:")
@@ -393,19 +393,19 @@ let moment = world.now();
 BODY
 
 rule 'reports an unreadable file' lines \
-  '(Claim|TapFault|ListBytes|ReadEnd|Self)::Unreadable($|[^ ]| [^=])' <<'PLACES'
+  '(Claim|TapFault|ListBytes|PartsResult|Self)::Unreadable($|[^ ]| [^=])' <<'PLACES'
 # A missing part after another part, and an empty part before another one.
-kt_child/src/ending/parts.rt: Ok(FileRead::Missing) => Some(ReadEnd::Unreadable),
-kt_child/src/ending/parts.rt: return Some(ReadEnd::Unreadable);
+kt_child/src/ending/parts.rt: Ok(FileRead::Missing) => Some(PartsResult::Unreadable),
+kt_child/src/ending/parts.rt: return Some(PartsResult::Unreadable);
 # A failed read, and bytes whose allocation failed.
-kt_child/src/ending/parts.rt: Err(_) => Some(ReadEnd::Unreadable),
-kt_child/src/ending/parts.rt: return Some(ReadEnd::Unreadable);
+kt_child/src/ending/parts.rt: Err(_) => Some(PartsResult::Unreadable),
+kt_child/src/ending/parts.rt: return Some(PartsResult::Unreadable);
 kt_child/src/ending/ends.rt: Ok(FileRead::Missing) | Err(_) => ListBytes::Unreadable,
 # The results of these, and of readers whose allocation failed.
 kt_child/src/ending/gathering.rt: Err(_) => Claim::Unreadable,
 kt_child/src/ending/gathering.rt: Err(_) => Tap::Invalid(TapFault::Unreadable),
-kt_child/src/ending/gathering.rt: ReadEnd::Missing | ReadEnd::Unreadable => Tap::Invalid(TapFault::Unreadable),
-kt_child/src/ending/gathering.rt: ReadEnd::Unreadable => Claim::Unreadable,
+kt_child/src/ending/gathering.rt: PartsResult::Missing | PartsResult::Unreadable => Tap::Invalid(TapFault::Unreadable),
+kt_child/src/ending/gathering.rt: PartsResult::Unreadable => Claim::Unreadable,
 kt_status/src/atf.rt: (Claim::Unreadable, _) => Verdict::broken(Reason::Fixed(Phrase::ResultsUnreadable)),
 PLACES
 mutant kt_child/part_that_ends_in_a_return_is_unread
@@ -488,8 +488,8 @@ kt_os/src/host/reads.rt: ErrorKind::NotFound => Ok(FileRead::Missing),
 # Arms that match such a value.
 kt_child/src/ending/ends.rt: Ok(FileRead::Missing) | Err(_) => Bytes::new(alloc),
 kt_child/src/ending/ends.rt: Ok(FileRead::Missing) | Err(_) => ListBytes::Unreadable,
-kt_child/src/ending/parts.rt: Ok(FileRead::Missing) if *got == 0 => Some(ReadEnd::Missing),
-kt_child/src/ending/parts.rt: Ok(FileRead::Missing) => Some(ReadEnd::Unreadable),
+kt_child/src/ending/parts.rt: Ok(FileRead::Missing) if *got == 0 => Some(PartsResult::Missing),
+kt_child/src/ending/parts.rt: Ok(FileRead::Missing) => Some(PartsResult::Unreadable),
 # No root directory could be created, the work directory has no absolute path, or the process has no working directory.
 kt_child/src/driving/driver.rt: Err(DriverFault::NoWorkDirectory)
 kt_cli/src/host/host_execution.rt: return Err((DriverFault::NoWorkDirectory, os));
@@ -510,17 +510,17 @@ rule 'removes, moves or truncates a file' lines \
   '(^|[^a-z_])(remove_(file|files|dir|dir_all|directory)|move_directory|rename|hard_link|symlink|set_len|truncate|unlink[a-z_]*|rmdir[a-z_]*|open_overwrite)($|[^a-z_<])|(File::create|fs::write|fs::copy)($|[^a-z_])' <<'PLACES'
 # The removals and moves, by calls of the library or, if a path is not UTF-8, of the C library.
 kt_removal/src/entries.rt: Ok(text) => fs::remove_file(rt, text),
-kt_removal/src/entries.rt: Err(_) => answer(os::unlink(path)),
+kt_removal/src/entries.rt: Err(_) => result_of_status(os::unlink(path)),
 kt_removal/src/entries.rt: Ok(text) => fs::remove_dir(rt, text),
-kt_removal/src/entries.rt: Err(_) => answer(os::rmdir(path)),
+kt_removal/src/entries.rt: Err(_) => result_of_status(os::rmdir(path)),
 kt_removal/src/entries.rt: Ok(text) => fs::rename(rt, text, to.as_str()),
-kt_removal/src/entries.rt: Err(_) => answer(os::rename(path, to.as_bytes())),
+kt_removal/src/entries.rt: Err(_) => result_of_status(os::rename(path, to.as_bytes())),
 kt_removal/src/entries.rt: fs::remove_dir(rt, directory.as_str()).is_ok()
 # Calls of these functions, which require a path that may be removed.
 kt_removal/src/removals.rt: if self.remove_file(rt, path.as_slice()).is_ok() {
 kt_removal/src/removals.rt: self.remove_if_empty(rt, path) || self.remove_file(rt, path.as_bytes()).is_ok()
 kt_removal/src/removals.rt: self.remove_directory(rt, path.as_slice());
-kt_removal/src/named.rt: let _ = self.remove_file(rt, path.as_slice());
+kt_removal/src/known_files.rt: let _ = self.remove_file(rt, path.as_slice());
 # Bytes in memory.
 kt_cli/src/output/backlog.rt: self.bytes.truncate(count - start);
 # The name of a stalled report's file, which was just created.
@@ -623,7 +623,7 @@ if moment == 0 { return Exit { status: FAILURE }; }
 BODY
 
 rule 'reports a failed write' lines '(^|[^a-z_])failed = |(^|[^a-z_])sent ([-+*|&]?=|[<>!])|[|][|] sent|sent [|][|]' <<'PLACES'
-# The result of `send`, of a flush, of a write and of an offer.
+# The result of `write_until_failure`, of a flush, of a write and of an offer.
 kt_cli/src/output/nonblocking_output.rt: self.failed = answer.is_err();
 kt_cli/src/output/nonblocking_output.rt: self.failed = failed;
 kt_cli/src/output/nonblocking_output.rt: self.failed = true;
@@ -632,7 +632,7 @@ kt_cli/src/output/nonblocking_output.rt: self.failed = true;
 kt_cli/src/output/nonblocking_output.rt: Err(_fault) => self.failed = true,
 kt_cli/src/output/line_output.rt: self.failed = self.held.write_buffered(&mut self.out);
 kt_cli/src/output/line_output.rt: self.failed = self.held.write_buffered(&mut self.out);
-# The number of bytes that a writer took, in `send` itself.
+# The number of bytes that a writer took, in `write_until_failure` itself.
 kt_base/src/emission.rt: let mut sent = 0;
 kt_base/src/emission.rt: while sent < bytes.len() {
 kt_base/src/emission.rt: Ok(n) => sent += n,
@@ -661,7 +661,7 @@ BODY
 
 rule 'writes to another writer' own_writers <<'PLACES'
 # Writers that these values own, or borrow for standard error.
-kt_cli/src/output/nonblocking_output.rt: send(self.held.as_slice(), &mut self.out)
+kt_cli/src/output/nonblocking_output.rt: write_until_failure(self.held.as_slice(), &mut self.out)
 kt_cli/src/output/line_output.rt: flush_writer(&mut self.out)
 kt_cli/src/output/line_output.rt: write_buffered(&mut self.out)
 kt_cli/src/output/line_output.rt: write_buffered(&mut self.out)
@@ -679,7 +679,7 @@ self.written = line(&entry, &mut full);
 BODY
 
 # The rules above would not find a value under another name.
-types='(Refused|SinkFault|Claim|TapFault|ListBytes|ReadEnd|OsFault|ReadFault|FileRead|DriverFault)'
+types='(Refused|SinkFault|Claim|TapFault|ListBytes|PartsResult|OsFault|ReadFault|FileRead|DriverFault)'
 rule 'gives an item a second name' lines "[A-Za-z] as [A-Z][A-Za-z]*([,;}]|\$)|::[*]|type [A-Z].*= .*$types|use .*$types::" <<'PLACES'
 # The error of SQLite, which has a separate rule.
 kt_store/src/store_fault.rt: use sqlite::{Error as SqlError, ErrorCode};

@@ -2,7 +2,7 @@ ghost use Rattle.std.specs.Prelude.{◌≡◌, map, IfOk};
 ghost use Rattle.kt_args.specs.Common.{ParsesKinds, comma_elements, default_kinds, kind_of_element, kinds_of_elements};
 
 use crate::CommandFault;
-use kt_base::{Items, Kind, NoMemory, named_bytes};
+use kt_base::{Items, Kind, NoMemory, value_of_keyword_bytes};
 use std::alloc::Global;
 
 /// The names of the kinds of verdicts in the value of `--results-filter`.
@@ -20,7 +20,7 @@ const KIND_NAMES: [(&str, Kind); 5] = [
 fn kind_of(word: &[u8]) -> Option<Kind>
     ensures { result ≡ kind_of_element word.now }
 {
-    named_bytes(word, &KIND_NAMES)
+    value_of_keyword_bytes(word, &KIND_NAMES)
 }
 
 /// Splits the results filter `words` at each comma and returns the elements.

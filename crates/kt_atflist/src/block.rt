@@ -45,7 +45,7 @@ impl Block {
     }
 
     /// Returns `true` if a line of the block has set the property `name`.
-    pub fn has(&self, name: &Text) -> bool
+    pub fn has_property(&self, name: &Text) -> bool
         ensures { result ≡ has_property self.now.props name.now }
     {
         self.props.get(name).is_some()

@@ -36,7 +36,7 @@ impl NameSet {
     }
 
     /// Returns `true` if the set contains `name`.
-    pub fn has(&self, name: &Text) -> bool
+    pub fn contains(&self, name: &Text) -> bool
         ensures { result ≡ list_any (bytes_eq name.now) self.now }
     {
         self.keys.contains(name.as_str())
@@ -47,7 +47,7 @@ impl NameSet {
     /// # Errors
     ///
     /// - `NoMemory`: an allocation fails. The set is unchanged.
-    pub fn push(&mut self, alloc: Global, name: &Text) -> Result<(), NoMemory>
+    pub fn insert(&mut self, alloc: Global, name: &Text) -> Result<(), NoMemory>
         requires { list_any (bytes_eq name.now) self.old ≡ false }
         ensures ok { OnOk result (self.new ≡ self.old ++ name.now ∷ []) }
         ensures err { OnErr result (self.new ≡ self.old) }

@@ -58,7 +58,7 @@ fn share_and_overlay(
 ) -> Result<Items<CaseDef>, NoMemory>
     ensures { IfOk result (λ cases. cases ≡ map (overlaid_case props.now) found) }
 {
-    let shared = props.shared()?;
+    let shared = props.to_shared()?;
     overlay_cases(alloc, &shared, found)
 }
 
@@ -88,7 +88,7 @@ fn single_case_list(
 ///
 /// `listing` is the result of running the program to list its cases. If the listing can't be used,
 /// the program has the one case `__test_cases_list__`.
-fn listed(alloc: Global, props: &Props, listing: &Listing) -> Result<Items<CaseDef>, NoMemory>
+fn atf_program_cases(alloc: Global, props: &Props, listing: &Listing) -> Result<Items<CaseDef>, NoMemory>
     ensures { IfOk result (λ cases. AreCases props.now Atf (Some listing.now) cases) }
 {
     let found = listed_cases(alloc, listing)?;
@@ -121,7 +121,7 @@ pub fn cases(
         Interface::Tap | Interface::Plain => single_case_list(alloc, MAIN_CASE_NAME, props, None),
         Interface::Atf => match listing {
             None => unreachable!(),
-            Some(listing) => listed(alloc, props, listing),
+            Some(listing) => atf_program_cases(alloc, props, listing),
         },
     }
 }

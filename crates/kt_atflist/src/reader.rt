@@ -4,7 +4,7 @@ ghost use Rattle.std.specs.Prelude.{◌⊎◌, List, Result, ◌≡◌, ◌<◌,
 ghost use Rattle.kt_atflist.specs.Common.{IsResult, IsOutOfMemory, IsResultOrOutOfMemory, ListFault, CaseDef, lines, read_rest, initial_state, read_blocks, read_from_line_2, read_lines};
 
 use crate::reading::{ListReader, ListStep};
-use crate::steps::{finish, step};
+use crate::steps::{finish_list, process_line};
 use crate::{CaseDef, ListCause, ListFault};
 use kt_base::{Items, line_length};
 use std::alloc::Global;
@@ -31,21 +31,21 @@ fn split_first_line(text: &[u8]) -> Option<(&[u8], &[u8])>
 const LIST_HEADER: &[u8] = b"Content-Type: application/X-atf-tp; version=\"1\"";
 
 /// Parses `text`, the lines of a list of test cases from line 3 on, and returns the cases.
-fn read_rest(alloc: Global, text: &[u8]) -> Result<Items<CaseDef>, ListFault>
+fn read_from_line_3(alloc: Global, text: &[u8]) -> Result<Items<CaseDef>, ListFault>
     ensures { IsResultOrOutOfMemory result (read_rest 3 initial_state (lines text.now)) }
 {
     let mut line = 3u64;
     let mut rest = text;
     let mut reading = ListReader::new(alloc);
     while let Some((first, after)) = split_first_line(rest) {
-        match step(alloc, reading, first)? {
+        match process_line(alloc, reading, first)? {
             ListStep::FaultyLine(cause) => return Err(ListFault { cause, line }),
             ListStep::NextState(next) => reading = next,
         }
         line += 1;
         rest = after;
     }
-    let cases = finish(reading)?;
+    let cases = finish_list(reading)?;
     Ok(cases)
 }
 
@@ -61,7 +61,7 @@ fn read_blocks(alloc: Global, text: &[u8]) -> Result<Items<CaseDef>, ListFault>
             line: 3,
         });
     }
-    read_rest(alloc, text)
+    read_from_line_3(alloc, text)
 }
 
 /// Parses `text`, the lines of a list of test cases from line 2 on, and returns the cases.

@@ -28,10 +28,10 @@ fn begin_block(
     requires { names ≡ names_of cases None }
     ensures { IfOk result (λ step. step ≡ begin_block cases name) }
 {
-    if names.has(&name) {
+    if names.contains(&name) {
         return Ok(ListStep::FaultyLine(ListCause::RepeatedIdent));
     }
-    names.push(alloc, &name)?;
+    names.insert(alloc, &name)?;
     Ok(ListStep::NextState(ListReader {
         cases,
         names,
@@ -115,7 +115,7 @@ fn set_property(
     match name {
         None => Ok(Some(ListCause::UnknownKey)),
         Some(name) => {
-            if block.has(name) {
+            if block.has_property(name) {
                 return Ok(Some(ListCause::RepeatedKey));
             }
             if !try_set(block, name, value)? {
@@ -140,7 +140,7 @@ fn set_key(
         change_result block.new fault ≡ set_key block.old key.now value.now) }
     ensures name { block.new.name ≡ block.old.name }
 {
-    if key.is_word("ident") {
+    if key.is_equal_to("ident") {
         return Ok(Some(ListCause::RepeatedKey));
     }
     let name = property_name_of_key(alloc, key)?;
@@ -195,7 +195,7 @@ fn set_from_line(
 ///
 /// `cases` are the cases of the earlier blocks. `names` are the names of these cases and of the
 /// case of `block`. If the line is faulty, returns the cause of the fault instead.
-fn property_line_step(
+fn process_property_line(
     alloc: Global,
     cases: Items<CaseDef>,
     names: NameSet,
@@ -229,7 +229,7 @@ fn append_block(mut cases: Items<CaseDef>, block: Block) -> Result<Items<CaseDef
 /// An empty line ends the block. `cases` are the cases of the earlier blocks. `names` are the names
 /// of these cases and of the case of `block`. If the line is faulty, returns the cause of the fault
 /// instead.
-fn later_line_step(
+fn process_later_line(
     alloc: Global,
     cases: Items<CaseDef>,
     names: NameSet,
@@ -240,7 +240,7 @@ fn later_line_step(
     ensures { IfOk result (λ step. step ≡ later_line_step cases block line.now) }
 {
     if !line.is_empty() {
-        return property_line_step(alloc, cases, names, block, line);
+        return process_property_line(alloc, cases, names, block, line);
     }
     let cases = append_block(cases, block)?;
     Ok(ListStep::NextState(ListReader {
@@ -259,7 +259,7 @@ fn later_line_step(
 /// # Errors
 ///
 /// - `NoMemory`: an allocation fails.
-pub fn step(alloc: Global, reading: ListReader, line: &[u8]) -> Result<ListStep, NoMemory>
+pub fn process_line(alloc: Global, reading: ListReader, line: &[u8]) -> Result<ListStep, NoMemory>
     ensures { IfOk result (λ step. step ≡ step_of reading line.now) }
 {
     let ListReader {
@@ -269,7 +269,7 @@ pub fn step(alloc: Global, reading: ListReader, line: &[u8]) -> Result<ListStep,
     } = reading;
     match block {
         None => read_first_line(alloc, cases, names, line),
-        Some(block) => later_line_step(alloc, cases, names, block, line),
+        Some(block) => process_later_line(alloc, cases, names, block, line),
     }
 }
 
@@ -280,7 +280,7 @@ pub fn step(alloc: Global, reading: ListReader, line: &[u8]) -> Result<ListStep,
 /// # Errors
 ///
 /// - `NoMemory`: an allocation fails.
-pub fn finish(reading: ListReader) -> Result<Items<CaseDef>, NoMemory>
+pub fn finish_list(reading: ListReader) -> Result<Items<CaseDef>, NoMemory>
     ensures { IfOk result (λ cases. cases ≡ cases_at_end reading) }
 {
     let ListReader { cases, block, .. } = reading;

@@ -21,7 +21,7 @@ struct FailedWrite;
 ///
 /// Returns the number of bytes written, and `true` if a write failed. A write that is interrupted
 /// or writes no byte is a failed write. The runner writes all output through this function.
-pub fn send<W: Write>(bytes: &[u8], out: &mut W) -> (usize, bool)
+pub fn write_until_failure<W: Write>(bytes: &[u8], out: &mut W) -> (usize, bool)
     ensures bound { result.0 ≤ length bytes.now }
     ensures all { result.1 ≡ false → result.0 ≡ length bytes.now }
     ensures short { result.1 ≡ true → result.0 < length bytes.now }
@@ -47,7 +47,7 @@ pub fn send<W: Write>(bytes: &[u8], out: &mut W) -> (usize, bool)
 pub fn emit<W: Write>(bytes: &[u8], out: &mut W) -> Result<(), OutputFault>
     ensures { Emits (W.contents out.old) (W.contents out.new) (is_err result) bytes.now }
 {
-    let (_, failed) = send(bytes, out);
+    let (_, failed) = write_until_failure(bytes, out);
     if failed {
         return Err(OutputFault { write: FailedWrite });
     }

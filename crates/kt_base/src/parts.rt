@@ -7,7 +7,7 @@ impl ReasonParts<'_> {
     ghost use Rattle.kt_base.specs.Common.{chars, parts_text, phrase_text, counted_text, outcome_text, Emits, utf8};
 
     /// Creates the parts of a reason whose text is `head` alone, without numbers.
-    pub fn words(head: &str) -> ReasonParts<'_>
+    pub fn from_text(head: &str) -> ReasonParts<'_>
         ensures { parts_text result ≡ chars head.now }
     {
         ReasonParts {
@@ -41,7 +41,7 @@ impl ReasonParts<'_> {
                     core_dump_text(core),
                 )
             }
-            _ => ReasonParts::words(phrase.text()),
+            _ => ReasonParts::from_text(phrase.text()),
         }
     }
 

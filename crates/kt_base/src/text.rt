@@ -118,7 +118,7 @@ impl Text {
     }
 
     /// Returns `true` if the text is equal to `word`.
-    pub fn is_word(&self, word: &str) -> bool
+    pub fn is_equal_to(&self, word: &str) -> bool
         ensures { result ≡ bytes_eq self.now (chars word.now) }
     {
         self.as_str() == word

@@ -39,11 +39,11 @@ impl Reason {
         ensures { parts_text result ≡ reason_text self.now }
     {
         match self {
-            Reason::Nothing => ReasonParts::words(""),
-            Reason::Fixed(phrase) => ReasonParts::words(phrase.text()),
+            Reason::Nothing => ReasonParts::from_text(""),
+            Reason::Fixed(phrase) => ReasonParts::from_text(phrase.text()),
             Reason::Ended(phrase, ending) => ReasonParts::with_outcome(*phrase, *ending),
             Reason::Counted(phrase, m, n) => ReasonParts::with_numbers(*phrase, *m, *n),
-            Reason::Owned(text) => ReasonParts::words(text.as_str()),
+            Reason::Owned(text) => ReasonParts::from_text(text.as_str()),
         }
     }
 }
@@ -167,7 +167,7 @@ impl Verdict {
     /// Creates a verdict of the kind `kind` with the reason `reason`.
     ///
     /// A passed case has no reason: for `Passed`, the call drops `reason`.
-    pub fn of(kind: Kind, reason: Text) -> Verdict
+    pub fn from_kind(kind: Kind, reason: Text) -> Verdict
         ensures { (kind ≡ Passed → reason ≡ []) → result ≡ record { kind = kind; reason = reason } }
     {
         match kind {

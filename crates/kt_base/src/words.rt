@@ -6,11 +6,11 @@ use crate::Text;
 /// Returns the value of the first row of `table` whose keyword is the text `word`.
 ///
 /// Returns `None` if no row has the keyword.
-pub fn named<T: Copy>(word: &Text, table: &[(&str, T)]) -> Option<T>
+pub fn value_of_keyword<T: Copy>(word: &Text, table: &[(&str, T)]) -> Option<T>
     ensures { result ≡ named (map keyword_row table.now) word.now }
 {
     for row in table {
-        if word.is_word(row.0) {
+        if word.is_equal_to(row.0) {
             return Some(row.1);
         }
     }
@@ -20,7 +20,7 @@ pub fn named<T: Copy>(word: &Text, table: &[(&str, T)]) -> Option<T>
 /// Returns the value of the first row of `table` whose keyword has the bytes `word`.
 ///
 /// Returns `None` if no row has the keyword.
-pub fn named_bytes<T: Copy>(word: &[u8], table: &[(&str, T)]) -> Option<T>
+pub fn value_of_keyword_bytes<T: Copy>(word: &[u8], table: &[(&str, T)]) -> Option<T>
     ensures { result ≡ named (map byte_keyword_row table.now) word.now }
 {
     for row in table {

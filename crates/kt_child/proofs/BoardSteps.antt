@@ -1,6 +1,6 @@
 -- Lemmas on the driver state after a start, a poll, a turn and a wait.
 use Rattle.std.proofs.Common.{if◌then◌else◌, ◌≡◌, ℕ, zero, suc, List, [], ◌∷◌, ◌++◌, Bool, true, false, Some, Result, map, slice_get, refl, sym, ◌∙◌, ap, subst, append_assoc, remove}
-use Rattle.kt_child.proofs.Common.{All, All-cons, All-head, All-nil, All-tail, CaseAttempt, Job, Outcome, StartAnswer, Ended, Polled, OsFault, RunningChild, ChildrenState, Chain, Call, Kill, Pause, Poll, IsRunningChild, responses_so_far, poll_responses, ChildResponse, KillResponse, PollResponse, FinishesChild, PolledChild, AddsResponse, FinishesByPolls, children_after_start, polled_children, driver_state_of, limit_of, new_running_child, state_after_start, poll_calls, is_followed_by_kill, child_of, pending_with, PollsAll, PollsUntil, WaitsForEnd, PollsInTurns, child_after_running, children_after_running, last_turn, whole_turn}
+use Rattle.kt_child.proofs.Common.{All, All-cons, All-head, All-nil, All-tail, CaseAttempt, Job, Outcome, StartAnswer, Ended, ChildState, OsFault, RunningChild, ChildrenState, Chain, Call, Kill, Pause, Poll, IsRunningChild, responses_so_far, poll_responses, ChildResponse, KillResponse, PollResponse, FinishesChild, PolledChild, AddsResponse, FinishesByPolls, children_after_start, polled_children, driver_state_of, limit_of, new_running_child, state_after_start, poll_calls, is_followed_by_kill, child_of, pending_with, PollsAll, PollsUntil, WaitsForEnd, PollsInTurns, child_after_running, children_after_running, last_turn, whole_turn}
 use Rattle.kt_sched.specs.declared.job.StartAnswer.TheVariants.{Started as StartedAt, Refused as RefusedFor}
 use Rattle.kt_child.specs.Driving.DriverState.{killed, later, paused, polled}
 use Rattle.kt_child.proofs.Chains.{chain_append}
@@ -28,16 +28,16 @@ all_later a old new (call ∷ calls) (mid, first, rest) = (a ∷ mid, later a ol
 
 -- `asked k answer done`: the calls of one poll of the child `k`: the poll with the result `answer`,
 -- and the kill that may follow it, with the result `done`.
-abbrev asked : RunningChild → Result Polled OsFault → Bool → List Call
+abbrev asked : RunningChild → Result ChildState OsFault → Bool → List Call
 asked k answer done = poll_calls (child_of k.case) k.limit k.watch answer done
 
 -- `after_poll_of k answer done`: the child `k` with all its responses, after a poll with the result
 -- `answer` and the kill that may follow it, with the result `done`.
-abbrev after_poll_of : RunningChild → Result Polled OsFault → Bool → PolledChild
+abbrev after_poll_of : RunningChild → Result ChildState OsFault → Bool → PolledChild
 after_poll_of k answer done = answering k (responses_so_far k.limit k.watch ++ poll_responses k.limit k.watch answer done)
 
 -- A poll of the first child appends its responses.
-poll_heard : (k : RunningChild) (others : List PolledChild) (answer : Result Polled OsFault) (done : Bool)
+poll_heard : (k : RunningChild) (others : List PolledChild) (answer : Result ChildState OsFault) (done : Bool)
     → Chain AddsResponse (answering k (responses_so_far k.limit k.watch) ∷ others) (asked k answer done) (after_poll_of k answer done ∷ others)
 poll_heard k others answer done = by (is_followed_by_kill k.limit k.watch answer)
   where
@@ -51,7 +51,7 @@ poll_heard k others answer done = by (is_followed_by_kill k.limit k.watch answer
 
 -- If the first child still runs after its poll, the responses of this poll and of the later calls
 -- are all responses.
-first_heard : (k : RunningChild) (ks : List RunningChild) (answer : Result Polled OsFault) (done : Bool) (more calls : List Call) (new : List PolledChild)
+first_heard : (k : RunningChild) (ks : List RunningChild) (answer : Result ChildState OsFault) (done : Bool) (more calls : List Call) (new : List PolledChild)
     → responses_so_far k.limit (child_after_running k).watch ≡ responses_so_far k.limit k.watch ++ poll_responses k.limit k.watch answer done → calls ≡ asked k answer done ++ more
     → Chain AddsResponse (polled_children ks) more new → Chain AddsResponse (polled_children (k ∷ ks)) calls (answering k (responses_so_far k.limit (child_after_running k).watch) ∷ new)
 first_heard k ks answer done more calls new goes e h =

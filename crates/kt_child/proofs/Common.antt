@@ -7,7 +7,7 @@ pub use Rattle.std.proofs.lemmas.List.Elements.{All-append, All-cons, All-drop, 
 pub use Rattle.std.proofs.lemmas.Option.{slice_get-get_or}
 pub use Rattle.std.specs.List.{All}
 unfoldable pub use Rattle.std.specs.Str.{chars}
-pub use Rattle.kt_child.specs.Types.{Body, CaseAttempt, Chain, Child, Cleanup, Ended, FileRead, Job, OsFault, Outcome, Paths, Polled, Role, SpawnPlan, StartAnswer, PollCounts, RunningChild}
+pub use Rattle.kt_child.specs.Types.{Body, CaseAttempt, Chain, Child, Cleanup, Ended, FileRead, Job, OsFault, Outcome, Paths, ChildState, Role, SpawnPlan, StartAnswer, PollCounts, RunningChild}
 pub use Rattle.kt_base.specs.declared.failed_start.Refused.{Refused}
 pub use Rattle.kt_sched.specs.Children.{IsEvidence, pending_after_end, running_after_end, is_same_role, has_declared_cleanup}
 pub use Rattle.kt_sched.specs.Trace.{End, Leads, NoEvent, Start, Then, Trace}
@@ -29,7 +29,7 @@ pub use Rattle.kt_child.specs.Polling.Polls.{poll_calls, poll_responses, is_foll
 pub use Rattle.kt_child.specs.Polling.Turns.{PollsAll, EndsAtPoll, PollsUntil, PollsInTurns, child_after_running, children_after_running, last_turn, whole_turn}
 pub use Rattle.kt_os.specs.System.Calls.{Call, Kill, MakeDir, Now, Pause, Poll, ReadFile, RemoveTree, SetLimit}
 pub use Rattle.kt_child.specs.declared.driving.driver.Driver.{Driver}
-pub use Rattle.kt_child.specs.declared.ending.ReadEnd.{ReadEnd}
-pub use Rattle.kt_child.specs.declared.ending.ReadEnd.TheVariants.{Complete}
+pub use Rattle.kt_child.specs.declared.ending.PartsResult.{PartsResult}
+pub use Rattle.kt_child.specs.declared.ending.PartsResult.TheVariants.{Complete}
 pub use Rattle.kt_child.specs.declared.polling.ChildProgress.{ChildProgress}
 pub use Rattle.kt_child.specs.declared.polling.ChildProgress.TheVariants.{StillRunning}

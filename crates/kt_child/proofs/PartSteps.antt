@@ -1,6 +1,6 @@
 -- Lemmas on a file that is read in parts.
 use Rattle.std.proofs.Common.{◌≡◌, ℕ, ◌+◌, List, [], ◌∷◌, ◌++◌, length, Result, Some, None, refl, sym, ◌∙◌, ap, append_assoc, length-append}
-use Rattle.kt_child.proofs.Common.{OsFault, FileRead, ReadEnd, Complete, Chain, Call, TakesBytes, IsReadEnd, Reads, next_part_call, bytes_of}
+use Rattle.kt_child.proofs.Common.{OsFault, FileRead, PartsResult, Complete, Chain, Call, TakesBytes, IsReadEnd, Reads, next_part_call, bytes_of}
 use Rattle.kt_child.specs.Ending.Parts.{last, more}
 use Rattle.kt_child.proofs.Chains.{chain_append}
 
@@ -12,7 +12,7 @@ use Rattle.kt_child.proofs.Chains.{chain_append}
 abbrev pub Taking : {R O : Type 0} → (R → List ℕ → Type 0) → (O → Call → O → Type 0) → List ℕ → ℕ → ℕ → O → O → R → ℕ → Type 0
 Taking has_taken leads path part limit start now reader got =
     (taken : List ℕ) × has_taken reader taken × (got ≡ length taken) × (calls : List Call) × Chain leads start calls now
-    × ((rest : List Call) (end : ReadEnd) (bytes : List ℕ) → Reads path part limit taken rest end bytes → Reads path part limit [] (calls ++ rest) end bytes)
+    × ((rest : List Call) (end : PartsResult) (bytes : List ℕ) → Reads path part limit taken rest end bytes → Reads path part limit [] (calls ++ rest) end bytes)
 
 -- For a reader that is fed a file from its start.
 module _ {R O : Type 0} (has_taken : R → List ℕ → Type 0) (leads : O → Call → O → Type 0) (path : List ℕ) (part limit : ℕ) (start : O) where
@@ -35,7 +35,7 @@ module _ {R O : Type 0} (has_taken : R → List ℕ → Type 0) (leads : O → C
       )
 
   -- The last part completes the read.
-  pub taking_over : (now new : O) (reader reader' : R) (got : ℕ) (answer : Result FileRead OsFault) (end : ReadEnd)
+  pub taking_over : (now new : O) (reader reader' : R) (got : ℕ) (answer : Result FileRead OsFault) (end : PartsResult)
       → Taking has_taken leads path part limit start now reader got
       → leads now (next_part_call path part limit got answer) new
       → IsReadEnd limit got answer (Some end)

@@ -1,6 +1,6 @@
 -- Lemmas on one turn, poll by poll.
 use Rattle.std.proofs.Common.{◌≡◌, ℕ, zero, suc, ◌+◌, ◌<◌, List, [], ◌∷◌, ◌++◌, length, take, Bool, Result, refl, sym, ◌∙◌, ap, add-one, append_assoc, append-nil}
-use Rattle.kt_child.proofs.Common.{set, take_more, Child, All, All-get_or, slice_get-get_or, Outcome, Polled, OsFault, PollCounts, ChildProgress, StillRunning, RunningChild, Chain, Call, child_of, poll_calls, progress_after_poll, counts_after_running, IsRunningChild, PollsAll, PollsUntil, child_after_running, children_after_running}
+use Rattle.kt_child.proofs.Common.{set, take_more, Child, All, All-get_or, slice_get-get_or, Outcome, ChildState, OsFault, PollCounts, ChildProgress, StillRunning, RunningChild, Chain, Call, child_of, poll_calls, progress_after_poll, counts_after_running, IsRunningChild, PollsAll, PollsUntil, child_after_running, children_after_running}
 use Rattle.std.proofs.Math.ListN.{get_or}
 use Rattle.std.proofs.lemmas.List.{get_or_default}
 use Rattle.kt_child.specs.declared.polling.ChildProgress.TheVariants.{Ended}
@@ -25,12 +25,12 @@ set_next (suc i) (k ∷ s) d = ap (λ t. child_after_running k ∷ t) (set_next 
 -- system's calls.
 abbrev pub OnePoll : {O : Type 0} → (O → Call → O → Type 0) → O → O → ChildProgress → Child → RunningChild → Type 0
 OnePoll leads now new turn name k =
-    (answer : Result Polled OsFault) × (done : Bool)
+    (answer : Result ChildState OsFault) × (done : Bool)
     × Chain leads now (poll_calls name k.limit k.watch answer done) new
     × (turn ≡ progress_after_poll k.limit k.watch answer done)
 
 -- A poll of one more child, after which it still runs, extends a turn.
-polled_snoc : (ks : List RunningChild) (k : RunningChild) (xs : List Call) (answer : Result Polled OsFault) (done : Bool)
+polled_snoc : (ks : List RunningChild) (k : RunningChild) (xs : List Call) (answer : Result ChildState OsFault) (done : Bool)
     → PollsAll ks xs → StillRunning ≡ progress_after_poll k.limit k.watch answer done
     → PollsAll (ks ++ k ∷ []) (xs ++ poll_calls (child_of k.case) k.limit k.watch answer done)
 polled_snoc [] k xs answer done h e =

@@ -28,5 +28,5 @@ pub use Rattle.kt_child.specs.Polling.Turns.{PollsAll, PollsUntil, PollsInTurns,
 pub use Rattle.kt_os.specs.System.Calls.{Call, Kill, ReadFile, RemoveTree}
 pub use Rattle.kt_os.specs.declared.system.FileRead.{FileRead}
 pub use Rattle.kt_os.specs.declared.system.OsFault.{OsFault}
-pub use Rattle.kt_os.specs.declared.system.Polled.TheVariants.{Running}
-pub use Rattle.kt_os.specs.declared.system.Polled.{Polled}
+pub use Rattle.kt_os.specs.declared.system.ChildState.TheVariants.{Running}
+pub use Rattle.kt_os.specs.declared.system.ChildState.{ChildState}

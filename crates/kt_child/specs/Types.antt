@@ -24,5 +24,5 @@ pub use Rattle.kt_os.specs.declared.system.EnvPlan.{EnvPlan}
 pub use Rattle.kt_os.specs.declared.system.FileRead.{FileRead}
 pub use Rattle.kt_os.specs.declared.system.FileRead.TheVariants.{Missing, Part}
 pub use Rattle.kt_os.specs.declared.system.OsFault.{OsFault}
-pub use Rattle.kt_os.specs.declared.system.Polled.{Polled}
-pub use Rattle.kt_os.specs.declared.system.Polled.TheVariants.{Exited, Running, Signaled}
+pub use Rattle.kt_os.specs.declared.system.ChildState.{ChildState}
+pub use Rattle.kt_os.specs.declared.system.ChildState.TheVariants.{Exited, Running, Signaled}

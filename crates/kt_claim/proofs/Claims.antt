@@ -1,10 +1,10 @@
 -- A file has no other claim than `claim_of` of the file.
 use Rattle.std.proofs.Common.{◌≡◌, ℕ, ◌-◌, ◌≤◌, ◌<◌, true, false, eqb, ltb, List, [], ◌∷◌, ◌++◌, length, drop, Option, Some, Result, Ok, Err, refl, ap, sym, subst, ◌∙◌, append_assoc, inl, inr, arith, nat_eq, codes, MatchOption, IfOk}
-use Rattle.kt_claim.proofs.Common.{bytes_eq, prefix_len, ends_with, list_any, list_all, false≢true, lt-ltb, le-ltb, ne_eqb, length-append, is_digit, lossy, is_newline, newline, number, limit, IsReason, IsNumber, reason_suffix, number_suffix, SpellsClaim, line, is, IsClaimOf, keyword_of, claim_with_reason, claim_with_number, reason_in, claim_from_reason, byte_value, number_in, claim_from_number, claim_of_line, claim_of, Claim, ClaimFault, Word}
+use Rattle.kt_claim.proofs.Common.{bytes_eq, prefix_len, ends_with, list_any, list_all, false≢true, lt-ltb, le-ltb, ne_eqb, length-append, is_digit, lossy, is_newline, newline, number, limit, IsReason, IsNumber, reason_suffix, number_suffix, SpellsClaim, line, is, IsClaimOf, keyword_of, claim_with_reason, claim_with_number, reason_in, claim_from_reason, byte_value, number_in, claim_from_number, claim_of_line, claim_of, Claim, ClaimFault, Keyword}
 use Rattle.std.proofs.Math.Seq.{take-append_seam, drop-append_seam}
 use Rattle.kt_claim.specs.ResultFile as says
 use Rattle.kt_claim.specs.declared.evidence.Claim.TheVariants as claim
-use Rattle.kt_claim.specs.declared.result_line.Word.TheVariants as word
+use Rattle.kt_claim.specs.declared.result_line.Keyword.TheVariants as word
 use Rattle.kt_claim.proofs.Words.{valued}
 use Rattle.kt_claim.proofs.ReadFiles.{read_file, claims}
 use Rattle.std.proofs.lemmas.Bool.{and_parts}
@@ -58,7 +58,7 @@ numbered_file w n r c isn isr short none is =
     subst (λ (xs : List ℕ). claim_of xs ≡ c) (number_parts w n r)
     (whole (w ++ 40 ∷ (n ++ 41 ∷ 58 ∷ 32 ∷ r)) (subst (λ (xs : List ℕ). length xs ≤ limit) (sym (number_parts w n r)) short) none ∙ is)
 
-pub numbered_line : (k : Word) (n r : List ℕ) → IsNumber n → IsReason r → claim_from_number k (number_in (n ++ 41 ∷ 58 ∷ 32 ∷ r)) ≡ claim_with_number k (number n) (lossy r)
+pub numbered_line : (k : Keyword) (n r : List ℕ) → IsNumber n → IsReason r → claim_from_number k (number_in (n ++ 41 ∷ 58 ∷ 32 ∷ r)) ≡ claim_with_number k (number n) (lossy r)
 numbered_line k n r isn isr = ap (claim_from_number k) (number_found n (58 ∷ 32 ∷ r) isn) ∙ ap (claim_from_reason (claim_with_number k (number n))) (reason_found r isr.0)
 
 pub said : (file : List ℕ) (c : Claim) → length file ≤ limit → SpellsClaim file c → claim_of file ≡ c

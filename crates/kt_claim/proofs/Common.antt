@@ -17,11 +17,11 @@ unfoldable pub use Rattle.kt_claim.specs.Inner.ResultReading.{claim_of, claim_of
 pub use Rattle.kt_claim.specs.Inner.TapReading.{HasLines, IsTally, first, has_second, one, state_of, with_plan}
 pub use Rattle.kt_claim.specs.ResultFile.{IsClaimOf, IsNumber, IsReason, SpellsClaim, after_digits, after_number, after_word, has_closing_bracket, digits, fault_of, line_has_fault, has_bracket, has_number, has_reason, is, limit, line, number_suffix, reason_suffix}
 pub use Rattle.kt_claim.specs.TapStream.{begins, below_limit, count, directive_in, is_plan_end, front, lines_before_bail_out, is_bail_out, is_test, is_unexcused, lines_of, without_leading, plan, plan_for, planned_from, skip_reason, reason_of_skip, tap_of_lines, without_trailing_blanks, plan_reason, without_cr}
-pub use Rattle.kt_claim.specs.declared.begun.LineProgress.{LineProgress}
-pub use Rattle.kt_claim.specs.declared.begun.LineProgress.TheVariants.{Digits, Nothing}
-pub use Rattle.kt_claim.specs.declared.begun.LineKind.{LineKind}
+pub use Rattle.kt_claim.specs.declared.open_line.LineProgress.{LineProgress}
+pub use Rattle.kt_claim.specs.declared.open_line.LineProgress.TheVariants.{Digits, Nothing}
+pub use Rattle.kt_claim.specs.declared.open_line.LineKind.{LineKind}
 pub use Rattle.kt_claim.specs.declared.evidence.Claim.{Claim}
 pub use Rattle.kt_claim.specs.declared.evidence.ClaimFault.{ClaimFault}
 pub use Rattle.kt_claim.specs.declared.evidence.ClaimFault.TheVariants.{BadNumber, Empty, NoNewline, NoReason, SeveralLines, TooLong, UnexpectedReason, UnknownWord}
-pub use Rattle.kt_claim.specs.declared.result_line.Word.{Word}
+pub use Rattle.kt_claim.specs.declared.result_line.Keyword.{Keyword}
 pub use Rattle.kt_claim.specs.declared.tally.Tally.{Tally}

@@ -2,7 +2,7 @@
 use Rattle.std.proofs.Common.{◌≡◌, ℕ, Bool, true, false, List, refl, sym, subst, codes}
 use Rattle.kt_claim.proofs.Common.{bytes_eq, list_any, bytes_eq-Decides, is_newline, keyword_of, claim_of_keyword}
 use Rattle.kt_claim.specs.ResultFile as says
-use Rattle.kt_claim.specs.declared.result_line.Word.TheVariants as word
+use Rattle.kt_claim.specs.declared.result_line.Keyword.TheVariants as word
 use Rattle.kt_claim.proofs.Words.{Agrees, plain_word, passed_word, number_word}
 
 -- ---- each word

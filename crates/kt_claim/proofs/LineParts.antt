@@ -1,7 +1,7 @@
 -- Facts of lines that are read byte by byte.
 use Rattle.std.proofs.Common.{◌≡◌, ℕ, ◌≤◌, Bool, true, false, eqb, List, [], ◌∷◌, ◌++◌, length, drop, Option, Some, None, refl, ap, sym, ◌∙◌, arith, if◌then◌else◌, option_map}
 use Rattle.kt_claim.proofs.Common.{le-ltb, ne_eqb, length-append, is_digit, decimal_from, is_blank, no_facts, plan_facts, after_opening, opened, below_limit, without_trailing_blanks, begins, front, without_leading, is_plan_end, planned_from, directive_in, reason_of_skip, plan_for}
-use Rattle.kt_claim.specs.declared.begun.Opening.{Opening}
+use Rattle.kt_claim.specs.declared.open_line.Opening.{Opening}
 use Rattle.std.proofs.Math.Bool.{and-false}
 use Rattle.kt_base.proofs.Numbers.{decimal_from-grows}
 

@@ -3,8 +3,8 @@ use Rattle.std.proofs.Common.{◌≡◌, ℕ, ◌≤◌, ◌<◌, ◌^◌, Bool,
 use Rattle.kt_claim.proofs.Common.{list_any, append-nil, length-append, is_newline, lines, with_prepended_byte, without_cr, without_trailing_blanks, tap_of_lines, lines_of, LineState, with_held_cr, facts_of, facts_of_kind, facts_with, is_reason, KeepsIfReason, IsStateAfter, IsTally, HasLines, Tally, LineProgress, LineKind}
 use Rattle.kt_claim.specs.TapStream.{limit}
 use Rattle.kt_claim.specs.declared.evidence.Tap.{Tap}
-use Rattle.kt_claim.specs.declared.begun.LineKind.TheVariants.{Plan}
-use Rattle.kt_claim.specs.declared.begun.LineProgress.TheVariants as begun
+use Rattle.kt_claim.specs.declared.open_line.LineKind.TheVariants.{Plan}
+use Rattle.kt_claim.specs.declared.open_line.LineProgress.TheVariants as begun
 use Rattle.kt_claim.proofs.Tallies.{quiet}
 use Rattle.std.proofs.lemmas.Bool.{or_parts}
 

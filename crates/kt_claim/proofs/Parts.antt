@@ -1,7 +1,7 @@
 -- Lines that are read in parts.
 use Rattle.std.proofs.Common.{◌≡◌, ℕ, true, false, eqb, List, [], ◌∷◌, ◌++◌, refl, ap, sym, ◌∙◌, append_assoc}
 use Rattle.kt_claim.proofs.Common.{false≢true, facts_of, facts_with, is_kind_known, KeepsIfReason, IsStateAfter, IsStateMidLine, without_cr, LineProgress}
-use Rattle.kt_claim.specs.declared.begun.LineProgress.TheVariants as begun
+use Rattle.kt_claim.specs.declared.open_line.LineProgress.TheVariants as begun
 
 -- In a decided state, the bytes that follow don't change the facts of a line.
 pub decided : (b : LineProgress) (kept xs ys : List ℕ) → is_kind_known b ≡ true → facts_with b kept xs ≡ facts_with b kept ys

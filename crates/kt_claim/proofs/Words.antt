@@ -1,10 +1,10 @@
 -- The keywords of a result file, with and without a number.
 use Rattle.std.proofs.Common.{◌≡◌, ℕ, suc, ◌+◌, Bool, true, false, not, cond, List, [], ◌∷◌, ◌++◌, length, take, drop, Option, Some, None, refl, ap, sym, subst, ◌∙◌, append_assoc, arith, ◌&&◌, ◌==◌, nat_le, nat_lt, codes, MatchOption, if◌then◌else◌}
-use Rattle.kt_claim.proofs.Common.{prefix_len, list_any, list_all, find, false≢true, eqb-true, ltb-true, lt-ltb, take-append-drop, is_digit, number_up_to, lossy, is_newline, newline, number, IsReason, IsNumber, reason_suffix, number_suffix, SpellsClaim, has_bracket, has_closing_bracket, digits, after_digits, has_number, after_number, has_reason, line_has_fault, claim_with_reason, claim_with_number, reason_in, claim_from_reason, number_before_bracket, byte_value, number_in, claim_from_number, may_have_number, claim_after_bracket, claim_without_bracket, claim_after, Claim, ClaimFault, UnknownWord, BadNumber, UnexpectedReason, NoReason, Word}
+use Rattle.kt_claim.proofs.Common.{prefix_len, list_any, list_all, find, false≢true, eqb-true, ltb-true, lt-ltb, take-append-drop, is_digit, number_up_to, lossy, is_newline, newline, number, IsReason, IsNumber, reason_suffix, number_suffix, SpellsClaim, has_bracket, has_closing_bracket, digits, after_digits, has_number, after_number, has_reason, line_has_fault, claim_with_reason, claim_with_number, reason_in, claim_from_reason, number_before_bracket, byte_value, number_in, claim_from_number, may_have_number, claim_after_bracket, claim_without_bracket, claim_after, Claim, ClaimFault, UnknownWord, BadNumber, UnexpectedReason, NoReason, Keyword}
 use Rattle.std.proofs.lemmas.Bool.Decides.{nat_tests}
 use Rattle.kt_claim.specs.ResultFile as says
 use Rattle.kt_claim.specs.declared.evidence.Claim.TheVariants as claim
-use Rattle.kt_claim.specs.declared.result_line.Word.TheVariants as word
+use Rattle.kt_claim.specs.declared.result_line.Keyword.TheVariants as word
 use Rattle.kt_claim.proofs.Reasons.{Wanted, reasoned}
 use Rattle.std.proofs.lemmas.Bool.{and_parts, or_parts}
 
@@ -22,14 +22,14 @@ Rows known number passed rest =
     cond (not known) (Some UnknownWord) (cond (has_bracket rest && not (number && has_number rest)) (Some BadNumber)
     (cond (passed && nat_lt 0 (length rest)) (Some UnexpectedReason) (cond (not passed && not (has_reason (after_number rest))) (Some NoReason) None)))
 
-pub plain_at : (t : Bool) (w rest more : List ℕ) (b : ℕ) (k : Word) → (b == 40) ≡ t → rest ≡ b ∷ more → may_have_number k ≡ false → claim_without_bracket k rest ≡ claim_from_reason (claim_with_reason k) (reason_in rest)
+pub plain_at : (t : Bool) (w rest more : List ℕ) (b : ℕ) (k : Keyword) → (b == 40) ≡ t → rest ≡ b ∷ more → may_have_number k ≡ false → claim_without_bracket k rest ≡ claim_from_reason (claim_with_reason k) (reason_in rest)
     → Wanted w (claim_with_reason k) → list_any is_newline rest ≡ false
     → MatchOption (cond (t && true) (Some BadNumber) (cond (not (has_reason (if t then drop 1 (after_digits rest) else rest))) (Some NoReason) None))
     (SpellsClaim (w ++ (rest ++ newline)) (if t then claim_after_bracket k more else claim_without_bracket k rest)) (λ g. (if t then claim_after_bracket k more else claim_without_bracket k rest) ≡ claim.Malformed g)
 plain_at true w rest more b k e parts may plain wants none = rw may refl
 plain_at false w rest more b k e parts may plain wants none = rw plain (reasoned w rest (claim_with_reason k) wants none)
 
-pub plain_word : (w rest : List ℕ) (k : Word) → may_have_number k ≡ false → ((r : List ℕ) → claim_without_bracket k r ≡ claim_from_reason (claim_with_reason k) (reason_in r))
+pub plain_word : (w rest : List ℕ) (k : Keyword) → may_have_number k ≡ false → ((r : List ℕ) → claim_without_bracket k r ≡ claim_from_reason (claim_with_reason k) (reason_in r))
     → Wanted w (claim_with_reason k) → list_any is_newline rest ≡ false
     → MatchOption (Rows true false false rest) (SpellsClaim (w ++ (rest ++ newline)) (claim_after k rest)) (λ g. claim_after k rest ≡ claim.Malformed g)
 plain_word w [] k may plain wants none = plain []
@@ -96,10 +96,10 @@ any_right [] ys none = none
 any_right (x ∷ xs) ys none = any_right xs ys (or_parts (is_newline x) (list_any is_newline (xs ++ ys)) none).1
 
 -- `WantedNumber w k`: the text `w` with a number and a reason spells the claim of the keyword `k`.
-abbrev pub WantedNumber : List ℕ → Word → Type 0
+abbrev pub WantedNumber : List ℕ → Keyword → Type 0
 WantedNumber w k = (n r : List ℕ) → IsNumber n → IsReason r → SpellsClaim (w ++ number_suffix n r) (claim_with_number k (number n) (lossy r))
 
-pub bracket_at : (t : Bool) (w more : List ℕ) (k : Word) → has_number (40 ∷ more) ≡ t → may_have_number k ≡ true → WantedNumber w k → list_any is_newline more ≡ false
+pub bracket_at : (t : Bool) (w more : List ℕ) (k : Keyword) → has_number (40 ∷ more) ≡ t → may_have_number k ≡ true → WantedNumber w k → list_any is_newline more ≡ false
     → MatchOption (cond (not t) (Some BadNumber) (cond (not (has_reason (drop 1 (after_digits (40 ∷ more))))) (Some NoReason) None))
     (SpellsClaim (w ++ ((40 ∷ more) ++ newline)) (claim_after_bracket k more)) (λ g. claim_after_bracket k more ≡ claim.Malformed g)
 unfolding number_in
@@ -135,7 +135,7 @@ bracket_at true w more k e may wants none =
     (subst (λ (xs : List ℕ). MatchOption (cond (not (has_reason p.0)) (Some NoReason) None) (SpellsClaim xs (claim_from_reason (claim_with_number k (number (digits (40 ∷ more)))) (reason_in p.0)))
     (λ g. claim_from_reason (claim_with_number k (number (digits (40 ∷ more)))) (reason_in p.0) ≡ claim.Malformed g)) file answer))
 
-pub number_at : (t : Bool) (w more : List ℕ) (b : ℕ) (k : Word) → (b == 40) ≡ t → may_have_number k ≡ true → claim_without_bracket k (b ∷ more) ≡ claim_from_reason (claim_with_reason k) (reason_in (b ∷ more))
+pub number_at : (t : Bool) (w more : List ℕ) (b : ℕ) (k : Keyword) → (b == 40) ≡ t → may_have_number k ≡ true → claim_without_bracket k (b ∷ more) ≡ claim_from_reason (claim_with_reason k) (reason_in (b ∷ more))
     → Wanted w (claim_with_reason k) → WantedNumber w k → list_any is_newline (b ∷ more) ≡ false
     → MatchOption (cond (t && not (has_number (b ∷ more))) (Some BadNumber) (cond (not (has_reason (if t then drop 1 (after_digits (b ∷ more)) else b ∷ more))) (Some NoReason) None))
     (SpellsClaim (w ++ ((b ∷ more) ++ newline)) (if t then claim_after_bracket k more else claim_without_bracket k (b ∷ more))) (λ g. (if t then claim_after_bracket k more else claim_without_bracket k (b ∷ more)) ≡ claim.Malformed g)
@@ -145,7 +145,7 @@ number_at true w more b k e may plain wants numbers none =
     (bracket_at (has_number (40 ∷ more)) w more k refl may numbers (or_parts (is_newline b) (list_any is_newline more) none).1)
 number_at false w more b k e may plain wants numbers none = rw plain (reasoned w (b ∷ more) (claim_with_reason k) wants none)
 
-pub number_word : (w rest : List ℕ) (k : Word) → may_have_number k ≡ true → ((r : List ℕ) → claim_without_bracket k r ≡ claim_from_reason (claim_with_reason k) (reason_in r))
+pub number_word : (w rest : List ℕ) (k : Keyword) → may_have_number k ≡ true → ((r : List ℕ) → claim_without_bracket k r ≡ claim_from_reason (claim_with_reason k) (reason_in r))
     → Wanted w (claim_with_reason k) → WantedNumber w k → list_any is_newline rest ≡ false
     → MatchOption (Rows true true false rest) (SpellsClaim (w ++ (rest ++ newline)) (claim_after k rest)) (λ g. claim_after k rest ≡ claim.Malformed g)
 number_word w [] k may plain wants numbers none = plain []

@@ -8,7 +8,7 @@ use std::alloc::Global;
 use std::marker::Model;
 
 /// The greatest length of a result file, in bytes.
-pub const LIMIT: usize = 65_536;
+pub const MAX_RESULT_FILE_BYTES: usize = 65_536;
 
 /// A reader of a result file that is read in pieces.
 ///
@@ -70,7 +70,7 @@ impl ClaimReader {
         if let Some(refusal) = self.failed {
             return Err(refusal);
         }
-        if self.too_long || piece.len() > LIMIT - self.bytes.len() {
+        if self.too_long || piece.len() > MAX_RESULT_FILE_BYTES - self.bytes.len() {
             self.too_long = true;
             return Ok(());
         }

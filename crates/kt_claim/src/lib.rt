@@ -1,7 +1,7 @@
 //! Reads the results that a test program reports: an ATF result file or a TAP stream.
 #![tactic(auto)]
 
-mod begun;
+mod open_line;
 mod claim_reader;
 mod evidence;
 mod line_parts;

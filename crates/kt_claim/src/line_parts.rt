@@ -3,12 +3,12 @@
 ghost use Rattle.std.specs.Prelude.{◌≡◌, ◌∷◌, ◌++◌, ℕ, List, [], IfOk, OnOk, None, false, true};
 ghost use Rattle.kt_claim.specs.Common.{facts_with, is_reason_byte, is_kind_known, KeepsIfReason, IsStateAfter, IsStateMidLine, without_trailing_blanks, after_opening, directive_facts, facts_of_kind, is_reason};
 
-use crate::begun::{DirectivePurpose, LineKind, LineProgress, OpenLine, Opening};
-use crate::line_steps::{LIMIT, is_blank, step};
+use crate::open_line::{DirectivePurpose, LineKind, LineProgress, OpenLine, Opening};
+use crate::line_steps::{PLAN_TESTS_LIMIT, is_blank, state_after_byte};
 use kt_base::NoMemory;
 
 /// Returns `text` without the spaces and tabs at its end.
-pub fn without_trailing_blanks(text: &[u8]) -> &[u8]
+pub fn trim_trailing_blanks(text: &[u8]) -> &[u8]
     ensures { result.now ≡ without_trailing_blanks text.now }
 {
     let mut rest = text;
@@ -36,7 +36,7 @@ fn kind_of_opening(opening: Opening) -> LineKind
 /// Returns the kind of a TAP line that ends within its opening or directly after it.
 ///
 /// The opening is `opening`, and `lacks` are its missing bytes.
-fn opened(opening: Opening, lacks: &'static [u8]) -> LineKind
+fn kind_within_opening(opening: Opening, lacks: &'static [u8]) -> LineKind
     ensures { (kept : List ℕ) → facts_of_kind result []
         ≡ facts_with (LineProgress.PartialOpening opening lacks.entry) kept [] }
 {
@@ -50,11 +50,11 @@ fn opened(opening: Opening, lacks: &'static [u8]) -> LineKind
 /// Returns the kind of a TAP line that has the form of a plan of `tests` tests.
 ///
 /// With 1,000,000,000 tests or more, the line is not a plan.
-fn planned(tests: u64) -> LineKind
+fn kind_of_plan(tests: u64) -> LineKind
     ensures { (kept : List ℕ) → facts_of_kind result []
         ≡ facts_with (LineProgress.Blanks tests) kept [] }
 {
-    if tests < LIMIT {
+    if tests < PLAN_TESTS_LIMIT {
         LineKind::Plan(tests)
     } else {
         LineKind::Other
@@ -70,7 +70,7 @@ fn kind_of_digits(value: Option<u64>) -> LineKind
 {
     match value {
         None => LineKind::Other,
-        Some(tests) => planned(tests),
+        Some(tests) => kind_of_plan(tests),
     }
 }
 
@@ -97,9 +97,9 @@ pub fn kind_at_end(begun: LineProgress) -> LineKind
 {
     match begun {
         LineProgress::Nothing => LineKind::Other,
-        LineProgress::PartialOpening(opening, lacks) => opened(opening, lacks),
+        LineProgress::PartialOpening(opening, lacks) => kind_within_opening(opening, lacks),
         LineProgress::Digits(value) => kind_of_digits(value),
-        LineProgress::Blanks(tests) => planned(tests),
+        LineProgress::Blanks(tests) => kind_of_plan(tests),
         LineProgress::DirectiveSearch(purpose, _) => kind_without_directive(purpose),
         LineProgress::Hash(purpose) => kind_without_directive(purpose),
         LineProgress::DirectiveLetters(purpose, _) => kind_without_directive(purpose),
@@ -152,7 +152,7 @@ fn feed_bytes(
             kept.extend_from_slice(rest)?;
             return Ok(LineProgress::Reason);
         }
-        state = step(state, *b);
+        state = state_after_byte(state, *b);
         rest = after;
     }
     Ok(state)

@@ -3,11 +3,11 @@
 ghost use Rattle.std.specs.Prelude.{◌≡◌, [], ◌∷◌, ℕ, List, false, option_map, Some, true, ◌<◌, ◌^◌, ◌-◌};
 ghost use Rattle.kt_claim.specs.Common.{is_digit, is_blank, directive_in, planned_from, below_limit, reason_of, reason_of_skip, plan_for, facts_of, plan_facts, after_opening, opened, directive_facts, directive_after_letters, facts_with, is_reason_byte, is_reason, next_letter, facts_after_letter};
 
-use crate::begun::{DirectivePrefix, DirectivePurpose, LineKind, LineProgress, Opening};
+use crate::open_line::{DirectivePrefix, DirectivePurpose, LineKind, LineProgress, Opening};
 use kt_base::is_digit;
 
 /// The exclusive upper bound of the number of tests in a plan (this profile).
-pub const LIMIT: u64 = 1_000_000_000;
+pub const PLAN_TESTS_LIMIT: u64 = 1_000_000_000;
 
 /// Returns `true` if the byte `b` is a space or a tab.
 pub fn is_blank(b: u8) -> bool
@@ -17,7 +17,7 @@ pub fn is_blank(b: u8) -> bool
 }
 
 /// Returns the state of a TAP line after its first byte, `b`.
-fn first(b: u8) -> LineProgress
+fn state_after_first_byte(b: u8) -> LineProgress
     ensures facts { (kept more : List ℕ) → facts_with result kept more ≡ facts_of (b ∷ more) }
     ensures plain { is_reason result ≡ false }
 {
@@ -34,7 +34,7 @@ fn first(b: u8) -> LineProgress
 ///
 /// The letters are `SKIP` if `is_skip` is `true`, otherwise `TODO`. `purpose` is the purpose of the
 /// search for the directive.
-fn found(purpose: DirectivePurpose, is_skip: bool) -> LineProgress
+fn state_after_directive(purpose: DirectivePurpose, is_skip: bool) -> LineProgress
     ensures facts { (kept more : List ℕ) → facts_with result kept more
         ≡ directive_facts purpose (Some (is_skip, reason_of more)) }
     ensures plain { is_reason result ≡ false }
@@ -106,10 +106,10 @@ fn state_after_letter(purpose: DirectivePurpose, letters: DirectivePrefix) -> Li
     match letters {
         DirectivePrefix::T => LineProgress::DirectiveLetters(purpose, DirectivePrefix::To),
         DirectivePrefix::To => LineProgress::DirectiveLetters(purpose, DirectivePrefix::Tod),
-        DirectivePrefix::Tod => found(purpose, false),
+        DirectivePrefix::Tod => state_after_directive(purpose, false),
         DirectivePrefix::S => LineProgress::DirectiveLetters(purpose, DirectivePrefix::Sk),
         DirectivePrefix::Sk => LineProgress::DirectiveLetters(purpose, DirectivePrefix::Ski),
-        DirectivePrefix::Ski => found(purpose, true),
+        DirectivePrefix::Ski => state_after_directive(purpose, true),
     }
 }
 
@@ -141,7 +141,7 @@ fn state_after_plan_hash(tests: u64) -> LineProgress
 {
     if tests == 0 {
         LineProgress::Hash(DirectivePurpose::Explain)
-    } else if tests < LIMIT {
+    } else if tests < PLAN_TESTS_LIMIT {
         LineProgress::KnownKind(LineKind::Plan(tests))
     } else {
         LineProgress::KnownKind(LineKind::Other)
@@ -174,7 +174,7 @@ fn state_after_next_digit(value: u64, digit: u64) -> LineProgress
         more) }
     ensures plain { is_reason result ≡ false }
 {
-    if value < LIMIT {
+    if value < PLAN_TESTS_LIMIT {
         LineProgress::Digits(Some(10 * value + digit))
     } else {
         LineProgress::KnownKind(LineKind::Other)
@@ -214,7 +214,7 @@ fn state_after_plan_digits(value: Option<u64>, b: u8) -> LineProgress
 }
 
 /// Returns the state of a TAP line after the complete opening `opening` and the byte `b`.
-fn after_opening(opening: Opening, b: u8) -> LineProgress
+fn state_after_opening(opening: Opening, b: u8) -> LineProgress
     ensures facts { (kept more : List ℕ) → facts_with result kept more
         ≡ after_opening opening (b ∷ more) }
     ensures plain { is_reason result ≡ false }
@@ -234,13 +234,13 @@ fn after_opening(opening: Opening, b: u8) -> LineProgress
 /// Returns the state of a TAP line after a part of its opening and the byte `b`.
 ///
 /// `lacks` are the bytes of the opening that are missing before `b`.
-fn opened(opening: Opening, lacks: &'static [u8], b: u8) -> LineProgress
+fn state_within_opening(opening: Opening, lacks: &'static [u8], b: u8) -> LineProgress
     ensures facts { (kept more : List ℕ) → facts_with result kept more
         ≡ facts_with (LineProgress.PartialOpening opening lacks.entry) kept (b ∷ more) }
     ensures plain { is_reason result ≡ false }
 {
     match lacks.split_first() {
-        None => after_opening(opening, b),
+        None => state_after_opening(opening, b),
         Some((c, lacks)) if *c == b => LineProgress::PartialOpening(opening, lacks),
         Some(_) => LineProgress::KnownKind(LineKind::Other),
     }
@@ -249,14 +249,14 @@ fn opened(opening: Opening, lacks: &'static [u8], b: u8) -> LineProgress
 /// Returns the state of a TAP line after the byte `b`, if its state before `b` is `begun`.
 ///
 /// The caller handles the bytes of a reason, so the state `Reason` is returned unchanged.
-pub fn step(begun: LineProgress, b: u8) -> LineProgress
+pub fn state_after_byte(begun: LineProgress, b: u8) -> LineProgress
     ensures facts { is_reason_byte begun b ≡ false → (kept more : List ℕ)
         → facts_with result kept more ≡ facts_with begun kept (b ∷ more) }
     ensures kept { is_reason result ≡ is_reason begun }
 {
     match begun {
-        LineProgress::Nothing => first(b),
-        LineProgress::PartialOpening(opening, lacks) => opened(opening, lacks, b),
+        LineProgress::Nothing => state_after_first_byte(b),
+        LineProgress::PartialOpening(opening, lacks) => state_within_opening(opening, lacks, b),
         LineProgress::Digits(value) => state_after_plan_digits(value, b),
         LineProgress::Blanks(tests) => state_after_blanks(tests, b),
         LineProgress::DirectiveSearch(purpose, escaped) => state_in_search(purpose, escaped, b),

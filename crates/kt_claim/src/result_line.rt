@@ -7,12 +7,12 @@ ghost use Rattle.kt_claim.specs.ResultFile.{limit};
 ghost use Rattle.kt_claim.specs.Inner.ResultReading.{number_in, reason_in, claim_with_number, claim_with_reason, claim_after_bracket, claim_of, keyword_of, may_have_number};
 
 use crate::{Claim, ClaimFault};
-use kt_base::{NoMemory, Text, digits_length, lossy, named_bytes, parse_decimal_up_to};
+use kt_base::{NoMemory, Text, digits_length, lossy, value_of_keyword_bytes, parse_decimal_up_to};
 use std::alloc::Global;
 
 /// A keyword of a result file.
 #[derive(Clone, Copy)]
-pub enum Word {
+pub enum Keyword {
     Passed,
     Failed,
     Skipped,
@@ -24,31 +24,31 @@ pub enum Word {
 }
 
 /// The keywords of result files, with their spellings (atf-test-case(4)).
-const KEYWORDS: [(&str, Word); 8] = [
-    ("passed", Word::Passed),
-    ("failed", Word::Failed),
-    ("skipped", Word::Skipped),
-    ("expected_death", Word::ExpectedDeath),
-    ("expected_failure", Word::ExpectedFailure),
-    ("expected_timeout", Word::ExpectedTimeout),
-    ("expected_exit", Word::ExpectedExit),
-    ("expected_signal", Word::ExpectedSignal),
+const KEYWORDS: [(&str, Keyword); 8] = [
+    ("passed", Keyword::Passed),
+    ("failed", Keyword::Failed),
+    ("skipped", Keyword::Skipped),
+    ("expected_death", Keyword::ExpectedDeath),
+    ("expected_failure", Keyword::ExpectedFailure),
+    ("expected_timeout", Keyword::ExpectedTimeout),
+    ("expected_exit", Keyword::ExpectedExit),
+    ("expected_signal", Keyword::ExpectedSignal),
 ];
 
-impl Word {
+impl Keyword {
     /// Returns the keyword that is spelled `word`, or `None` if `word` is not a keyword.
     #[tactic(auto, unfolding(crate::specs::Inner::ResultReading::keyword_of))]
-    pub fn of(word: &[u8]) -> Option<Word>
+    pub fn from_bytes(word: &[u8]) -> Option<Keyword>
         ensures { result ≡ keyword_of word.now }
     {
-        named_bytes(word, &KEYWORDS)
+        value_of_keyword_bytes(word, &KEYWORDS)
     }
 
     /// Returns `true` if a number in round brackets may follow the keyword.
     pub fn may_have_number(self) -> bool
         ensures { result ≡ may_have_number self }
     {
-        matches!(self, Word::ExpectedExit | Word::ExpectedSignal)
+        matches!(self, Keyword::ExpectedExit | Keyword::ExpectedSignal)
     }
 }
 
@@ -67,7 +67,7 @@ fn keyword_length(text: &[u8]) -> usize
 /// Returns the number and the bytes after the bracket. The result is `None` if there is no digit,
 /// if the number is greater than 255, or if no closing bracket follows the digits.
 #[tactic(auto, unfolding(crate::specs::Inner::ResultReading::number_in))]
-fn number(rest: &[u8]) -> Option<(u8, &[u8])>
+fn parse_number_in_brackets(rest: &[u8]) -> Option<(u8, &[u8])>
     ensures { option_map (λ x. (x.0, x.1.now)) result ≡ number_in rest.now }
 {
     let (digits, rest) = rest.split_at(digits_length(rest));
@@ -86,7 +86,7 @@ fn number(rest: &[u8]) -> Option<(u8, &[u8])>
 /// Returns the reason in `rest`, or `None` unless `rest` is a colon, a space and a reason.
 ///
 /// A reason has one byte or more.
-fn reason(rest: &[u8]) -> Option<&[u8]>
+fn parse_reason(rest: &[u8]) -> Option<&[u8]>
     ensures { option_map (λ x. x.now) result ≡ reason_in rest.now }
 {
     if rest.starts_with(b": ") && rest.len() > 2 {
@@ -99,45 +99,45 @@ fn reason(rest: &[u8]) -> Option<&[u8]>
 /// Creates the claim of the keyword `word` with the reason `reason` and without a number.
 ///
 /// The claim `Passed` has no reason, so `reason` is not used for it.
-fn claim_with_reason(word: Word, reason: Text) -> Claim
+fn claim_with_reason(word: Keyword, reason: Text) -> Claim
     ensures { result ≡ claim_with_reason word reason }
 {
     match word {
-        Word::Passed => Claim::Passed,
-        Word::Failed => Claim::Failed(reason),
-        Word::Skipped => Claim::Skipped(reason),
-        Word::ExpectedDeath => Claim::ExpectedDeath(reason),
-        Word::ExpectedFailure => Claim::ExpectedFailure(reason),
-        Word::ExpectedTimeout => Claim::ExpectedTimeout(reason),
-        Word::ExpectedExit => Claim::ExpectedExit(None, reason),
-        Word::ExpectedSignal => Claim::ExpectedSignal(None, reason),
+        Keyword::Passed => Claim::Passed,
+        Keyword::Failed => Claim::Failed(reason),
+        Keyword::Skipped => Claim::Skipped(reason),
+        Keyword::ExpectedDeath => Claim::ExpectedDeath(reason),
+        Keyword::ExpectedFailure => Claim::ExpectedFailure(reason),
+        Keyword::ExpectedTimeout => Claim::ExpectedTimeout(reason),
+        Keyword::ExpectedExit => Claim::ExpectedExit(None, reason),
+        Keyword::ExpectedSignal => Claim::ExpectedSignal(None, reason),
     }
 }
 
 /// Creates the claim of the keyword `word` with the number `number` and the reason `reason`.
 ///
 /// The claim is `Malformed(BadNumber)` if the keyword may not have a number.
-fn claim_with_number(word: Word, number: u8, reason: Text) -> Claim
+fn claim_with_number(word: Keyword, number: u8, reason: Text) -> Claim
     ensures { result ≡ claim_with_number word number reason }
 {
     match word {
-        Word::ExpectedExit => Claim::ExpectedExit(Some(number), reason),
-        Word::ExpectedSignal => Claim::ExpectedSignal(Some(number), reason),
+        Keyword::ExpectedExit => Claim::ExpectedExit(Some(number), reason),
+        Keyword::ExpectedSignal => Claim::ExpectedSignal(Some(number), reason),
         _ => Claim::Malformed(ClaimFault::BadNumber),
     }
 }
 
 /// Returns the claim of a line that consists of the keyword `word`, an opening bracket and `rest`.
-fn claim_after_bracket(alloc: Global, word: Word, rest: &[u8]) -> Result<Claim, NoMemory>
+fn claim_after_bracket(alloc: Global, word: Keyword, rest: &[u8]) -> Result<Claim, NoMemory>
     ensures { IfOk result (λ claim. claim ≡ claim_after_bracket word rest.now) }
 {
     if !word.may_have_number() {
         return Ok(Claim::Malformed(ClaimFault::BadNumber));
     }
-    let Some((number, rest)) = number(rest) else {
+    let Some((number, rest)) = parse_number_in_brackets(rest) else {
         return Ok(Claim::Malformed(ClaimFault::BadNumber));
     };
-    let Some(reason) = reason(rest) else {
+    let Some(reason) = parse_reason(rest) else {
         return Ok(Claim::Malformed(ClaimFault::NoReason));
     };
     Ok(claim_with_number(word, number, lossy(alloc, reason)?))
@@ -164,14 +164,14 @@ pub fn claim_of(alloc: Global, file: &[u8]) -> Result<Claim, NoMemory>
         return Ok(Claim::Malformed(ClaimFault::SeveralLines));
     }
     let (word, rest) = line.split_at(keyword_length(line));
-    let Some(word) = Word::of(word) else {
+    let Some(word) = Keyword::from_bytes(word) else {
         return Ok(Claim::Malformed(ClaimFault::UnknownWord));
     };
     match (word, rest.split_first()) {
         (_, Some((b'(', after))) => claim_after_bracket(alloc, word, after),
-        (Word::Passed, None) => Ok(Claim::Passed),
-        (Word::Passed, Some(_)) => Ok(Claim::Malformed(ClaimFault::UnexpectedReason)),
-        _ => match reason(rest) {
+        (Keyword::Passed, None) => Ok(Claim::Passed),
+        (Keyword::Passed, Some(_)) => Ok(Claim::Malformed(ClaimFault::UnexpectedReason)),
+        _ => match parse_reason(rest) {
             Some(reason) => Ok(claim_with_reason(word, lossy(alloc, reason)?)),
             None => Ok(Claim::Malformed(ClaimFault::NoReason)),
         },

@@ -2,7 +2,7 @@ ghost use Rattle.std.specs.Prelude.{◌≡◌, ◌<◌, ◌^◌, ◌++◌, [], �
 ghost use Rattle.kt_claim.specs.TapStream.{skip_reason, plan_reason, tap_of_lines};
 ghost use Rattle.kt_claim.specs.Inner.LineStates.{facts_of, facts_of_kind};
 
-use crate::begun::LineKind;
+use crate::open_line::LineKind;
 use crate::{Tap, TapFault};
 use kt_base::{NoMemory, Text, lossy};
 use std::alloc::Global;
@@ -48,7 +48,7 @@ fn plan_reason(alloc: Global, tests: u64, reason: &[u8]) -> Result<Text, NoMemor
 }
 
 /// Returns `n + 1`, or `u64::MAX` if that overflows.
-fn one_more(n: u64) -> u64
+fn saturating_increment(n: u64) -> u64
     ensures { n < 2 ^ 32 → result ≡ n + 1 }
 {
     n.saturating_add(1)
@@ -85,7 +85,7 @@ impl Tally {
         ensures { self.tests < 2 ^ 32 → result ≡ record self { tests = self.tests + 1 } }
     {
         Tally {
-            tests: one_more(self.tests),
+            tests: saturating_increment(self.tests),
             ..self
         }
     }
@@ -96,7 +96,7 @@ impl Tally {
         ensures { self.failures < 2 ^ 32 → result ≡ record self { failures = self.failures + 1 } }
     {
         Tally {
-            failures: one_more(self.failures),
+            failures: saturating_increment(self.failures),
             ..self
         }
     }

@@ -5,8 +5,8 @@ ghost use Rattle.kt_claim.specs.Common.{list_any, is_newline, tap_of_lines, line
 ghost use Rattle.kt_claim.specs.TapStream.{limit};
 
 use crate::Tap;
-use crate::begun::{LineProgress, OpenLine};
-use crate::line_parts::{feed_line, kind_at_end, without_trailing_blanks};
+use crate::open_line::{LineProgress, OpenLine};
+use crate::line_parts::{feed_line, kind_at_end, trim_trailing_blanks};
 use crate::tally::Tally;
 use kt_base::{NoMemory, line_length};
 use std::alloc::Global;
@@ -32,7 +32,7 @@ fn end_line(alloc: Global, tally: Tally, line: &mut OpenLine) -> Result<Tally, N
     let after = tally.add(
         alloc,
         kind_at_end(line.begun),
-        without_trailing_blanks(&line.kept),
+        trim_trailing_blanks(&line.kept),
     )?;
     line.begun = LineProgress::Nothing;
     line.kept.clear();
@@ -54,7 +54,7 @@ pub fn tap_at_end(alloc: Global, tally: Tally, line: &OpenLine) -> Result<Tap, N
     let tally = tally.add(
         alloc,
         kind_at_end(line.begun),
-        without_trailing_blanks(&line.kept),
+        trim_trailing_blanks(&line.kept),
     )?;
     Ok(tally.tap())
 }
@@ -68,7 +68,7 @@ pub fn tap_at_end(alloc: Global, tally: Tally, line: &OpenLine) -> Result<Tap, N
 /// # Errors
 ///
 /// - `NoMemory`: an allocation fails.
-pub fn read(
+pub fn read_piece(
     alloc: Global,
     tally: Tally,
     line: &mut OpenLine,

@@ -1,9 +1,9 @@
 ghost use Rattle.std.specs.Prelude.{◌≡◌, IfOk};
 ghost use Rattle.kt_claim.specs.Common.{tap_of};
 
-use crate::begun::{LineProgress, OpenLine};
+use crate::open_line::{LineProgress, OpenLine};
 use crate::tally::Tally;
-use crate::tap_lines::{read, tap_at_end};
+use crate::tap_lines::{read_piece, tap_at_end};
 use crate::{Tap, TapFault};
 use kt_base::NoMemory;
 use std::alloc::Global;
@@ -11,7 +11,7 @@ use std::marker::Model;
 use std::mem;
 
 /// The greatest length of a TAP stream, in bytes.
-const LIMIT: usize = 16_777_216;
+const MAX_STREAM_BYTES: usize = 16_777_216;
 
 /// A reader of a TAP stream that is read in pieces.
 ///
@@ -86,12 +86,12 @@ impl TapReader {
         if let Some(refusal) = self.failed {
             return Err(refusal);
         }
-        if self.too_long || piece.len() > LIMIT - self.length {
+        if self.too_long || piece.len() > MAX_STREAM_BYTES - self.length {
             self.too_long = true;
             return Ok(());
         }
         let tally = mem::replace(&mut self.tally, Tally::new());
-        match read(self.alloc, tally, &mut self.line, piece) {
+        match read_piece(self.alloc, tally, &mut self.line, piece) {
             Ok(tally) => self.tally = tally,
             Err(refusal) => {
                 self.failed = Some(refusal);

@@ -91,7 +91,7 @@ impl Config {
                 Ok(())
             }
             Definition::UnprivilegedUser => Ok(()),
-            Definition::SuiteVariable(suite, variable) => self.suites.put(suite, variable),
+            Definition::SuiteVariable(suite, variable) => self.suites.put_variable(suite, variable),
         }
     }
 
@@ -135,7 +135,7 @@ impl Config {
         ensures value { result ≡ self.now.parallelism }
         ensures within { (1 ≤ result) × (result ≤ largest_width) }
     {
-        self.parallelism.cases()
+        self.parallelism.max_cases()
     }
 
     /// Sets the variable `name` to `value`, as the option `--variable` does (kyua(1)).

@@ -55,13 +55,13 @@ fn runner_definition(name: &Text, value: Text) -> Result<Definition, ConfigFault
     ensures { result ≡ runner_definition name.now value }
 {
     let empty = value.is_empty();
-    if name.is_word("architecture") {
+    if name.is_equal_to("architecture") {
         non_empty_definition(empty, Definition::Architecture(value))
-    } else if name.is_word("platform") {
+    } else if name.is_equal_to("platform") {
         non_empty_definition(empty, Definition::Platform(value))
-    } else if name.is_word("unprivileged_user") {
+    } else if name.is_equal_to("unprivileged_user") {
         non_empty_definition(empty, Definition::UnprivilegedUser)
-    } else if name.is_word("parallelism") {
+    } else if name.is_equal_to("parallelism") {
         width_definition(Width::from_text(&value))
     } else {
         Err(ConfigFault::UnknownVariable)
@@ -76,7 +76,7 @@ fn runner_definition(name: &Text, value: Text) -> Result<Definition, ConfigFault
 fn is_suite_variable(root: &Text, suite: &Text, name: &Text) -> bool
     ensures { result ≡ is_suite_variable root.now suite.now name.now }
 {
-    if !root.is_word("test_suites") {
+    if !root.is_equal_to("test_suites") {
         return false;
     }
     if suite.is_empty() {

@@ -34,7 +34,7 @@ fn is_syntax_call(action: &Action) -> bool
     ensures { result ≡ is_syntax_call action.now }
 {
     match action {
-        Action::Call(name, arg) => name.is_word("syntax") && is_syntax_version(arg),
+        Action::Call(name, arg) => name.is_equal_to("syntax") && is_syntax_version(arg),
         Action::Assign(_, _) => false,
     }
 }

@@ -40,7 +40,7 @@ impl SuiteVariables {
     /// # Errors
     ///
     /// - `NoMemory`: an allocation fails. The variables are unchanged.
-    pub(crate) fn put(&mut self, variable: Variable) -> Result<(), NoMemory>
+    pub(crate) fn put_variable(&mut self, variable: Variable) -> Result<(), NoMemory>
         ensures ok { OnOk result (self.new ≡ last_values (self.old ++ variable ∷ [])) }
         ensures err { OnErr result (self.new ≡ self.old) }
     {

@@ -48,16 +48,16 @@ impl Suites {
     /// # Errors
     ///
     /// - `NoMemory`: an allocation fails. The suites are unchanged.
-    pub fn put(&mut self, suite: Text, variable: Variable) -> Result<(), NoMemory>
+    pub fn put_variable(&mut self, suite: Text, variable: Variable) -> Result<(), NoMemory>
         ensures ok { OnOk result (SetsSuiteVariable suite variable self.old self.new) }
         ensures err { OnErr result (self.new ≡ self.old) }
     {
         if let Some(variables) = self.groups.get_mut(suite.as_str()) {
-            variables.put(variable)?;
+            variables.put_variable(variable)?;
             return Ok(());
         }
         let mut variables = SuiteVariables::new(*self.groups.allocator());
-        variables.put(variable)?;
+        variables.put_variable(variable)?;
         self.groups.insert(into_key(suite), variables)?;
         Ok(())
     }

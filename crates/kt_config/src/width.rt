@@ -46,7 +46,7 @@ fn width_in_range(number: u64) -> Option<u32>
 /// Parses `bytes` as a decimal number from 1 to 256. Leading zeros are allowed.
 ///
 /// Returns `None` for another number, or if a byte is not an ASCII digit.
-fn width_in(bytes: &[u8]) -> Option<u32>
+fn parse_width(bytes: &[u8]) -> Option<u32>
     ensures { result ≡ width_in bytes.now }
 {
     if has_non_digit(bytes) {
@@ -69,12 +69,12 @@ impl Width {
     pub fn from_text(text: &Text) -> Option<Width>
         ensures { result ≡ width_of text.now }
     {
-        let cases = width_in(text.as_str().as_bytes())?;
+        let cases = parse_width(text.as_str().as_bytes())?;
         Some(Width { cases })
     }
 
     /// Returns the maximum number of test cases that run at the same time, 1 to 256.
-    pub fn cases(&self) -> u32
+    pub fn max_cases(&self) -> u32
         ensures value { result ≡ self.now }
         ensures within { (1 ≤ result) × (result ≤ largest_width) }
     {

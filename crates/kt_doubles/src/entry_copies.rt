@@ -11,7 +11,7 @@ fn copy_verdict(alloc: Global, verdict: &Verdict) -> Result<Verdict, NoMemory>
 {
     let mut reason = Text::new(alloc);
     verdict.write_reason(&mut reason)?;
-    Ok(Verdict::of(verdict.kind(), reason))
+    Ok(Verdict::from_kind(verdict.kind(), reason))
 }
 
 /// Copies the output of a body or a cleanup.

@@ -1,5 +1,5 @@
 use kt_base::NoMemory;
-use kt_child::Polled;
+use kt_child::ChildState;
 use std::alloc::Global;
 
 /// A script of a child: the number of polls that find it running, and the result of later polls.
@@ -8,7 +8,7 @@ pub struct ChildScript {
     /// The number of polls that find the child running.
     pub running_polls: u32,
     /// The result of the polls after `running_polls` polls: an exit status or a signal.
-    pub exit: Polled,
+    pub exit: ChildState,
 }
 
 /// A fault in reading a file in parts, which the scripted system has and a real system never has.

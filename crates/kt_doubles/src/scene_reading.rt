@@ -3,7 +3,7 @@
 use crate::scene::{ChildScript, PartFault, SceneFile};
 use crate::{Scene, fail_allocation};
 use kt_base::{NoMemory, Outcome, Text};
-use kt_child::Polled;
+use kt_child::ChildState;
 use kt_examples::{
     CASE_LIST_HEADER, Example, ExampleFault, ExampleLine, Result, append_unescaped, convert_error,
     parse_count, parse_numbers, parse_outcome, push_or_fail, require_part, split_once_or_fail,
@@ -46,8 +46,8 @@ fn parse_child_script(text: &str) -> Result<ChildScript> {
         Some(rest) => split_once_or_fail(rest, ", ", "a life is `running xN, ` and an ending")?,
     };
     let exit = match parse_outcome(ending)? {
-        Outcome::Exited(code) => Polled::Exited(code),
-        Outcome::Signaled(signal, core) => Polled::Signaled(signal, core),
+        Outcome::Exited(code) => ChildState::Exited(code),
+        Outcome::Signaled(signal, core) => ChildState::Signaled(signal, core),
         _ => return Err(ExampleFault::InvalidExample("a child exits or is ended by a signal")),
     };
     Ok(ChildScript {

@@ -3,7 +3,7 @@ ghost use Rattle.kt_os.specs.System.Reads.{IsReadWithin};
 use crate::Scene;
 use crate::scene::{ChildScript, PartFault};
 use kt_base::{Bytes, Items, NoMemory, Role, Text};
-use kt_child::{Child, EnvPlan, FileRead, Os, OsFault, Polled};
+use kt_child::{Child, EnvPlan, FileRead, Os, OsFault, ChildState};
 use kt_examples::ExampleOutput;
 
 /// An `Os` that follows a scene and logs each call in a line. The line of a failed call ends in
@@ -33,7 +33,7 @@ pub struct ScriptedSystem<'a> {
 /// the scripts of the first children, and later children have the last script. Without scripts, a
 /// child exits with 0 at once.
 fn find_child_script(child_scripts: &[ChildScript], number: usize) -> ChildScript {
-    let exit = Polled::Exited(0);
+    let exit = ChildState::Exited(0);
     let script = child_scripts.get(number).or(child_scripts.last());
     script.copied().unwrap_or(ChildScript {
         running_polls: 0,
@@ -48,7 +48,7 @@ fn poll_child(
     child_scripts: &[ChildScript],
     children: &mut [(Child, u32)],
     child: Child,
-) -> Polled {
+) -> ChildState {
     for (number, (known, polls)) in children.iter_mut().enumerate() {
         if *known == child {
             let script = find_child_script(child_scripts, number);
@@ -56,10 +56,10 @@ fn poll_child(
                 return script.exit;
             }
             *polls = polls.saturating_add(1);
-            return Polled::Running;
+            return ChildState::Running;
         }
     }
-    Polled::Exited(99)
+    ChildState::Exited(99)
 }
 
 /// Returns at most `limit` bytes of the file at `path` in `scene`, from the byte at index `from`
@@ -204,7 +204,7 @@ impl Os for ScriptedSystem<'_> {
         Ok(())
     }
 
-    fn poll(&mut self, child: Child) -> Result<Polled, OsFault> {
+    fn poll(&mut self, child: Child) -> Result<ChildState, OsFault> {
         let status = poll_child(
             self.scene.child_scripts.as_slice(),
             &mut self.children,

@@ -60,7 +60,7 @@ pub fn parse_verdict_kinds(alloc: Global, words: &str) -> Result<Vec<Kind>> {
 /// Parses `text` as a verdict in the form `KIND: REASON`. Without `: `, the reason is empty.
 fn parse_verdict(alloc: Global, text: &str) -> Result<Verdict> {
     let (keyword, reason) = text.split_once(": ").unwrap_or((text, ""));
-    Ok(Verdict::of(parse_kind(keyword)?, unescape_lossy(alloc, reason)?))
+    Ok(Verdict::from_kind(parse_kind(keyword)?, unescape_lossy(alloc, reason)?))
 }
 
 /// Creates an entry at the position `position` with the verdict `verdict`. `content` are the lines

@@ -15,6 +15,6 @@ pub use Rattle.kt_metadata.specs.Listing.{custom_pairs, has_value, listing, prop
 pub use Rattle.kt_metadata.specs.Overlays.{name_with_value}
 pub use Rattle.kt_metadata.specs.Properties.{IfFault, definition_fault, non_empty_text, form_of_property, has_name, is_custom, is_kyuafile_property, non_empty_suffix, value_of_text}
 pub use Rattle.kt_metadata.specs.Requirements.{RecordsAsFound, amount_reason_text, architecture_reason_text, config_reason_text, first_reason, host_reason_texts, is_allowed, is_found, unsupported_reason_text, need_reason_text, needed, platform_reason_text, rows, text_in, user_reason_text}
-pub use Rattle.kt_metadata.specs.Values.{factor_of, is_not_absolute, is_not_program_name, timeout_of_number, number_of, checked_product, truth_of, unit_of, user_of}
+pub use Rattle.kt_metadata.specs.Values.{factor_of, is_not_absolute, is_relative_with_slash, timeout_of_number, number_of, checked_product, truth_of, unit_of, user_of}
 pub use Rattle.kt_metadata.specs.Words.{AreWords, with_element, words, words_from}
 pub use Rattle.kt_metadata.specs.declared.host.Need.{Need}

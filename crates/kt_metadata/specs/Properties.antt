@@ -9,7 +9,7 @@ use Rattle.kt_metadata.specs.declared.value.Value.TheVariants as value
 use Rattle.kt_metadata.specs.declared.fault.PropFault.{PropFault}
 use Rattle.kt_metadata.specs.declared.fault.PropFault.TheVariants.{NoMemory, UnknownProperty, BadValue}
 use Rattle.kt_metadata.specs.Words.{words}
-use Rattle.kt_metadata.specs.Values.{truth_of, user_of, size_of, timeout_of, is_not_absolute, is_not_program_name}
+use Rattle.kt_metadata.specs.Values.{truth_of, user_of, size_of, timeout_of, is_not_absolute, is_relative_with_slash}
 
 -- `PropertyRow`: a row of the table of properties with fixed names. It has the name of a property,
 -- its key in lists of ATF cases, and the form of its values.
@@ -85,7 +85,7 @@ valid_words is_wrong found = if list_any is_wrong found then None else Some (val
 abbrev pub value_in : Form → List ℕ → Option Value
 value_in form.Words text = Some (value.Words (words text))
 value_in form.Files text = valid_words is_not_absolute (words text)
-value_in form.Programs text = valid_words is_not_program_name (words text)
+value_in form.Programs text = valid_words is_relative_with_slash (words text)
 value_in form.Text text = Some value.Text
 value_in form.Truth text = option_map (λ b. value.Truth b) (truth_of text)
 value_in form.Size text = option_map (λ n. value.Size n) (size_of text)

@@ -4,7 +4,7 @@ ghost use Rattle.kt_metadata.specs.Properties.{value_in};
 
 use crate::RequiredUser;
 use crate::value::Value;
-use crate::values::{has_invalid_file, has_invalid_program, size, timeout, truth, user, words};
+use crate::values::{has_invalid_file, has_invalid_program, parse_size, parse_timeout, parse_truth, parse_user, split_elements};
 use kt_base::{Items, NoMemory, Text};
 use std::alloc::Global;
 
@@ -53,24 +53,24 @@ impl Form {
     /// # Errors
     ///
     /// - `NoMemory`: an allocation fails.
-    pub fn read(self, alloc: Global, text: &Text) -> Result<Option<Value>, NoMemory>
+    pub fn parse_value(self, alloc: Global, text: &Text) -> Result<Option<Value>, NoMemory>
         ensures { IfOk result (λ value. value ≡ value_in self text.now) }
     {
         match self {
-            Form::Words => Ok(Some(Value::Words(words(alloc, text)?))),
+            Form::Words => Ok(Some(Value::Words(split_elements(alloc, text)?))),
             Form::Files => {
-                let words = words(alloc, text)?;
+                let words = split_elements(alloc, text)?;
                 Ok(create_list_value(has_invalid_file(words.as_slice()), words))
             }
             Form::Programs => {
-                let words = words(alloc, text)?;
+                let words = split_elements(alloc, text)?;
                 Ok(create_list_value(has_invalid_program(words.as_slice()), words))
             }
             Form::Text => Ok(Some(Value::Text)),
-            Form::Truth => Ok(truth(text).map(Value::Truth)),
-            Form::Size => Ok(size(text.as_bytes()).map(Value::Size)),
-            Form::RequiredUser => Ok(user(text).map(Value::RequiredUser)),
-            Form::Timeout => Ok(timeout(text.as_bytes()).map(Value::Timeout)),
+            Form::Truth => Ok(parse_truth(text).map(Value::Truth)),
+            Form::Size => Ok(parse_size(text.as_bytes()).map(Value::Size)),
+            Form::RequiredUser => Ok(parse_user(text).map(Value::RequiredUser)),
+            Form::Timeout => Ok(parse_timeout(text.as_bytes()).map(Value::Timeout)),
         }
     }
 

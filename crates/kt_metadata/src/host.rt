@@ -102,7 +102,7 @@ impl Host {
     }
 
     /// Returns `true` if the file or program `word`, an object of the kind `need`, was found.
-    pub(crate) fn has(&self, need: Need, word: &Text) -> bool
+    pub(crate) fn has_object(&self, need: Need, word: &Text) -> bool
         ensures { result ≡ is_found need self.now word.now }
     {
         match need {

@@ -77,7 +77,7 @@ impl Layer {
     /// # Errors
     ///
     /// - `NoMemory`: an allocation fails. The layer is unchanged.
-    pub fn put(&mut self, name: &str, given: PropertyDefinition) -> Result<(), NoMemory>
+    pub fn put_definition(&mut self, name: &str, given: PropertyDefinition) -> Result<(), NoMemory>
         requires { IsConsistent (chars name.now) given }
         ensures ok { OnOk result (self.new
             ≡ last_values (self.old ++ name_with_value (chars name.now) given.text ∷ [])) }
@@ -94,12 +94,12 @@ impl Layer {
     /// # Errors
     ///
     /// - `NoMemory`: an allocation fails. Some definitions may have been copied.
-    pub fn put_all(&mut self, more: &Layer) -> Result<(), NoMemory>
+    pub fn put_definitions(&mut self, more: &Layer) -> Result<(), NoMemory>
         ensures { OnOk result (self.new ≡ last_values (self.old ++ more.now)) }
     {
         let alloc = self.allocator();
         for (name, given) in more.given.iter() {
-            self.put(name.as_str(), given.copy(alloc)?)?;
+            self.put_definition(name.as_str(), given.copy(alloc)?)?;
         }
         Ok(())
     }
@@ -127,7 +127,7 @@ impl Layer {
 /// # Errors
 ///
 /// - `NoMemory`: an allocation fails.
-pub fn add(pairs: &mut Variables, name: Text, value: Text) -> Result<(), NoMemory>
+pub fn push_if_not_empty(pairs: &mut Variables, name: Text, value: Text) -> Result<(), NoMemory>
     ensures { OnOk result (pairs.new ≡ pairs.old ++ filter has_value (name_with_value name value ∷
         [])) }
 {
@@ -152,5 +152,5 @@ fn add_custom_property(
     if !is_custom(name) {
         return Ok(());
     }
-    add(pairs, Text::from_str(alloc, name)?, value.copy()?)
+    push_if_not_empty(pairs, Text::from_str(alloc, name)?, value.copy()?)
 }

@@ -57,7 +57,7 @@ impl Meta {
 
     /// Returns the required files of the case if `need` is `File`, or its required programs if
     /// `need` is `Program`.
-    pub fn needed(&self, need: Need) -> &[Text]
+    pub fn required_objects(&self, need: Need) -> &[Text]
         ensures { result.now ≡ needed need self.now }
     {
         match need {
@@ -72,10 +72,10 @@ impl Props {
     ghost use Rattle.kt_metadata.specs.Common.{Variable, last_values, longest_timeout_seconds, texts_of, given, words_in, truth_in, size_in, user_in, timeout_in, effective, needed};
 
     /// Returns the value of the list property `name`, or an empty list if the property isn't set.
-    fn listed(&self, name: &str) -> &[Text]
+    fn list_value(&self, name: &str) -> &[Text]
         ensures { result.now ≡ words_in (given (texts_of self.now) (chars name.now)) }
     {
-        match self.value(name) {
+        match self.parsed_value(name) {
             Some(Value::Words(words)) => words.as_slice(),
             _ => &[],
         }
@@ -83,28 +83,28 @@ impl Props {
 
     /// Copies the value of the list property `name`, or creates an empty list if the property isn't
     /// set.
-    fn words(&self, name: &str) -> Result<Items<Text>, NoMemory>
+    fn copy_list(&self, name: &str) -> Result<Items<Text>, NoMemory>
         ensures { IfOk result (λ found. found
             ≡ words_in (given (texts_of self.now) (chars name.now))) }
     {
-        copy_words(self.allocator(), self.listed(name))
+        copy_words(self.allocator(), self.list_value(name))
     }
 
     /// Copies the text of the property `name`, or creates an empty text if the property isn't set.
-    fn description(&self, name: &str) -> Result<Text, NoMemory>
+    fn copy_text(&self, name: &str) -> Result<Text, NoMemory>
         ensures { IfOk result (λ text. text ≡ unwrap_or (texts_of self.now (chars name.now)) []) }
     {
-        match self.find(name) {
+        match self.find_definition(name) {
             Some(given) => given.text.copy(),
             None => Ok(Text::new(self.allocator())),
         }
     }
 
     /// Returns the value of the Boolean property `name`, or `false` if the property isn't set.
-    fn truth(&self, name: &str) -> bool
+    fn truth_value(&self, name: &str) -> bool
         ensures { result ≡ truth_in (given (texts_of self.now) (chars name.now)) }
     {
-        match self.value(name) {
+        match self.parsed_value(name) {
             Some(Value::Truth(truth)) => *truth,
             _ => false,
         }
@@ -112,20 +112,20 @@ impl Props {
 
     /// Returns the size in bytes that is the value of the property `name`, or 0 if the property
     /// isn't set.
-    fn size(&self, name: &str) -> u64
+    fn size_value(&self, name: &str) -> u64
         ensures { result ≡ size_in (given (texts_of self.now) (chars name.now)) }
     {
-        match self.value(name) {
+        match self.parsed_value(name) {
             Some(Value::Size(bytes)) => *bytes,
             _ => 0,
         }
     }
 
     /// Returns the user that the property `name` requires, or `Any` if the property isn't set.
-    fn user(&self, name: &str) -> RequiredUser
+    fn user_value(&self, name: &str) -> RequiredUser
         ensures { result ≡ user_in (given (texts_of self.now) (chars name.now)) }
     {
-        match self.value(name) {
+        match self.parsed_value(name) {
             Some(Value::RequiredUser(user)) => *user,
             _ => RequiredUser::Any,
         }
@@ -136,7 +136,7 @@ impl Props {
     fn timeout(&self, name: &str) -> u32
         ensures { result ≡ timeout_in (given (texts_of self.now) (chars name.now)) }
     {
-        match self.value(name) {
+        match self.parsed_value(name) {
             Some(Value::Timeout(seconds)) => *seconds,
             _ => DEFAULT_TIMEOUT_SECONDS,
         }
@@ -146,12 +146,12 @@ impl Props {
     /// `need` is `Program`.
     ///
     /// Allocates nothing.
-    pub fn needed(&self, need: Need) -> &[Text]
+    pub fn required_objects(&self, need: Need) -> &[Text]
         ensures { result.now ≡ needed need (effective self.now) }
     {
         match need {
-            Need::File => self.listed("required_files"),
-            Need::Program => self.listed("required_programs"),
+            Need::File => self.list_value("required_files"),
+            Need::Program => self.list_value("required_programs"),
         }
     }
 
@@ -171,17 +171,17 @@ impl Props {
             × (meta.timeout ≤ longest_timeout_seconds)) }
     {
         Ok(Meta {
-            allowed_architectures: self.words("allowed_architectures")?,
-            allowed_platforms: self.words("allowed_platforms")?,
-            description: self.description("description")?,
-            has_cleanup: self.truth("has_cleanup"),
-            is_exclusive: self.truth("is_exclusive"),
-            required_configs: self.words("required_configs")?,
-            required_disk_space: self.size("required_disk_space"),
-            required_files: self.words("required_files")?,
-            required_memory: self.size("required_memory"),
-            required_programs: self.words("required_programs")?,
-            required_user: self.user("required_user"),
+            allowed_architectures: self.copy_list("allowed_architectures")?,
+            allowed_platforms: self.copy_list("allowed_platforms")?,
+            description: self.copy_text("description")?,
+            has_cleanup: self.truth_value("has_cleanup"),
+            is_exclusive: self.truth_value("is_exclusive"),
+            required_configs: self.copy_list("required_configs")?,
+            required_disk_space: self.size_value("required_disk_space"),
+            required_files: self.copy_list("required_files")?,
+            required_memory: self.size_value("required_memory"),
+            required_programs: self.copy_list("required_programs")?,
+            required_user: self.user_value("required_user"),
             timeout: self.timeout("timeout"),
         })
     }

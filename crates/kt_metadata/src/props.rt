@@ -2,7 +2,7 @@ ghost use Rattle.std.specs.Prelude.{◌≡◌, [], ◌∷◌, ◌++◌, chars, L
 ghost use Rattle.kt_metadata.specs.Common.{option_copied, option_map, Variable, last_values, value_of, texts_of, given, program_layer, name_with_value, definition_fault, IfFault, row_in, custom_pairs, property_pairs, property_text, listing};
 
 use crate::PropFault;
-use crate::layer::{Layer, add};
+use crate::layer::{Layer, push_if_not_empty};
 use crate::shared_layer::SharedLayer;
 use crate::table::{PROPERTY_TABLE, PropertyRow, parse_property_value};
 use crate::value::{PropertyDefinition, Value};
@@ -16,7 +16,7 @@ use std::rc::Rc;
 /// In contracts, a `Props` is the list of the properties' names, each with the text to which the
 /// property was last set. The order is that in which the properties were first set.
 ///
-/// If the properties of a program come from [`Props::shared`], the properties of its cases share
+/// If the properties of a program come from [`Props::to_shared`], the properties of its cases share
 /// their memory ([`Props::overlay`]).
 pub struct Props {
     program: Option<Rc<SharedLayer>>,
@@ -77,7 +77,7 @@ impl Props {
     /// Returns the last definition of the property `name`, or `None` if the property isn't set.
     ///
     /// A definition of the case takes precedence over a definition of its program.
-    pub(crate) fn find(&self, name: &str) -> Option<&PropertyDefinition>
+    pub(crate) fn find_definition(&self, name: &str) -> Option<&PropertyDefinition>
         ensures text { option_map (λ it. it.text) (option_copied result)
             ≡ texts_of self.now (chars name.now) }
         ensures value { option_map (λ it. it.value) (option_copied result)
@@ -104,17 +104,17 @@ impl Props {
     {
         // No effect: the prover needs this use to see the fields of `self`.
         let _ = &self.own;
-        match self.find(key.as_str()) {
+        match self.find_definition(key.as_str()) {
             Some(given) => Some(&given.text),
             None => None,
         }
     }
 
     /// Returns the parsed value of the property `name`, or `None` if the property isn't set.
-    pub(crate) fn value(&self, name: &str) -> Option<&Value>
+    pub(crate) fn parsed_value(&self, name: &str) -> Option<&Value>
         ensures { option_copied result ≡ given (texts_of self.now) (chars name.now) }
     {
-        match self.find(name) {
+        match self.find_definition(name) {
             Some(given) => Some(&given.value),
             None => None,
         }
@@ -142,7 +142,7 @@ impl Props {
         let value = parse_property_value(alloc, key, text)?;
         let text = text.copy()?;
         self.own
-            .put(key.as_str(), PropertyDefinition { text, value })?;
+            .put_definition(key.as_str(), PropertyDefinition { text, value })?;
         Ok(())
     }
 
@@ -151,10 +151,10 @@ impl Props {
         ensures { OnOk result (layer.new ≡ last_values (layer.old ++ self.now)) }
     {
         match &self.program {
-            None => layer.put_all(&self.own),
+            None => layer.put_definitions(&self.own),
             Some(program) => {
-                layer.put_all(program.layer())?;
-                layer.put_all(&self.own)
+                layer.put_definitions(program.layer())?;
+                layer.put_definitions(&self.own)
             }
         }
     }
@@ -200,7 +200,7 @@ impl Props {
     /// # Errors
     ///
     /// - `NoMemory`: an allocation fails.
-    pub fn shared(&self) -> Result<Props, NoMemory>
+    pub fn to_shared(&self) -> Result<Props, NoMemory>
         ensures { IfOk result (λ props. props ≡ self.now) }
     {
         let alloc = self.allocator();
@@ -225,7 +225,7 @@ impl Props {
         ensures value { IfOk result (λ props. props ≡ last_values (program.now ++ case.now)) }
     {
         let mut own = Layer::new(program.allocator());
-        own.put_all(&program.own)?;
+        own.put_definitions(&program.own)?;
         case.copy_into(&mut own)?;
         Ok(Props {
             program: program_layer(&program.program)?,
@@ -244,7 +244,7 @@ impl Props {
         ensures { IfOk result (λ text. text ≡ property_text (texts_of self.now) (row_in row.now)) }
     {
         let alloc = self.allocator();
-        match self.find(row.0) {
+        match self.find_definition(row.0) {
             Some(given) => given.value.listing_text(alloc, given.text.as_str()),
             None => row.2.default_value(alloc).listing_text(alloc, ""),
         }
@@ -264,7 +264,7 @@ impl Props {
     {
         for row in rows {
             let name = Text::from_str(self.allocator(), row.0)?;
-            add(pairs, name, self.listing_text(row)?)?;
+            push_if_not_empty(pairs, name, self.listing_text(row)?)?;
         }
         Ok(())
     }
@@ -297,7 +297,7 @@ impl Props {
     /// follow in the order of their first definitions. The elements of a list are joined by one
     /// space, and numbers are decimal. A property with an empty text is omitted.
     ///
-    /// If these properties are an overlay that adds no property to a result of [`Props::shared`],
+    /// If these properties are an overlay that adds no property to a result of [`Props::to_shared`],
     /// the listings of both share their memory.
     ///
     /// # Errors

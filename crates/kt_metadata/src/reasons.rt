@@ -33,15 +33,15 @@ fn first_missing_object<'a>(need: Need, meta: &'a Meta, host: &Host) -> Option<&
     ensures { option_copied result
         ≡ find (λ word. not (is_found need host.now word)) (needed need meta.now) }
 {
-    let words = meta.needed(need);
-    words.iter().find(|word| !host.has(need, *word))
+    let words = meta.required_objects(need);
+    words.iter().find(|word| !host.has_object(need, *word))
 }
 
 /// Returns `true` if the list `words` contains the element `word`.
 fn contains_element(words: &[Text], word: &str) -> bool
     ensures { result ≡ list_any (λ w. bytes_eq w (chars word.now)) words.now }
 {
-    words.iter().any(|listed| listed.is_word(word))
+    words.iter().any(|listed| listed.is_equal_to(word))
 }
 
 /// Returns `true` if the list `words` of allowed values is empty or contains `word`.

@@ -46,7 +46,7 @@ fn row_with_name<'a>(name: &Text, rows: &'a [PropertyRow]) -> Option<&'a Propert
         ≡ find (has_name name.now) (map row_in rows.now) }
 {
     for row in rows {
-        if name.is_word(row.0) {
+        if name.is_equal_to(row.0) {
             return Some(row);
         }
     }
@@ -61,7 +61,7 @@ pub fn row_with_key<'a>(key: &Text, rows: &'a [PropertyRow]) -> Option<&'a Prope
         ≡ find (has_key key.now) (map row_in rows.now) }
 {
     for row in rows {
-        if key.is_word(row.1) {
+        if key.is_equal_to(row.1) {
             return Some(row);
         }
     }
@@ -87,7 +87,7 @@ fn form_of_property(name: &Text) -> Option<Form>
 pub fn is_kyuafile_property(name: &Text) -> bool
     ensures { result ≡ is_kyuafile_property name.now }
 {
-    !name.is_word("has_cleanup") && form_of_property(name).is_some()
+    !name.is_equal_to("has_cleanup") && form_of_property(name).is_some()
 }
 
 /// Parses `text` as a value of the property `name`.
@@ -103,7 +103,7 @@ pub fn parse_property_value(alloc: Global, name: &Text, text: &Text) -> Result<V
 {
     match form_of_property(name) {
         None => Err(PropFault::UnknownProperty),
-        Some(form) => match form.read(alloc, text)? {
+        Some(form) => match form.parse_value(alloc, text)? {
             None => Err(PropFault::BadValue),
             Some(value) => Ok(value),
         },

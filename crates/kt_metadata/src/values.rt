@@ -1,10 +1,10 @@
 ghost use Rattle.std.specs.Prelude.{◌≡◌, ◌∷◌, [], ◌++◌, List, ℕ, IfOk, OnOk};
-ghost use Rattle.kt_metadata.specs.Common.{list_any, truth_of, user_of, number_of, unit_of, factor_of, checked_product, timeout_of_number, is_not_absolute, is_not_program_name, is_space, with_element, words, words_from, AreWords};
+ghost use Rattle.kt_metadata.specs.Common.{list_any, truth_of, user_of, number_of, unit_of, factor_of, checked_product, timeout_of_number, is_not_absolute, is_relative_with_slash, is_space, with_element, words, words_from, AreWords};
 ghost use Rattle.kt_metadata.specs.Values.{size_in, timeout_in};
 
 use crate::RequiredUser;
 use kt_base::{
-    Items, NoMemory, Text, digits_length, has_slash, is_absolute, named, parse_decimal_up_to,
+    Items, NoMemory, Text, digits_length, has_slash, is_absolute, value_of_keyword, parse_decimal_up_to,
 };
 use std::alloc::Global;
 
@@ -54,7 +54,7 @@ fn process_char(
 /// # Errors
 ///
 /// - `NoMemory`: an allocation fails.
-pub fn words(alloc: Global, text: &Text) -> Result<Items<Text>, NoMemory>
+pub fn split_elements(alloc: Global, text: &Text) -> Result<Items<Text>, NoMemory>
     ensures { IfOk result (λ found. found ≡ words text.now) }
 {
     let mut found = Items::new(alloc);
@@ -87,10 +87,10 @@ const TRUTH_VALUES: [(&str, bool); 4] = [
 ///
 /// Returns `None` for another text.
 #[tactic(auto, unfolding(crate::proofs::Common::chars))]
-pub fn truth(text: &Text) -> Option<bool>
+pub fn parse_truth(text: &Text) -> Option<bool>
     ensures { result ≡ truth_of text.now }
 {
-    named(text, &TRUTH_VALUES)
+    value_of_keyword(text, &TRUTH_VALUES)
 }
 
 /// The required users, each with its text in a Kyuafile or a list of ATF cases (kyuafile(5)).
@@ -104,10 +104,10 @@ const REQUIRED_USERS: [(&str, RequiredUser); 3] = [
 ///
 /// Returns `None` for another text.
 #[tactic(auto, unfolding(crate::proofs::Common::chars))]
-pub fn user(text: &Text) -> Option<RequiredUser>
+pub fn parse_user(text: &Text) -> Option<RequiredUser>
     ensures { result ≡ user_of text.now }
 {
-    named(text, &REQUIRED_USERS)
+    value_of_keyword(text, &REQUIRED_USERS)
 }
 
 /// The longest timeout of a test case, in seconds.
@@ -116,7 +116,7 @@ const LONGEST_TIMEOUT_SECONDS: u32 = 1_000_000;
 /// Parses `digits` as a decimal number.
 ///
 /// Returns `None` if `digits` is empty or the number isn't below 2^64.
-fn number(digits: &[u8]) -> Option<u64>
+fn parse_decimal(digits: &[u8]) -> Option<u64>
     ensures { result ≡ number_of digits.now }
 {
     if digits.is_empty() {
@@ -144,7 +144,7 @@ fn unit_bytes(c: u8) -> Option<u64>
 /// Returns the number of bytes that the unit `rest` of a size represents, or 1 if `rest` is empty.
 ///
 /// `rest` are the bytes of the size after its digits. Returns `None` if `rest` isn't a unit.
-fn factor(rest: &[u8]) -> Option<u64>
+fn unit_factor(rest: &[u8]) -> Option<u64>
     ensures { result ≡ factor_of rest.now }
 {
     match rest {
@@ -167,11 +167,11 @@ fn checked_product(number: Option<u64>, factor: Option<u64>) -> Option<u64>
 ///
 /// A unit may be a lower-case letter. Returns `None` for another text, or if the size isn't below
 /// 2^64.
-pub fn size(text: &[u8]) -> Option<u64>
+pub fn parse_size(text: &[u8]) -> Option<u64>
     ensures { result ≡ size_in text.now }
 {
     let length = digits_length(text);
-    checked_product(number(&text[..length]), factor(&text[length..]))
+    checked_product(parse_decimal(&text[..length]), unit_factor(&text[length..]))
 }
 
 /// Converts `number` to a timeout in seconds, or returns `None` if it isn't a timeout.
@@ -198,11 +198,11 @@ fn timeout_of_number(number: Option<u64>, rest: &[u8]) -> Option<u32>
 /// Parses `text` as a timeout in seconds, 0 to 1,000,000.
 ///
 /// The number 0 represents the longest timeout, 1,000,000 seconds. Returns `None` for another text.
-pub fn timeout(text: &[u8]) -> Option<u32>
+pub fn parse_timeout(text: &[u8]) -> Option<u32>
     ensures { result ≡ timeout_in text.now }
 {
     let length = digits_length(text);
-    timeout_of_number(number(&text[..length]), &text[length..])
+    timeout_of_number(parse_decimal(&text[..length]), &text[length..])
 }
 
 /// Returns `true` if `word` isn't an absolute path.
@@ -213,8 +213,8 @@ fn is_not_absolute(word: &Text) -> bool
 }
 
 /// Returns `true` if `word` is a relative path that contains a slash.
-fn is_not_program_name(word: &Text) -> bool
-    ensures { result ≡ is_not_program_name word.now }
+fn is_relative_with_slash(word: &Text) -> bool
+    ensures { result ≡ is_relative_with_slash word.now }
 {
     !is_absolute(word.as_str()) && has_slash(word.as_str())
 }
@@ -232,7 +232,7 @@ pub fn has_invalid_file(words: &[Text]) -> bool
 ///
 /// Such an element can't name a required program.
 pub fn has_invalid_program(words: &[Text]) -> bool
-    ensures { result ≡ list_any is_not_program_name words.now }
+    ensures { result ≡ list_any is_relative_with_slash words.now }
 {
-    words.iter().any(|word| is_not_program_name(word))
+    words.iter().any(|word| is_relative_with_slash(word))
 }

@@ -2,7 +2,7 @@
 use Rattle.std.proofs.Common.{arith, Option, Some, None, Result, Ok, Err, IsErrAnd, find, option_map, option_and_then, slice_get, ◌≡◌, ℕ, suc, ◌<◌, true, false, List, [], ◌∷◌, length, get_or, take, refl, sym, ap, ◌∙◌, subst, ◌⊎◌, inr}
 use Rattle.kt_plan.proofs.Common.{FilterRule, err_from_is_err_and, Filter, FilterFault, FindsOverlap, apart, position_in, shared, Filters, clash, results_of_each, filters_of, cons_result, is_case_missing, right, unnamed, unparsed, IsNoMemoryError, SelectionError}
 use Rattle.std.proofs.lemmas.Option.{slice_get_read, slice_get_within}
-use Rattle.kt_suite.specs.Disjoint.{IsDisjoint, IsFirstFault, do_overlap}
+use Rattle.kt_suite.specs.Disjoint.{IsDisjoint, IsFirstFault, overlaps}
 use Rattle.kt_suite.specs.Disjoint as of
 use Rattle.kt_plan.specs.declared.selection_error.SelectionError.TheVariants as stop
 
@@ -28,11 +28,11 @@ position_found position filter (Some earlier) fault e = let same : of.clash posi
 
 -- An error that is found at a position names that position, which is a position of the list.
 fault_found : (filters : List Filter) (position : ℕ) (o : Option Filter) (fault : FilterFault) → slice_get filters position ≡ o
-    → option_and_then (λ (filter : Filter). option_map (of.clash position filter) (find (do_overlap filter) (take position filters))) o ≡ Some fault
+    → option_and_then (λ (filter : Filter). option_map (of.clash position filter) (find (overlaps filter) (take position filters))) o ≡ Some fault
     → (position_in fault ≡ position) × (position < length filters)
 fault_found filters position None fault g e = absurd (cc)
 fault_found filters position (Some filter) fault g e =
-    (position_found position filter (find (do_overlap filter) (take position filters)) fault e, slice_get_within filters position filter g)
+    (position_found position filter (find (overlaps filter) (take position filters)) fault e, slice_get_within filters position filter g)
 
 -- An error of several filters names the position of one of them.
 pub is_within : (filters : List Filter) (fault : FilterFault) → IsFirstFault filters fault → position_in fault < length filters

@@ -14,7 +14,7 @@ const STEP_MICROS: u64 = 100;
 ///
 /// In a step, the removal reads some names of a directory and removes the entries with these names.
 #[derive(Clone, Copy)]
-pub(crate) struct Bound {
+pub(crate) struct RemovalLimit {
     /// The start time of the removal, or `None` if the clock failed.
     started: Option<Instant>,
     /// The time limit, in microseconds. It is also the maximum number of iterations of each loop of
@@ -61,14 +61,14 @@ fn min_root_steps(waiting: u32) -> u64
     20_000 + 50 * u64::from(waiting)
 }
 
-impl Bound {
+impl RemovalLimit {
     /// Creates a time limit of `micros` microseconds from now.
-    pub(crate) fn from_now<C: Clock>(clock: &C, micros: u64) -> Bound
+    pub(crate) fn from_now<C: Clock>(clock: &C, micros: u64) -> RemovalLimit
         ensures micros { result.micros ≡ micros }
         ensures least { result.least ≡ 0 }
         ensures steps { result.steps ≡ 0 }
     {
-        Bound {
+        RemovalLimit {
             started: Instant::now(clock).ok(),
             micros,
             least: 0,
@@ -77,23 +77,23 @@ impl Bound {
     }
 
     /// Creates the time limit for the removal of a case's directory: 5 milliseconds from now.
-    pub(crate) fn case_limit<C: Clock>(clock: &C) -> Bound
+    pub(crate) fn case_limit<C: Clock>(clock: &C) -> RemovalLimit
         ensures micros { result.micros ≡ case_limit }
         ensures least { result.least ≡ 0 }
     {
-        Bound::from_now(clock, CASE_LIMIT_MICROS)
+        RemovalLimit::from_now(clock, CASE_LIMIT_MICROS)
     }
 
     /// Creates the time limit for the removal of the root directory of all attempts.
     ///
     /// `waiting` is the number of directories in the removal queue, each of which extends the
     /// limit.
-    pub(crate) fn for_root<C: Clock>(clock: &C, waiting: u32) -> Bound
+    pub(crate) fn root_limit<C: Clock>(clock: &C, waiting: u32) -> RemovalLimit
         ensures micros { result.micros ≡ closing_limit waiting }
         ensures least { result.least ≡ min_root_steps waiting }
         ensures steps { result.steps ≡ 0 }
     {
-        Bound {
+        RemovalLimit {
             started: Instant::now(clock).ok(),
             micros: root_limit_micros(waiting),
             least: min_root_steps(waiting),
@@ -103,15 +103,15 @@ impl Bound {
 
     /// Returns the time since the start of the removal in microseconds, or `None` if the clock
     /// failed.
-    fn taken<C: Clock>(&self, clock: &C) -> Option<u128> {
+    fn elapsed_micros<C: Clock>(&self, clock: &C) -> Option<u128> {
         let started = self.started?;
         let now = Instant::now(clock).ok()?;
         Some(now.duration_since(started).as_micros())
     }
 
     /// Returns the time since the start of the removal in microseconds, or 0 if the clock failed.
-    pub(crate) fn passed<C: Clock>(&self, clock: &C) -> u64 {
-        let taken = self.taken(clock).unwrap_or(0);
+    pub(crate) fn elapsed_micros_or_zero<C: Clock>(&self, clock: &C) -> u64 {
+        let taken = self.elapsed_micros(clock).unwrap_or(0);
         u64::try_from(taken).unwrap_or(u64::MAX)
     }
 
@@ -121,6 +121,6 @@ impl Bound {
         ensures counted { self.new.steps ≡ min (self.old.steps + 1) (2 ^ 64 - 1) }
     {
         self.steps = self.steps.saturating_add(1);
-        self.steps >= self.least && is_spent(self.micros, self.steps, self.taken(clock))
+        self.steps >= self.least && is_spent(self.micros, self.steps, self.elapsed_micros(clock))
     }
 }

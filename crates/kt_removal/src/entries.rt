@@ -36,7 +36,7 @@ pub(crate) fn is_entry_name(name: &[u8]) -> bool
 
 /// Converts the return value of a system call to a result: an error with the number `errno` if the
 /// value is not 0.
-fn answer(status: i32) -> io::Result<()> {
+fn result_of_status(status: i32) -> io::Result<()> {
     if status == 0 {
         Ok(())
     } else {
@@ -53,7 +53,7 @@ impl Removals {
     {
         match str::from_utf8(path) {
             Ok(text) => fs::remove_file(rt, text),
-            Err(_) => answer(os::unlink(path)),
+            Err(_) => result_of_status(os::unlink(path)),
         }
     }
 
@@ -64,7 +64,7 @@ impl Removals {
     {
         match str::from_utf8(path) {
             Ok(text) => fs::remove_dir(rt, text),
-            Err(_) => answer(os::rmdir(path)),
+            Err(_) => result_of_status(os::rmdir(path)),
         }
     }
 
@@ -85,7 +85,7 @@ impl Removals {
     {
         match str::from_utf8(path) {
             Ok(text) => fs::rename(rt, text, to.as_str()),
-            Err(_) => answer(os::rename(path, to.as_bytes())),
+            Err(_) => result_of_status(os::rename(path, to.as_bytes())),
         }
     }
 

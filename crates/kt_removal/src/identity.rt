@@ -21,7 +21,7 @@ impl DirIdentity {
     ///
     /// - `NotADirectory`: `path` is a symbolic link or a file of another type.
     /// - Any other error: the status of `path` can't be read.
-    pub fn of<R: Files>(rt: &R, path: &str) -> io::Result<DirIdentity> {
+    pub fn from_path<R: Files>(rt: &R, path: &str) -> io::Result<DirIdentity> {
         let found = fs::symlink_metadata(rt, path)?;
         if !found.is_dir() {
             return Err(io::Error::from(ErrorKind::NotADirectory));
@@ -42,7 +42,7 @@ impl DirIdentity {
     /// Returns `true` if the directory at `path` has this identity. Returns `false` for a symbolic
     /// link to the directory, and if the status of `path` can't be read.
     pub(crate) fn is_at<R: Files>(self, rt: &R, path: &str) -> bool {
-        match DirIdentity::of(rt, path) {
+        match DirIdentity::from_path(rt, path) {
             Ok(found) => self.is_same(found),
             Err(_) => false,
         }

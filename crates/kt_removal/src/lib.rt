@@ -5,11 +5,11 @@ mod bounds;
 mod cases;
 mod entries;
 mod identity;
-mod named;
+mod known_files;
 mod numbers;
 mod removals;
 mod state;
 
 pub use numbers::numbered_path;
-pub use removals::rest;
+pub use removals::empty_queue_or_sleep;
 pub use state::Removals;

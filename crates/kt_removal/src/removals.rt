@@ -2,7 +2,7 @@ ghost use Rattle.std.specs.Prelude.{◌≡◌, ◌≤◌, ◌++◌, ◌∷◌, [
 ghost use Rattle.std.specs.List.{list_any};
 ghost use Rattle.kt_removal.specs.Common.{IsCaseDirectory, IsRemovable, HasNextDirectory, MayEmpty, MayRemove, KeepsQueue, closing_limit, is_entry_name, queued_dir, min_root_steps, waiting};
 
-use crate::bounds::Bound;
+use crate::bounds::RemovalLimit;
 use crate::cases::is_case_directory;
 use crate::identity::DirIdentity;
 use crate::state::Removals;
@@ -48,12 +48,12 @@ impl Removals {
     ///
     /// - `NotADirectory`: `root` or `place` is not a directory.
     /// - Any other error: the status of `root` or `place` can't be read.
-    pub fn begin<R: Files + AllocGlobal>(rt: &R, root: Text, place: Text) -> io::Result<Removals>
+    pub fn new<R: Files + AllocGlobal>(rt: &R, root: Text, place: Text) -> io::Result<Removals>
         ensures root { IfOk result (λ removals. removals.root ≡ root) }
         ensures place { IfOk result (λ removals. removals.place ≡ place) }
     {
-        let root_identity = DirIdentity::of(rt, root.as_str())?;
-        let queue_identity = DirIdentity::of(rt, place.as_str())?;
+        let root_identity = DirIdentity::from_path(rt, root.as_str())?;
+        let queue_identity = DirIdentity::from_path(rt, place.as_str())?;
         let gaps = Vec::new(rt.alloc());
         Ok(Removals {
             root,
@@ -92,7 +92,7 @@ impl Removals {
 
     /// Returns the number of directories in the queue, at most 2^32 - 1. A number that was skipped
     /// after a failed move counts, too.
-    fn waiting(&self) -> u32
+    fn queue_length(&self) -> u32
         ensures { result ≡ waiting self.now.moved self.now.done }
     {
         u32::try_from(self.moved.saturating_sub(self.done)).unwrap_or(u32::MAX)
@@ -107,7 +107,7 @@ impl Removals {
     }
 
     /// Returns the path of the queued directory that is emptied next.
-    fn path(&self, alloc: Global) -> Result<Text, NoMemory>
+    fn next_dir_path(&self, alloc: Global) -> Result<Text, NoMemory>
         ensures { IfOk result (λ path. path ≡ queued_dir self.now.place self.now.done) }
     {
         queued_path(alloc, &self.place, self.done)
@@ -138,7 +138,7 @@ impl Removals {
     /// Moves the directory `path` into the queue, with the next number. Returns `true` on success.
     ///
     /// If the move fails, the number is skipped, unless an allocation fails.
-    fn take<R: Files + AllocGlobal>(&mut self, rt: &R, path: &[u8]) -> bool
+    fn enqueue<R: Files + AllocGlobal>(&mut self, rt: &R, path: &[u8]) -> bool
         requires { MayRemove self.old path.now }
         ensures stays { KeepsQueue self.old self.new }
         ensures unmoved { result ≡ false → (self.new.moved ≡ self.old.moved)
@@ -167,7 +167,7 @@ impl Removals {
             Ok(()) => self.progress = true,
             Err(error) => {
                 let full = error.kind() == ErrorKind::DirectoryNotEmpty;
-                if full && self.set_owner_mode(path) && self.take(rt, path) {
+                if full && self.set_owner_mode(path) && self.enqueue(rt, path) {
                     self.progress = true;
                 }
             }
@@ -243,7 +243,7 @@ impl Removals {
     ///
     /// If the directory still has entries, it is moved to the end of the queue. It is left if no
     /// entry of it could be removed or moved, or if its own move fails.
-    fn finish<R: Files + AllocGlobal>(&mut self, rt: &R, path: &Text)
+    fn remove_emptied_dir<R: Files + AllocGlobal>(&mut self, rt: &R, path: &Text)
         requires moved { HasNextDirectory self.old }
         requires path { path.now ≡ queued_dir self.old.place self.old.done }
         ensures root { self.new.root ≡ self.old.root }
@@ -252,7 +252,7 @@ impl Removals {
         ensures done { self.new.done ≡ min (self.old.done + 1) (2 ^ 64 - 1) }
     {
         if !self.remove_empty_or_file(rt, path) && self.progress {
-            let _ = self.take(rt, path.as_bytes());
+            let _ = self.enqueue(rt, path.as_bytes());
         }
         self.advance_queue();
     }
@@ -276,11 +276,11 @@ impl Removals {
     ///
     /// Returns `true` if all names were read, or if the directory can't be opened or read. The
     /// entries of the first read are removed even if the time limit has passed.
-    fn empty<R: Files + Clock + AllocGlobal>(
+    fn empty_directory<R: Files + Clock + AllocGlobal>(
         &mut self,
         rt: &R,
         directory: &Text,
-        bound: &mut Bound,
+        bound: &mut RemovalLimit,
     ) -> bool
         requires { MayEmpty self.old directory.now }
         ensures stays { KeepsQueue self.old self.new }
@@ -308,7 +308,7 @@ impl Removals {
         &mut self,
         rt: &R,
         path: &Text,
-        bound: &mut Bound,
+        bound: &mut RemovalLimit,
     ) -> bool
         requires moved { HasNextDirectory self.old }
         requires path { path.now ≡ queued_dir self.old.place self.old.done }
@@ -318,9 +318,9 @@ impl Removals {
             → self.new.done ≡ min (self.old.done + 1) (2 ^ 64 - 1) }
     {
         self.progress = false;
-        let ended = self.empty(rt, path, bound);
+        let ended = self.empty_directory(rt, path, bound);
         if ended {
-            self.finish(rt, path);
+            self.remove_emptied_dir(rt, path);
         } else if !self.progress {
             self.advance_queue();
         }
@@ -331,7 +331,7 @@ impl Removals {
     ///
     /// Returns `true` if another step may follow within the time limit `bound`. If the allocation
     /// of the path fails, the next step tries the directory again.
-    fn step<R: Files + Clock + AllocGlobal>(&mut self, rt: &R, bound: &mut Bound) -> bool
+    fn process_next_number<R: Files + Clock + AllocGlobal>(&mut self, rt: &R, bound: &mut RemovalLimit) -> bool
         requires { self.old.done < self.old.moved }
         ensures root { self.new.root ≡ self.old.root }
         ensures place { self.new.place ≡ self.old.place }
@@ -340,7 +340,7 @@ impl Removals {
             self.advance_queue();
             return true;
         }
-        let Ok(path) = self.path(rt.alloc()) else {
+        let Ok(path) = self.next_dir_path(rt.alloc()) else {
             return !bound.must_stop_after_step(rt);
         };
         self.empty_next_dir(rt, &path, bound)
@@ -350,7 +350,7 @@ impl Removals {
     /// removal.
     ///
     /// If the queue directory was removed or replaced, its entries are left.
-    fn empty_queue<R: Files + Clock + AllocGlobal>(&mut self, rt: &R, bound: &mut Bound)
+    fn empty_queue<R: Files + Clock + AllocGlobal>(&mut self, rt: &R, bound: &mut RemovalLimit)
         ensures root { self.new.root ≡ self.old.root }
         ensures place { self.new.place ≡ self.old.place }
     {
@@ -362,7 +362,7 @@ impl Removals {
                 self.done = self.moved;
                 return;
             }
-            if !self.step(rt, bound) {
+            if !self.process_next_number(rt, bound) {
                 return;
             }
         }
@@ -384,7 +384,7 @@ impl Removals {
         if fs::create_dir(rt, self.place.as_str()).is_err() {
             return;
         }
-        if let Ok(place) = DirIdentity::of(rt, self.place.as_str()) {
+        if let Ok(place) = DirIdentity::from_path(rt, self.place.as_str()) {
             self.queue_identity = place;
         }
     }
@@ -393,12 +393,12 @@ impl Removals {
     /// success.
     ///
     /// The time limit grows with the number of directories in the queue.
-    fn close<R: Files + Clock + AllocGlobal>(&mut self, rt: &R, root: &Text) -> bool
+    fn remove_root<R: Files + Clock + AllocGlobal>(&mut self, rt: &R, root: &Text) -> bool
         requires { root.now ≡ self.old.root }
         ensures place { self.new.place ≡ self.old.place }
     {
         self.recreate_queue_dir(rt);
-        let mut bound = Bound::for_root(rt, self.waiting());
+        let mut bound = RemovalLimit::root_limit(rt, self.queue_length());
         self.remove_root_within(rt, root, &mut bound)
     }
 
@@ -408,7 +408,7 @@ impl Removals {
         &mut self,
         rt: &R,
         root: &Text,
-        bound: &mut Bound,
+        bound: &mut RemovalLimit,
     ) -> bool
         requires root { root.now ≡ self.old.root }
         requires micros { bound.old.micros ≡ closing_limit (waiting self.old.moved self.old.done) }
@@ -416,7 +416,7 @@ impl Removals {
             self.old.done) }
         ensures place { self.new.place ≡ self.old.place }
     {
-        let _ = self.empty(rt, root, bound);
+        let _ = self.empty_directory(rt, root, bound);
         self.empty_queue(rt, bound);
         if !self.remove_if_empty(rt, &self.place) {
             self.empty_queue_dir(rt, bound);
@@ -429,7 +429,7 @@ impl Removals {
     /// The queue directory can still have directories that were skipped, for example because the
     /// allocation of an entry's path failed. A queue directory that was replaced or still has
     /// entries afterwards is left.
-    fn empty_queue_dir<R: Files + Clock + AllocGlobal>(&mut self, rt: &R, bound: &mut Bound)
+    fn empty_queue_dir<R: Files + Clock + AllocGlobal>(&mut self, rt: &R, bound: &mut RemovalLimit)
         ensures root { self.new.root ≡ self.old.root }
         ensures place { self.new.place ≡ self.old.place }
     {
@@ -437,7 +437,7 @@ impl Removals {
             return;
         };
         if self.has_queue_dir(rt) {
-            let _ = self.empty(rt, &place, bound);
+            let _ = self.empty_directory(rt, &place, bound);
             self.empty_queue(rt, bound);
             let _ = self.remove_if_empty(rt, &place);
         }
@@ -451,14 +451,14 @@ impl Removals {
         &mut self,
         rt: &R,
         tree: &Text,
-        bound: &mut Bound,
+        bound: &mut RemovalLimit,
     ) -> bool
         requires { IsCaseDirectory self.old.root tree.now }
         ensures root { self.new.root ≡ self.old.root }
         ensures place { self.new.place ≡ self.old.place }
     {
-        let _ = self.empty(rt, tree, bound);
-        self.remove_empty_or_file(rt, tree) || self.take(rt, tree.as_bytes())
+        let _ = self.empty_directory(rt, tree, bound);
+        self.remove_empty_or_file(rt, tree) || self.enqueue(rt, tree.as_bytes())
     }
 
     /// Removes `tree`, the directory of a case, or moves it into the queue. Then empties the queue.
@@ -468,7 +468,7 @@ impl Removals {
         requires { IsCaseDirectory self.old.root tree.now }
         ensures place { self.new.place ≡ self.old.place }
     {
-        let mut bound = Bound::case_limit(rt);
+        let mut bound = RemovalLimit::case_limit(rt);
         let gone = self.remove_known_files(rt, tree)
             || self.remove_or_enqueue(rt, tree, &mut bound);
         self.empty_queue(rt, &mut bound);
@@ -491,7 +491,7 @@ impl Removals {
             return false;
         }
         if tree.as_str() == self.root.as_str() {
-            return self.close(rt, tree);
+            return self.remove_root(rt, tree);
         }
         is_case_directory(&self.root, tree) && self.remove_case(rt, tree)
     }
@@ -502,7 +502,7 @@ impl Removals {
 /// The call sleeps if `removals` is `None` or the queue is empty. It returns early if all
 /// directories of the queue are emptied, and late if the system takes long to remove an entry.
 /// Returns the number of microseconds that passed, or `micros` if fewer passed or the clock failed.
-pub fn rest<R: Files + Clock + AllocGlobal>(
+pub fn empty_queue_or_sleep<R: Files + Clock + AllocGlobal>(
     removals: &mut Option<Removals>,
     rt: &R,
     micros: u64,
@@ -511,9 +511,9 @@ pub fn rest<R: Files + Clock + AllocGlobal>(
 {
     if let Some(removals) = removals {
         if removals.is_pending() {
-            let mut bound = Bound::from_now(rt, micros);
+            let mut bound = RemovalLimit::from_now(rt, micros);
             removals.empty_queue(rt, &mut bound);
-            return bound.passed(rt).max(micros);
+            return bound.elapsed_micros_or_zero(rt).max(micros);
         }
     }
     thread::sleep(rt, Duration::from_micros(micros));

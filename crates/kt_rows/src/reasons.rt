@@ -1,5 +1,5 @@
 use crate::printing::{create_writer, push_printed_text};
-use kt_base::{Bytes, NoMemory, Reason, Text, Verdict, emit_number, emit_u128, lossy, send};
+use kt_base::{Bytes, NoMemory, Reason, Text, Verdict, emit_number, emit_u128, lossy, write_until_failure};
 use kt_examples::{
     Example, ExampleFault, ExampleLine, ExampleOutput, Result, ScriptedWriter, WriteFault,
     parse_kind, push_reason, unescape,
@@ -46,7 +46,7 @@ fn push_send_output(out: &mut ExampleOutput, example: &Example<'_>, bytes: &[u8]
     let at_most = example.number("taking", 1)? as usize;
     let failing = example.number("failing", 0)?;
     let mut page = create_writer(out.alloc, at_most, failing, WriteFault::Broken);
-    let (count, failed) = send(bytes, &mut page);
+    let (count, failed) = write_until_failure(bytes, &mut page);
     page.written_bytes()?;
     let end = if failed { "failed" } else { "done" };
     write!(out, "{count} in {} writes, {end}", page.writes);

@@ -34,7 +34,7 @@ impl HostFiles for ScriptedFiles<'_> {
     // The script decides each result, so the relation is trivial.
     ghost answers = { λ _ _ _. Unit {0} };
 
-    fn front(&mut self, path: &str) -> Result<Bytes, FileFault> {
+    fn read_start(&mut self, path: &str) -> Result<Bytes, FileFault> {
         if self.scene.has_path("dear", path) {
             if let Err(refusal) = fail_allocation(self.scene.alloc) {
                 return Err(FileFault::Memory(refusal));

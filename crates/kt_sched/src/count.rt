@@ -5,7 +5,7 @@ use crate::Totals;
 use kt_base::Kind;
 
 /// Returns `totals` with one more entry, whose verdict is of the kind `kind`.
-pub fn counted(totals: Totals, kind: Kind) -> Totals
+pub fn count_entry(totals: Totals, kind: Kind) -> Totals
     requires { CanCount totals (2 ^ 64 - 1) }
     ensures { result ≡ counted totals kind }
 {

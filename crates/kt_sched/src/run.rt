@@ -1,7 +1,7 @@
 ghost use Rattle.std.specs.Prelude.{◌≡◌};
 ghost use Rattle.kt_sched.specs.Common.{IsIdle, IsPlan, IsWidth, RunsPlan};
 
-use crate::count::counted;
+use crate::count::count_entry;
 use crate::{Job, Launcher, Next, RunFault, Sched, Sink, SinkFault, Totals};
 use kt_base::Items;
 use std::alloc::Global;
@@ -39,22 +39,22 @@ pub fn run_cases<L: Launcher, S: Sink>(
         match sched.next() {
             Next::Start(i, role) => {
                 let answer = launcher.start(sched.job(i), role);
-                sched.started(i, role, answer);
+                sched.record_start(i, role, answer);
             }
             Next::Wait => {
                 let ended = launcher.wait();
-                sched.ended(ended);
+                sched.record_end(ended);
             }
             Next::Put(i) => {
                 let entry = sched.take(i);
-                let more = counted(totals, entry.verdict.kind());
+                let more = count_entry(totals, entry.verdict.kind());
                 match sink.put(entry) {
                     Ok(()) => {
-                        sched.put(i, false);
+                        sched.record_put(i, false);
                         totals = more;
                     }
                     Err(cause) => {
-                        sched.put(i, true);
+                        sched.record_put(i, true);
                         fault = Some(cause);
                     }
                 }

@@ -137,7 +137,7 @@ impl Sched {
     /// Records `answer`, the response to the step that `next` returned last.
     ///
     /// The response must fit this step. The method is for callers that keep responses as values,
-    /// and has the effect of `started`, `ended` or `put`.
+    /// and has the effect of `record_start`, `record_end` or `record_put`.
     pub fn feed(&mut self, answer: Answer)
         requires { IsAnswer self.old answer }
         ensures works { ReducesWork self.old.asked (work self.old.cases) (work self.new.cases) }
@@ -148,14 +148,14 @@ impl Sched {
     {
         match (self.asked, answer) {
             (Next::Start(i, role), Answer::Started(moment)) => {
-                self.started(i, role, StartAnswer::Started(moment));
+                self.record_start(i, role, StartAnswer::Started(moment));
             }
             (Next::Start(i, role), Answer::Refused(cause)) => {
-                self.started(i, role, StartAnswer::Refused(cause));
+                self.record_start(i, role, StartAnswer::Refused(cause));
             }
-            (Next::Wait, Answer::Ended(ended)) => self.ended(ended),
-            (Next::Put(i), Answer::Stored) => self.put(i, false),
-            (Next::Put(i), Answer::StoreFailed) => self.put(i, true),
+            (Next::Wait, Answer::Ended(ended)) => self.record_end(ended),
+            (Next::Put(i), Answer::Stored) => self.record_put(i, false),
+            (Next::Put(i), Answer::StoreFailed) => self.record_put(i, true),
             _ => unreachable!(),
         }
     }
@@ -164,7 +164,7 @@ impl Sched {
     /// as `role` selects.
     ///
     /// `next` must have returned this start last.
-    pub(crate) fn started(&mut self, i: u32, role: Role, answer: StartAnswer)
+    pub(crate) fn record_start(&mut self, i: u32, role: Role, answer: StartAnswer)
         requires { self.old.asked ≡ Next.Start i role }
         ensures { RecordsEvent self.old (Start i role answer) self.new }
     {
@@ -178,7 +178,7 @@ impl Sched {
     }
 
     /// Records `ended`, the end of a running child, after `next` returned a wait.
-    pub(crate) fn ended(&mut self, ended: Ended)
+    pub(crate) fn record_end(&mut self, ended: Ended)
         requires asked { self.old.asked ≡ Next.Wait }
         requires runs { (c : Case) × (slice_get self.old.cases ended.position ≡ Some c)
             × (stage_runs ended.role c.stage ≡ true) }
@@ -295,7 +295,7 @@ impl Sched {
     ///
     /// `next` must have returned this put last. After a failed put, nothing is put and no body is
     /// started.
-    pub(crate) fn put(&mut self, i: u32, failed: bool)
+    pub(crate) fn record_put(&mut self, i: u32, failed: bool)
         requires { self.old.asked ≡ Next.Put i }
         ensures same { self.new.cases ≡ self.old.cases }
         ensures asked { self.new.asked ≡ Next.Done }

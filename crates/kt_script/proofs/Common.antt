@@ -32,7 +32,7 @@ pub use Rattle.kt_script.specs.declared.token.StringElement.{StringElement}
 pub use Rattle.kt_script.specs.declared.token.StringElement.TheVariants.{Escape, Flawed, Quote}
 pub use Rattle.kt_script.specs.declared.state.State.{State}
 pub use Rattle.kt_script.specs.declared.state.State.TheVariants.{AfterArgument, AfterDot, AfterKeyEquals, AfterKeyBracket, AfterKeyString, AfterKey, AfterName, AfterParen, AfterPair, Pairs, AfterPath, AfterPathEquals, AfterPathBracket, AfterPathString}
-pub use Rattle.kt_script.specs.declared.state.Step.{Step}
-pub use Rattle.kt_script.specs.declared.state.Step.TheVariants.{Advance}
-pub use Rattle.kt_script.specs.declared.state.Step.TheVariants.{Accept}
+pub use Rattle.kt_script.specs.declared.state.Transition.{Transition}
+pub use Rattle.kt_script.specs.declared.state.Transition.TheVariants.{Advance}
+pub use Rattle.kt_script.specs.declared.state.Transition.TheVariants.{Accept}
 pub use Rattle.kt_script.specs.declared.state.Table.{Table}

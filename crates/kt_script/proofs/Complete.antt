@@ -1,13 +1,13 @@
 -- The parser accepts each script and returns its statements.
 use Rattle.std.proofs.Common.{arith, ◌≡◌, ℕ, true, false, List, [], ◌∷◌, ◌++◌, Option, Some, None, refl, ap, sym, ◌∙◌, append_assoc, option_map, option_and_then}
-use Rattle.kt_script.proofs.Common.{append-nil, Token, TokenKind, Name, Quoted, OpenParen, CloseParen, OpenBrace, CloseBrace, Equals, Semicolon, ScriptState, Start, AfterStatement, InStatement, Pair, Stmt, Literal, Action, Call, Assign, Table, AfterName, Pairs, AfterPair, AfterPath, Step, Advance, Accept, literal_kind, pair, IsKey, by_name, by_text, IsSeparator, comma, semicolon, no_pairs, last_pair, pair_and, ArePathParts, no_parts, named_part, quoted_part, IsStatement, call, call_table, call_text, bare_table, assign, token_kinds, statement_of_tokens, Script, no_stmts, stmt_and, ended_and, literal_of, closed, with_pair, step, next, transition_of_step, option_to_list, run, IsBetweenStatements}
+use Rattle.kt_script.proofs.Common.{append-nil, Token, TokenKind, Name, Quoted, OpenParen, CloseParen, OpenBrace, CloseBrace, Equals, Semicolon, ScriptState, Start, AfterStatement, InStatement, Pair, Stmt, Literal, Action, Call, Assign, Table, AfterName, Pairs, AfterPair, AfterPath, Transition, Advance, Accept, literal_kind, pair, IsKey, by_name, by_text, IsSeparator, comma, semicolon, no_pairs, last_pair, pair_and, ArePathParts, no_parts, named_part, quoted_part, IsStatement, call, call_table, call_text, bare_table, assign, token_kinds, statement_of_tokens, Script, no_stmts, stmt_and, ended_and, literal_of, closed, with_pair, step, next, transition_of_step, option_to_list, run, IsBetweenStatements}
 use Rattle.kt_script.specs.declared.syntax.Literal.TheVariants as literal
 use Rattle.kt_script.specs.declared.syntax.Arg.TheVariants as arg
 use Rattle.kt_script.specs.Grammar as grammar
 use Rattle.std.proofs.lemmas.Option.{same_Some}
 
 -- `walk s ks`: the step to which the tokens `ks` lead from the step `s` within a statement
-abbrev pub walk : Step → List TokenKind → Option Step
+abbrev pub walk : Transition → List TokenKind → Option Transition
 walk s [] = Some s
 walk (Advance q) (k ∷ ks) = option_and_then (λ s. walk s ks) (step q k)
 walk (Accept a) (k ∷ ks) = None
@@ -105,14 +105,14 @@ joined_none (Some end) = refl
 
 -- `reached line s`: the position after the step `s` in the statement on the line `line`, and a list
 -- of that statement if the step completes it
-abbrev pub reached : ℕ → Step → ScriptState × List Stmt
+abbrev pub reached : ℕ → Transition → ScriptState × List Stmt
 reached line s = ((transition_of_step line s).0, option_to_list (transition_of_step line s).1)
 
 -- `run` over the tokens after a statement's name reaches the step that `walk` reaches
-steps_run : (ts : List Token) (line : ℕ) (s r : Step) → walk s (token_kinds ts) ≡ Some r
+steps_run : (ts : List Token) (line : ℕ) (s r : Transition) → walk s (token_kinds ts) ≡ Some r
     → option_map (joined (option_to_list (transition_of_step line s).1)) (run (transition_of_step line s).0 ts) ≡ Some (reached line r)
-steps_run [] line (Advance q) r e = ap (λ (s : Step). Some (reached line s)) (same_Some (Advance q) r e)
-steps_run [] line (Accept a) r e = ap (λ (s : Step). Some (reached line s)) (same_Some (Accept a) r e)
+steps_run [] line (Advance q) r e = ap (λ (s : Transition). Some (reached line s)) (same_Some (Advance q) r e)
+steps_run [] line (Accept a) r e = ap (λ (s : Transition). Some (reached line s)) (same_Some (Accept a) r e)
 steps_run (t ∷ ts) line (Advance q) r e =
     let b = bind_some (step q t.kind) (λ s. walk s (token_kinds ts)) r e in
     joined_none (run (InStatement line q) (t ∷ ts)) ∙ rw b.1 (steps_run ts line b.0 r b.2)
@@ -137,7 +137,7 @@ name_from_resting AfterStatement t n r e = rw e refl
 name_from_resting (InStatement line q) t n r e = elim r [ ]
 
 -- `run` over a statement's name and the tokens after it reaches the step that `walk` reaches
-pub named_runs : (t : Token) (ts : List Token) (p : ScriptState) (n : List ℕ) (s : Step) → IsBetweenStatements p → t.kind ≡ Name n
+pub named_runs : (t : Token) (ts : List Token) (p : ScriptState) (n : List ℕ) (s : Transition) → IsBetweenStatements p → t.kind ≡ Name n
     → walk (Advance (AfterName n)) (token_kinds ts) ≡ Some s
     → run p (t ∷ ts) ≡ Some (reached t.line s)
 named_runs t ts p n s r first leads = rw (name_from_resting p t n r first) (steps_run ts t.line (Advance (AfterName n)) s leads)

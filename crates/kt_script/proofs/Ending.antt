@@ -1,7 +1,7 @@
 -- Tokens that complete a statement after its name are the rest of a statement, and each state can
 -- be completed.
 use Rattle.std.proofs.Common.{◌≡◌, ℕ, Bool, true, false, List, [], ◌∷◌, ◌++◌, Some, refl, ap, append_assoc, if◌then◌else◌}
-use Rattle.kt_script.proofs.Common.{append-nil, TokenKind, Name, Quoted, Number, Truth, OpenParen, CloseParen, OpenBrace, CloseBrace, OpenBracket, CloseBracket, Equals, Comma, Semicolon, Dot, Literal, Pair, Action, Call, Assign, Table, State, AfterName, AfterParen, AfterArgument, Pairs, AfterKeyBracket, AfterKeyString, AfterKey, AfterKeyEquals, AfterPair, AfterDot, AfterPathBracket, AfterPathString, AfterPath, AfterPathEquals, Step, Advance, Accept, literal_kind, pair, IsKey, by_name, by_text, IsSeparator, comma, semicolon, no_pairs, last_pair, pair_and, ArePathParts, no_parts, named_part, quoted_part, IsStatement, call, call_table, call_text, bare_table, assign, with_pair, step}
+use Rattle.kt_script.proofs.Common.{append-nil, TokenKind, Name, Quoted, Number, Truth, OpenParen, CloseParen, OpenBrace, CloseBrace, OpenBracket, CloseBracket, Equals, Comma, Semicolon, Dot, Literal, Pair, Action, Call, Assign, Table, State, AfterName, AfterParen, AfterArgument, Pairs, AfterKeyBracket, AfterKeyString, AfterKey, AfterKeyEquals, AfterPair, AfterDot, AfterPathBracket, AfterPathString, AfterPath, AfterPathEquals, Transition, Advance, Accept, literal_kind, pair, IsKey, by_name, by_text, IsSeparator, comma, semicolon, no_pairs, last_pair, pair_and, ArePathParts, no_parts, named_part, quoted_part, IsStatement, call, call_table, call_text, bare_table, assign, with_pair, step}
 use Rattle.kt_script.specs.declared.syntax.Arg.TheVariants as arg
 use Rattle.kt_script.specs.declared.syntax.Literal.TheVariants as literal
 use Rattle.kt_script.specs.Grammar as grammar
@@ -9,8 +9,8 @@ use Rattle.kt_script.proofs.Complete.{walk, bind_some}
 use Rattle.std.proofs.lemmas.Option.{same_Some}
 
 -- `walk` over joined tokens is `walk` over the first tokens, then over the second
-pub walk-append : (xs ys : List TokenKind) (s r : Step) → walk s xs ≡ Some r → walk s (xs ++ ys) ≡ walk r ys
-walk-append [] ys s r e = ap (λ (s : Step). walk s ys) (same_Some s r e)
+pub walk-append : (xs ys : List TokenKind) (s r : Transition) → walk s xs ≡ Some r → walk s (xs ++ ys) ≡ walk r ys
+walk-append [] ys s r e = ap (λ (s : Transition). walk s ys) (same_Some s r e)
 walk-append (k ∷ xs) ys (Advance q) r e = let b = bind_some (step q k) (λ s. walk s xs) r e in rw b.1 (walk-append xs ys b.0 r b.2)
 walk-append (k ∷ xs) ys (Accept a) r e = absurd cc
 

@@ -1,6 +1,6 @@
 -- Tokens that are not a script have exactly one fault.
 use Rattle.std.proofs.Common.{◌≡◌, ℕ, List, [], ◌∷◌, ◌++◌, Option, Some, refl, ap, sym, ◌∙◌, subst, append_assoc, ◌⊎◌, inl, inr, option_map}
-use Rattle.kt_script.proofs.Common.{append-nil, ScriptFault, Token, TokenKind, ScriptState, Start, InStatement, Stmt, Action, State, AfterName, Step, Advance, Accept, IsStatement, token_kinds, first_token_line, statement_of_tokens, Script, IsScriptPrefix, fault_of, last, open_bracket_lines, end_fault, HasUnexpectedToken, HasUnfinishedStatement, IsFaultOf, step, run, IsBetweenStatements}
+use Rattle.kt_script.proofs.Common.{append-nil, ScriptFault, Token, TokenKind, ScriptState, Start, InStatement, Stmt, Action, State, AfterName, Transition, Advance, Accept, IsStatement, token_kinds, first_token_line, statement_of_tokens, Script, IsScriptPrefix, fault_of, last, open_bracket_lines, end_fault, HasUnexpectedToken, HasUnfinishedStatement, IsFaultOf, step, run, IsBetweenStatements}
 use Rattle.kt_script.proofs.Complete.{walk, bind_some, joined, run-append, named_runs, statement_walks, script_runs}
 use Rattle.kt_script.proofs.Standing.{Script-append, one_stmt, begins_from, token_kinds-append}
 
@@ -43,11 +43,11 @@ misfit_unfinished ts f g m u = no_further ts f m m.rest (subst IsScriptPrefix m.
 
 -- ---- the end within a statement
 
-stepped : (q : State) (k : TokenKind) (ks : List TokenKind) (s to : Step) → step q k ≡ Some s → walk s ks ≡ Some to → walk (Advance q) (k ∷ ks) ≡ Some to
+stepped : (q : State) (k : TokenKind) (ks : List TokenKind) (s to : Transition) → step q k ≡ Some s → walk s ks ≡ Some to → walk (Advance q) (k ∷ ks) ≡ Some to
 stepped q k ks s to is rest = rw is rest
 
 -- tokens that can be followed by another token lead to a state within the statement
-walk_front : (xs : List TokenKind) (k : TokenKind) (ys : List TokenKind) (s r : Step) → walk s (xs ++ k ∷ ys) ≡ Some r → (q : State) × (walk s xs ≡ Some (Advance q))
+walk_front : (xs : List TokenKind) (k : TokenKind) (ys : List TokenKind) (s r : Transition) → walk s (xs ++ k ∷ ys) ≡ Some r → (q : State) × (walk s xs ≡ Some (Advance q))
 walk_front [] k ys (Advance q) r e = (q, refl)
 walk_front (x ∷ xs) k ys (Advance q) r e =
     let b = bind_some (step q x) (λ s. walk s (xs ++ k ∷ ys)) r e in

@@ -1,6 +1,6 @@
 -- The meaning of a parser's position: a script is complete, or a statement has begun.
 use Rattle.std.proofs.Common.{◌≡◌, ℕ, List, [], ◌∷◌, ◌++◌, Option, Some, None, refl, ap, sym, ◌∙◌, subst, append_assoc, ◌⊎◌, inl, inr, option_map}
-use Rattle.kt_script.proofs.Common.{append-nil, Token, TokenKind, Name, Semicolon, ScriptState, Start, AfterStatement, InStatement, Stmt, Action, State, AfterName, Step, Advance, Accept, IsStatement, token_kinds, statement_of_tokens, Script, no_stmts, stmt_and, ended_and, IsScriptPrefix, step, begin_statement, transition_after_statement, next, transition_of_step, option_to_list, run}
+use Rattle.kt_script.proofs.Common.{append-nil, Token, TokenKind, Name, Semicolon, ScriptState, Start, AfterStatement, InStatement, Stmt, Action, State, AfterName, Transition, Advance, Accept, IsStatement, token_kinds, statement_of_tokens, Script, no_stmts, stmt_and, ended_and, IsScriptPrefix, step, begin_statement, transition_after_statement, next, transition_of_step, option_to_list, run}
 use Rattle.kt_script.proofs.Complete.{walk, bind_some, map_some, joined}
 use Rattle.kt_script.proofs.Ending.{walk-append, statement_is, some_end}
 use Rattle.std.proofs.lemmas.List.{map-append}
@@ -25,7 +25,7 @@ token_kinds-append xs ys = map-append (λ (t : Token). t.kind) xs ys
 
 -- `Begun to done ts`: the tokens `ts` are a script of the statements `done`, a name, and tokens
 -- that lead from that name to the step `to`
-pub record Begun (to : Step) (done : List Stmt) (ts : List Token) : Type 0 where
+pub record Begun (to : Transition) (done : List Stmt) (ts : List Token) : Type 0 where
   pub before : List Token
   pub first : Token
   pub others : List Token
@@ -81,7 +81,7 @@ go_on_is line Semicolon to e = inr (refl, sym (same_Some (Start, None) to e))
 go_on_is line _ to e = absurd cc
 
 -- `Begun` is preserved by a token that the grammar allows
-goes_on : (q : State) (to : Step) (done : List Stmt) (ts : List Token) (t : Token) (b : Begun (Advance q) done ts) → step q t.kind ≡ Some to
+goes_on : (q : State) (to : Transition) (done : List Stmt) (ts : List Token) (t : Token) (b : Begun (Advance q) done ts) → step q t.kind ≡ Some to
     → (c : Begun to done (ts ++ t ∷ [])) × (c.first.line ≡ b.first.line)
 goes_on q to done ts t b e =
     let one : walk (Advance q) (t.kind ∷ []) ≡ Some to = rw e refl in (
@@ -98,7 +98,7 @@ goes_on q to done ts t b e =
       refl,
     )
 
-lands : (to : Step) (line : ℕ) (q : State) (done : List Stmt) (ts : List Token) (t : Token) → Stands (InStatement line q) done ts → step q t.kind ≡ Some to
+lands : (to : Transition) (line : ℕ) (q : State) (done : List Stmt) (ts : List Token) (t : Token) → Stands (InStatement line q) done ts → step q t.kind ≡ Some to
     → Stands (transition_of_step line to).0 (done ++ option_to_list (transition_of_step line to).1) (ts ++ t ∷ [])
 lands (Advance r) line q done ts t b e = let c = goes_on q (Advance r) done ts t b.0 e in rw append-nil (c.0, c.1 ∙ b.1)
 lands (Accept a) line q done ts t b e =

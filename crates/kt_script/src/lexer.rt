@@ -5,14 +5,14 @@ ghost use Rattle.kt_script.specs.Common.{prefix_len, is_space, punctuation_kind_
 
 use crate::quotation::quoted_token;
 use crate::token::{Flaw, Lexeme, TokenKind};
-use crate::words::{is_name_start, is_space, name};
+use crate::words::{is_name_start, is_space, lex_name};
 use kt_base::{NoMemory, digits_length, is_digit, line_length, parse_decimal_up_to};
 use std::alloc::Global;
 
 /// Returns the number of bytes in `text` up to and including its first `]]`.
 ///
 /// Returns `None` if `text` does not contain `]]`.
-fn closes(text: &[u8]) -> Option<usize>
+fn long_bracket_length(text: &[u8]) -> Option<usize>
     ensures value { result ≡ long_comment_end text.now }
     ensures within { IfSome result (λ end. end ≤ length text.now) }
 {
@@ -51,18 +51,18 @@ pub fn lex_comment(text: &[u8]) -> Lexeme
     ensures { result ≡ comment_at text.now }
 {
     if text.starts_with(b"--[[") {
-        return match closes(&text[4..]) {
-            None => Lexeme::broken(text, Flaw::Unterminated),
+        return match long_bracket_length(&text[4..]) {
+            None => Lexeme::invalid(text, Flaw::Unterminated),
             Some(end) => Lexeme::blank(end + 4),
         };
     }
     if text.starts_with(b"--[") && has_bracket_level(&text[3..]) {
-        return Lexeme::broken(text, Flaw::LeveledComment);
+        return Lexeme::invalid(text, Flaw::LeveledComment);
     }
     if text.starts_with(b"--") {
         return Lexeme::blank(2 + line_length(&text[2..]));
     }
-    Lexeme::broken(text, Flaw::Bad)
+    Lexeme::invalid(text, Flaw::Bad)
 }
 
 /// Returns the number of white space bytes at the beginning of `text`.
@@ -96,16 +96,16 @@ fn punctuation_kind(c: u8) -> Option<TokenKind>
 /// Returns the token of the decimal number at the beginning of `text`.
 ///
 /// The token is invalid if the number is above 2^64 - 1, or if a letter or underscore follows it.
-fn number(text: &[u8]) -> Lexeme
+fn lex_number(text: &[u8]) -> Lexeme
     ensures { result ≡ number_at text.now }
 {
     let length = digits_length(text);
     let (digits, after) = text.split_at(length);
     if after.first().is_some_and(|c| is_name_start(*c)) {
-        return Lexeme::broken(text, Flaw::Bad);
+        return Lexeme::invalid(text, Flaw::Bad);
     }
     match parse_decimal_up_to(u64::MAX, digits) {
-        None => Lexeme::broken(text, Flaw::Bad),
+        None => Lexeme::invalid(text, Flaw::Bad),
         Some(value) => Lexeme::token(length, TokenKind::Number(value)),
     }
 }
@@ -130,10 +130,10 @@ pub fn next_lexeme(alloc: Global, text: &str) -> Result<Lexeme, NoMemory>
         return Ok(Lexeme::blank(space_length(bytes)));
     }
     if is_name_start(*c) {
-        return name(alloc, text);
+        return lex_name(alloc, text);
     }
     if is_digit(*c) {
-        return Ok(number(bytes));
+        return Ok(lex_number(bytes));
     }
     if *c == b'"' || *c == b'\'' {
         return quoted_token(alloc, *c, text);
@@ -142,7 +142,7 @@ pub fn next_lexeme(alloc: Global, text: &str) -> Result<Lexeme, NoMemory>
         return Ok(lex_comment(bytes));
     }
     Ok(match punctuation_kind(*c) {
-        None => Lexeme::broken(bytes, Flaw::Bad),
+        None => Lexeme::invalid(bytes, Flaw::Bad),
         Some(kind) => Lexeme::token(1, kind),
     })
 }

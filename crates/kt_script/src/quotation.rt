@@ -10,7 +10,7 @@ use std::alloc::Global;
 /// Returns the character that a backslash and the byte `c` represent in a string.
 ///
 /// Returns `None` if they are not an escape of this profile.
-fn escape(c: u8) -> Option<char>
+fn decode_escape(c: u8) -> Option<char>
     ensures { result ≡ escape_of c }
 {
     match c {
@@ -48,7 +48,7 @@ fn string_element(quote: u8, text: &[u8]) -> StringElement
     if *c != b'\\' {
         return StringElement::Flawed(Flaw::Unterminated);
     }
-    match after.first().and_then(|c| escape(*c)) {
+    match after.first().and_then(|c| decode_escape(*c)) {
         None => StringElement::Flawed(Flaw::Bad),
         Some(c) => StringElement::Escape(c),
     }
@@ -58,7 +58,7 @@ fn string_element(quote: u8, text: &[u8]) -> StringElement
 ///
 /// Returns the characters of the string, and the number of bytes in `text` up to and including the
 /// closing quote. Returns the flaw if the string is not closed or has an unknown escape.
-fn string(alloc: Global, quote: u8, text: &str) -> Result<Result<(Text, usize), Flaw>, NoMemory>
+fn decode_string(alloc: Global, quote: u8, text: &str) -> Result<Result<(Text, usize), Flaw>, NoMemory>
     requires { quote < 128 }
     ensures value { IfOk result (λ read. read ≡ decoded_string (string_at quote false text.now)) }
     ensures within { IfOk result (λ read. IfOk read (λ x. x.1 ≤ length text.now)) }
@@ -91,8 +91,8 @@ pub fn quoted_token(alloc: Global, quote: u8, text: &str) -> Result<Lexeme, NoMe
     requires small { quote < 128 }
     ensures { IfOk result (λ piece. piece ≡ quoted_at quote text.now) }
 {
-    Ok(match string(alloc, quote, &text[1..])? {
+    Ok(match decode_string(alloc, quote, &text[1..])? {
         Ok((string, length)) => Lexeme::token(length + 1, TokenKind::Quoted(string)),
-        Err(flaw) => Lexeme::broken(text.as_bytes(), flaw),
+        Err(flaw) => Lexeme::invalid(text.as_bytes(), flaw),
     })
 }

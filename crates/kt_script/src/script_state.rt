@@ -4,7 +4,7 @@ ghost use Rattle.std.specs.Prelude.{◌≡◌, ◌++◌, IfOk, OnOk};
 ghost use Rattle.kt_script.specs.Inner.Automaton.{begin_statement, next, position_after, completed_statements};
 
 use crate::Stmt;
-use crate::state::{State, Step};
+use crate::state::{State, Transition};
 use crate::token::{Token, TokenKind};
 use kt_base::{Items, NoMemory};
 use std::alloc::Global;
@@ -70,10 +70,10 @@ impl ScriptState {
             ScriptState::Start | ScriptState::AfterStatement => Ok(begin_statement(
                 token.line, token.kind,
             )),
-            ScriptState::InStatement(line, state) => match state.step(alloc, token.kind)? {
+            ScriptState::InStatement(line, state) => match state.transition(alloc, token.kind)? {
                 None => Ok(None),
-                Some(Step::Advance(state)) => Ok(Some(ScriptState::InStatement(line, state))),
-                Some(Step::Accept(action)) => {
+                Some(Transition::Advance(state)) => Ok(Some(ScriptState::InStatement(line, state))),
+                Some(Transition::Accept(action)) => {
                     statements.push(Stmt { line, action })?;
                     Ok(Some(ScriptState::AfterStatement))
                 }

@@ -57,7 +57,7 @@ pub enum State {
 
 /// A transition of the parser within a statement: to another state, or to the end of the statement.
 #[derive(Drop)]
-pub enum Step {
+pub enum Transition {
     /// The token does not complete the statement. The field is the state after the token.
     Advance(State),
     /// The token completes the statement. The field is the action of the statement.
@@ -72,89 +72,89 @@ impl State {
     /// # Errors
     ///
     /// - `NoMemory`: an allocation fails.
-    pub fn step(self, alloc: Global, kind: TokenKind) -> Result<Option<Step>, NoMemory>
+    pub fn transition(self, alloc: Global, kind: TokenKind) -> Result<Option<Transition>, NoMemory>
         ensures { IfOk result (λ to. to ≡ step self kind) }
     {
         let to = match (self, kind) {
-            (State::AfterName(name), TokenKind::Quoted(text)) => Step::Accept(Action::Call(
+            (State::AfterName(name), TokenKind::Quoted(text)) => Transition::Accept(Action::Call(
                 name,
                 Arg::Value(Literal::Text(text)),
             )),
-            (State::AfterName(name), TokenKind::OpenParen) => Step::Advance(State::AfterParen(
+            (State::AfterName(name), TokenKind::OpenParen) => Transition::Advance(State::AfterParen(
                 name,
             )),
-            (State::AfterName(name), TokenKind::OpenBrace) => Step::Advance(State::Pairs(Table::new(
+            (State::AfterName(name), TokenKind::OpenBrace) => Transition::Advance(State::Pairs(Table::new(
                 alloc, name, false,
             ))),
-            (State::AfterName(name), TokenKind::Dot) => Step::Advance(State::AfterDot(
+            (State::AfterName(name), TokenKind::Dot) => Transition::Advance(State::AfterDot(
                 single_part_path(alloc, name)?,
             )),
-            (State::AfterName(name), TokenKind::OpenBracket) => Step::Advance(
+            (State::AfterName(name), TokenKind::OpenBracket) => Transition::Advance(
                 State::AfterPathBracket(single_part_path(alloc, name)?),
             ),
-            (State::AfterName(name), TokenKind::Equals) => Step::Advance(State::AfterPathEquals(
+            (State::AfterName(name), TokenKind::Equals) => Transition::Advance(State::AfterPathEquals(
                 single_part_path(alloc, name)?,
             )),
-            (State::AfterParen(name), TokenKind::OpenBrace) => Step::Advance(State::Pairs(
+            (State::AfterParen(name), TokenKind::OpenBrace) => Transition::Advance(State::Pairs(
                 Table::new(alloc, name, true),
             )),
-            (State::AfterParen(name), kind) => match value(kind) {
+            (State::AfterParen(name), kind) => match literal_of(kind) {
                 None => return Ok(None),
-                Some(value) => Step::Advance(State::AfterArgument(Action::Call(
+                Some(value) => Transition::Advance(State::AfterArgument(Action::Call(
                     name,
                     Arg::Value(value),
                 ))),
             },
-            (State::AfterArgument(call), TokenKind::CloseParen) => Step::Accept(call),
-            (State::Pairs(table), TokenKind::Name(name)) => Step::Advance(State::AfterKey(
+            (State::AfterArgument(call), TokenKind::CloseParen) => Transition::Accept(call),
+            (State::Pairs(table), TokenKind::Name(name)) => Transition::Advance(State::AfterKey(
                 table, name,
             )),
-            (State::Pairs(table), TokenKind::OpenBracket) => Step::Advance(State::AfterKeyBracket(
+            (State::Pairs(table), TokenKind::OpenBracket) => Transition::Advance(State::AfterKeyBracket(
                 table,
             )),
             (State::Pairs(table), TokenKind::CloseBrace) => table.close(),
-            (State::AfterKeyBracket(table), TokenKind::Quoted(key)) => Step::Advance(
+            (State::AfterKeyBracket(table), TokenKind::Quoted(key)) => Transition::Advance(
                 State::AfterKeyString(table, key),
             ),
-            (State::AfterKeyString(table, key), TokenKind::CloseBracket) => Step::Advance(
+            (State::AfterKeyString(table, key), TokenKind::CloseBracket) => Transition::Advance(
                 State::AfterKey(table, key),
             ),
-            (State::AfterKey(table, key), TokenKind::Equals) => Step::Advance(State::AfterKeyEquals(
+            (State::AfterKey(table, key), TokenKind::Equals) => Transition::Advance(State::AfterKeyEquals(
                 table, key,
             )),
-            (State::AfterKeyEquals(table, name), kind) => match value(kind) {
+            (State::AfterKeyEquals(table, name), kind) => match literal_of(kind) {
                 None => return Ok(None),
                 Some(value) => {
                     let mut table = table;
                     table.pairs.push(Pair { name, value })?;
-                    Step::Advance(State::AfterPair(table))
+                    Transition::Advance(State::AfterPair(table))
                 }
             },
-            (State::AfterPair(table), TokenKind::Comma | TokenKind::Semicolon) => Step::Advance(
+            (State::AfterPair(table), TokenKind::Comma | TokenKind::Semicolon) => Transition::Advance(
                 State::Pairs(table),
             ),
             (State::AfterPair(table), TokenKind::CloseBrace) => table.close(),
             (State::AfterDot(mut path), TokenKind::Name(name)) => {
                 path.push(name)?;
-                Step::Advance(State::AfterPath(path))
+                Transition::Advance(State::AfterPath(path))
             }
             (State::AfterPathBracket(mut path), TokenKind::Quoted(text)) => {
                 path.push(text)?;
-                Step::Advance(State::AfterPathString(path))
+                Transition::Advance(State::AfterPathString(path))
             }
-            (State::AfterPathString(path), TokenKind::CloseBracket) => Step::Advance(
+            (State::AfterPathString(path), TokenKind::CloseBracket) => Transition::Advance(
                 State::AfterPath(path),
             ),
-            (State::AfterPath(path), TokenKind::Dot) => Step::Advance(State::AfterDot(path)),
-            (State::AfterPath(path), TokenKind::OpenBracket) => Step::Advance(
+            (State::AfterPath(path), TokenKind::Dot) => Transition::Advance(State::AfterDot(path)),
+            (State::AfterPath(path), TokenKind::OpenBracket) => Transition::Advance(
                 State::AfterPathBracket(path),
             ),
-            (State::AfterPath(path), TokenKind::Equals) => Step::Advance(State::AfterPathEquals(
+            (State::AfterPath(path), TokenKind::Equals) => Transition::Advance(State::AfterPathEquals(
                 path,
             )),
-            (State::AfterPathEquals(path), kind) => match value(kind) {
+            (State::AfterPathEquals(path), kind) => match literal_of(kind) {
                 None => return Ok(None),
-                Some(value) => Step::Accept(Action::Assign(path, value)),
+                Some(value) => Transition::Accept(Action::Assign(path, value)),
             },
             _ => return Ok(None),
         };
@@ -165,7 +165,7 @@ impl State {
 /// Returns the literal that a token of the kind `kind` represents.
 ///
 /// Returns `None` if such a token is not a literal.
-fn value(kind: TokenKind) -> Option<Literal>
+fn literal_of(kind: TokenKind) -> Option<Literal>
     ensures { result ≡ literal_of kind }
 {
     match kind {
@@ -203,14 +203,14 @@ impl Table {
     ///
     /// If the table is in parentheses, a `)` must follow. Otherwise, the `}` completes the
     /// statement.
-    fn close(self) -> Step
+    fn close(self) -> Transition
         ensures { result ≡ closed self }
     {
         let call = Action::Call(self.name, Arg::Table(self.pairs));
         if self.in_parens {
-            Step::Advance(State::AfterArgument(call))
+            Transition::Advance(State::AfterArgument(call))
         } else {
-            Step::Accept(call)
+            Transition::Accept(call)
         }
     }
 }

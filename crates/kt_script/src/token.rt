@@ -94,7 +94,7 @@ impl Lexeme {
 
     /// Creates an invalid token that consists of all bytes of `text`. `flaw` is the reason why the
     /// token is invalid.
-    pub fn broken(text: &[u8], flaw: Flaw) -> Lexeme
+    pub fn invalid(text: &[u8], flaw: Flaw) -> Lexeme
         ensures { result ≡ broken text.now flaw }
     {
         Lexeme::token(text.len(), TokenKind::Broken(flaw))

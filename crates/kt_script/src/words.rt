@@ -39,7 +39,7 @@ fn name_length(text: &[u8]) -> usize
 /// Returns the kind of the token with the characters `letters`: a truth value or a name.
 ///
 /// The token is a truth value if `letters` is `true` or `false`.
-fn word(alloc: Global, letters: &str) -> Result<TokenKind, NoMemory>
+fn kind_of_letters(alloc: Global, letters: &str) -> Result<TokenKind, NoMemory>
     ensures { IfOk result (λ kind. kind ≡ word letters.now) }
 {
     if letters.as_bytes() == b"true".as_slice() {
@@ -56,9 +56,9 @@ fn word(alloc: Global, letters: &str) -> Result<TokenKind, NoMemory>
 /// # Errors
 ///
 /// - `NoMemory`: an allocation fails.
-pub fn name(alloc: Global, text: &str) -> Result<Lexeme, NoMemory>
+pub fn lex_name(alloc: Global, text: &str) -> Result<Lexeme, NoMemory>
     ensures { IfOk result (λ piece. piece ≡ name_at text.now) }
 {
     let length = name_length(text.as_bytes());
-    Ok(Lexeme::token(length, word(alloc, &text[..length])?))
+    Ok(Lexeme::token(length, kind_of_letters(alloc, &text[..length])?))
 }

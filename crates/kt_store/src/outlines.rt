@@ -105,7 +105,7 @@ fn entry_outline_from_row(alloc: Global, row: &Row) -> Result<Entry, DatabaseErr
         position,
         program,
         case_name,
-        verdict: Verdict::of(kind, reason),
+        verdict: Verdict::from_kind(kind, reason),
         started,
         millis,
         body: no_output(alloc),

@@ -21,7 +21,7 @@ unfoldable pub use lib.Utf8.{encode}
 pub use mathlib.Core.List.{append-nil, append_assoc}
 pub use Rattle.kt_suite.specs.Answers.{LeadsByCalls, Asked, Exists, HasStableResults, Read, IsSameCall}
 pub use Rattle.kt_suite.specs.Calls.{key_named}
-pub use Rattle.kt_suite.specs.Disjoint.{ShareCase, covers, do_overlap, overlap_fault, parts_cover}
+pub use Rattle.kt_suite.specs.Disjoint.{ShareCase, covers, overlaps, overlap_fault, parts_cover}
 pub use Rattle.kt_suite.specs.FaultMessages.{cause_message, fixed_message}
 pub use Rattle.kt_suite.specs.Faults.{IsNoMemory, fault_at, read_fault, script_line}
 pub use Rattle.kt_suite.specs.Filters.{counts, normalized_path}

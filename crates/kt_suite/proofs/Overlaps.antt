@@ -1,6 +1,6 @@
 -- Filters that both match some case.
 use Rattle.std.proofs.Common.{arith, ◌≡◌, ℕ, true, false, List, [], ◌∷◌, ◌++◌, refl, sym, ap, ◌∙◌, Option, Some, None, ◌⊎◌, inl, inr, ◌||◌, IsTrue, bytes_eq, append-nil}
-use Rattle.kt_suite.proofs.Common.{nat_tests, append_assoc, eq-eqb, eqb-true, and_parts, and_from, Filter, is_within, IsWithin, parts_match, matches, parts_cover, covers, do_overlap, ShareCase}
+use Rattle.kt_suite.proofs.Common.{nat_tests, append_assoc, eq-eqb, eqb-true, and_parts, and_from, Filter, is_within, IsWithin, parts_match, matches, parts_cover, covers, overlaps, ShareCase}
 use Rattle.std.proofs.lemmas.Bool.{or_cases}
 use Rattle.std.proofs.lemmas.Slice.Eq.{bytes_eq-Decides}
 use Rattle.kt_suite.proofs.WithinPaths.{within-append, append-within}
@@ -81,7 +81,7 @@ by_side filter other (inl e) = shared_by filter other e
 by_side filter other (inr e) = swapped other filter (shared_by other filter e)
 
 -- If two filters overlap, there is a case that both of them match.
-pub shares : (filter other : Filter) → IsTrue (do_overlap filter other) → ShareCase filter other
+pub shares : (filter other : Filter) → IsTrue (overlaps filter other) → ShareCase filter other
 shares filter other e = by_side filter other (or_cases (covers filter other) (covers other filter) e)
 
 -- If there is a case that two filters match, the filters overlap.
@@ -94,5 +94,5 @@ meet program (Some mine) other None path case_name e f = grind (arith, e, f, sam
 meet program (Some mine) other (Some own) path case_name e f =
     grind (arith, e, f, same path program, same case_name mine, same path other, same case_name own, same-refl path, same-refl case_name)
 
-pub sharing : (filter other : Filter) → ShareCase filter other → IsTrue (do_overlap filter other)
+pub sharing : (filter other : Filter) → ShareCase filter other → IsTrue (overlaps filter other)
 sharing filter other s = meet filter.program filter.case_name other.program other.case_name s.0 s.1 s.2 s.3

@@ -4,8 +4,8 @@ use Rattle.kt_suite.proofs.Common.{filter, option_or, append-nil, filter-append,
 use Rattle.kt_base.specs.LastValues.{value_of, last_values}
 use Rattle.kt_base.proofs.Names.{same, same-flip, value_of-append}
 use Rattle.kt_metadata.specs.Properties.{is_kyuafile_property, definition_fault}
-use Rattle.kt_suite.specs.declared.table.Key.{Key}
-use Rattle.kt_suite.specs.declared.table.Key.TheVariants as key
+use Rattle.kt_suite.specs.declared.table.KeyKind.{KeyKind}
+use Rattle.kt_suite.specs.declared.table.KeyKind.TheVariants as key
 
 -- The properties of two lists are the properties of each.
 properties-append : (pairs more : List Variable) → filter is_property (pairs ++ more) ≡ filter is_property pairs ++ filter is_property more
@@ -17,13 +17,13 @@ other_value word pair e = ap (λ (b : Bool). option_or None (if b then Some pair
 
 -- `KeySays name key`: the key `name` has the spelling that the kind `key` requires: `name`,
 -- `test_suite`, or a property that a Kyuafile may set. The kind `Unknown` requires nothing.
-abbrev KeySays : List ℕ → Key → Type 0
+abbrev KeySays : List ℕ → KeyKind → Type 0
 KeySays n key.Name = n ≡ codes "name"
 KeySays n key.TestSuite = n ≡ codes "test_suite"
 KeySays n key.Property = (bytes_eq n (codes "name") ≡ false) × (bytes_eq n (codes "test_suite") ≡ false) × (is_kyuafile_property n ≡ true)
 KeySays n key.Unknown = Unit {0}
 
-key_says : (n : List ℕ) (k : Key) → k ≡ key_named n → KeySays n k
+key_says : (n : List ℕ) (k : KeyKind) → k ≡ key_named n → KeySays n k
 key_says n k is =
     subst (KeySays n) (sym is) (by (bytes_eq n (codes "name")) (bytes_eq n (codes "test_suite")) (is_kyuafile_property n) refl refl refl)
   where
@@ -67,8 +67,8 @@ push_property before pair k =
     (properties-append before (pair ∷ []) ∙ ap (λ (ps : List Variable). filter is_property before ++ ps) (one_kept is_property pair k.2))
 
 -- A pair changes the table by the kind of its key.
-by_key : (before : List Variable) (pair : Variable) (k : Key) (table : ProgramTable) → k ≡ key_named pair.name → table_of (before ++ pair ∷ []) ≡ table → cause_or_value (key_fault k pair) table ≡ table_with before pair
-by_key before pair k table e t = ap (λ (x : Key). cause_or_value (key_fault x pair) table) e ∙ ap (λ (x : ProgramTable). cause_or_value (pair_fault pair) x) (sym t)
+by_key : (before : List Variable) (pair : Variable) (k : KeyKind) (table : ProgramTable) → k ≡ key_named pair.name → table_of (before ++ pair ∷ []) ≡ table → cause_or_value (key_fault k pair) table ≡ table_with before pair
+by_key before pair k table e t = ap (λ (x : KeyKind). cause_or_value (key_fault x pair) table) e ∙ ap (λ (x : ProgramTable). cause_or_value (pair_fault pair) x) (sym t)
 
 pub takes_name : (before : List Variable) (pair : Pair) (found : ProgramTable) (text : List ℕ) → key.Name ≡ key_named pair.name → text ≡ text_of pair.value → found ≡ table_of before
     → ◌≡◌ {A = Result ProgramTable SuiteCause} (Ok (record found { name = Some text })) (table_with before (definition pair))

@@ -5,8 +5,8 @@ use Rattle.kt_base.specs.declared.child.Interface.TheVariants.{Atf, Tap, Plain}
 use Rattle.kt_metadata.specs.Properties.{is_kyuafile_property}
 use Rattle.kt_suite.specs.declared.call.Call.{Call}
 use Rattle.kt_suite.specs.declared.call.Call.TheVariants as call
-use Rattle.kt_suite.specs.declared.table.Key.{Key}
-use Rattle.kt_suite.specs.declared.table.Key.TheVariants as key
+use Rattle.kt_suite.specs.declared.table.KeyKind.{KeyKind}
+use Rattle.kt_suite.specs.declared.table.KeyKind.TheVariants as key
 
 -- `calls`: the names of the functions that a Kyuafile may call, each with the kind of the call.
 abbrev pub calls : List (List ℕ × Call)
@@ -25,7 +25,7 @@ call_named name = unwrap_or (named calls name) call.Unknown
 
 -- `key_named name`: the kind of the key `name` in the table of a call that registers a program. It
 -- is `Unknown` if such a table may not have this key.
-abbrev pub key_named : List ℕ → Key
+abbrev pub key_named : List ℕ → KeyKind
 key_named name =
     if bytes_eq name (codes "name") then key.Name
     else if bytes_eq name (codes "test_suite") then key.TestSuite

@@ -5,7 +5,7 @@ pub use Rattle.kt_base.specs.Characters.{is_slash}
 pub use Rattle.kt_base.specs.LastValues.{last_values}
 pub use Rattle.kt_base.specs.declared.variable.Variable.{Variable}
 pub use Rattle.kt_suite.specs.Answers.{LeadsByCalls, Asked, HasStableResults}
-pub use Rattle.kt_suite.specs.Disjoint.{IsDisjoint, IsFirstFault, ShareCase, covers, is_same_filter, do_overlap, overlap_fault}
+pub use Rattle.kt_suite.specs.Disjoint.{IsDisjoint, IsFirstFault, ShareCase, covers, is_same_filter, overlaps, overlap_fault}
 pub use Rattle.kt_suite.specs.Faults.{IsNoMemory, fault_at, read_fault, script_line}
 pub use Rattle.kt_suite.specs.Filters.{Answers, filter_meaning}
 pub use Rattle.kt_suite.specs.Inner.Steps.{IsParseFault, props_with, table_with, with_props}

@@ -21,10 +21,10 @@ parts_cover program (Some own) other = bytes_eq program other.program && option_
 abbrev pub covers : Filter → Filter → Bool
 covers filter other = parts_cover filter.program filter.case_name other
 
--- `do_overlap filter other`: the filter `filter` matches each test case that the filter `other`
+-- `overlaps filter other`: the filter `filter` matches each test case that the filter `other`
 -- matches, or `other` matches each test case that `filter` matches.
-abbrev pub do_overlap : Filter → Filter → Bool
-do_overlap filter other = covers filter other || covers other filter
+abbrev pub overlaps : Filter → Filter → Bool
+overlaps filter other = covers filter other || covers other filter
 
 -- `ShareCase filter other`: there is a test case that both filters, `filter` and `other`, match.
 abbrev pub ShareCase : Filter → Filter → Type 0
@@ -42,7 +42,7 @@ clash position filter earlier = if is_same_filter filter earlier then Repeated p
 -- filter.
 abbrev pub overlap_fault : List Filter → ℕ → Option FilterFault
 overlap_fault filters position =
-    option_and_then (λ filter. option_map (clash position filter) (find (do_overlap filter) (take position filters))) (slice_get filters position)
+    option_and_then (λ filter. option_map (clash position filter) (find (overlaps filter) (take position filters))) (slice_get filters position)
 
 -- `IsDisjoint filters`: no two filters in the list `filters` match a common test case.
 abbrev pub IsDisjoint : List Filter → Type 0

@@ -8,8 +8,8 @@ use Rattle.kt_script.specs.declared.syntax.Pair.{Pair}
 use Rattle.kt_script.specs.LiteralText.{text_of}
 use Rattle.kt_metadata.specs.declared.fault.PropFault.{PropFault}
 use Rattle.kt_metadata.specs.Properties.{is_kyuafile_property, definition_fault}
-use Rattle.kt_suite.specs.declared.table.Key.{Key}
-use Rattle.kt_suite.specs.declared.table.Key.TheVariants as key
+use Rattle.kt_suite.specs.declared.table.KeyKind.{KeyKind}
+use Rattle.kt_suite.specs.declared.table.KeyKind.TheVariants as key
 use Rattle.kt_suite.specs.Calls.{key_named}
 
 -- `definition pair`: the key of the pair `pair` of a table, with the pair's value as a text.
@@ -34,7 +34,7 @@ value_cause (Some fault) = Some BadValue
 -- `key_fault key pair`: the cause of the error in the pair `pair`, whose key is of the kind `key`.
 -- It is `UnknownProperty` for an unknown key, `BadValue` for a bad value of a property, and
 -- otherwise `None`.
-abbrev pub key_fault : Key → Variable → Option SuiteCause
+abbrev pub key_fault : KeyKind → Variable → Option SuiteCause
 key_fault key.Name pair = None
 key_fault key.TestSuite pair = None
 key_fault key.Property pair = value_cause (definition_fault pair.name pair.value)

@@ -1,5 +1,5 @@
 ghost use Rattle.std.specs.Prelude.{◌≡◌, ◌↔◌, List, ℕ, IfErr, IsTrue, OnOk, option_copied, find};
-ghost use Rattle.kt_suite.specs.Common.{is_within, IsWithin, is_same_filter, covers, do_overlap, ShareCase, overlap_fault, IsDisjoint, IsFirstFault};
+ghost use Rattle.kt_suite.specs.Common.{is_within, IsWithin, is_same_filter, covers, overlaps, ShareCase, overlap_fault, IsDisjoint, IsFirstFault};
 ghost use Rattle.kt_suite.specs.declared.filter.Filter.{Filter as OneFilter};
 
 use crate::within::is_within;
@@ -19,8 +19,8 @@ fn covers(filter: &Filter, other: &Filter) -> bool
 ///
 /// Such a case exists if and only if one of the two filters matches each case that the other filter
 /// matches.
-fn do_overlap(filter: &Filter, other: &Filter) -> bool
-    ensures { result ≡ do_overlap filter.now other.now }
+fn overlaps(filter: &Filter, other: &Filter) -> bool
+    ensures { result ≡ overlaps filter.now other.now }
 {
     covers(filter, other) || covers(other, filter)
 }
@@ -30,9 +30,9 @@ fn do_overlap(filter: &Filter, other: &Filter) -> bool
 ///
 /// Two filters overlap if both match some test case.
 fn first_overlap<'a>(filter: &Filter, earlier: &'a [Filter]) -> Option<&'a Filter>
-    ensures { option_copied result ≡ find (do_overlap filter.now) earlier.now }
+    ensures { option_copied result ≡ find (overlaps filter.now) earlier.now }
 {
-    earlier.iter().find(|other| do_overlap(filter, *other))
+    earlier.iter().find(|other| overlaps(filter, *other))
 }
 
 /// Returns the error of the filter at `position` in `filters`, or `None` if it has no error.
@@ -82,6 +82,6 @@ pub fn theorem_of_overlaps()
         ↔ IsWithin directory path }
     ensures same { (filter other : OneFilter)
         → IsTrue (is_same_filter filter other) ↔ (filter ≡ other) }
-    ensures do_overlap { (filter other : OneFilter)
-        → IsTrue (do_overlap filter other) ↔ ShareCase filter other }
+    ensures overlaps { (filter other : OneFilter)
+        → IsTrue (overlaps filter other) ↔ ShareCase filter other }
 {}

@@ -144,10 +144,10 @@ fn parts_fault(path: &Text, case_name: &Option<Text>) -> Option<FilterFault>
 
 /// Returns `true` if the path component `component` is neither empty nor `.`.
 #[tactic(auto, unfolding(crate::proofs::Common::chars))]
-fn counts(component: &Text) -> bool
+fn is_kept_component(component: &Text) -> bool
     ensures { result ≡ counts component.now }
 {
-    !component.is_empty() && !component.is_word(".")
+    !component.is_empty() && !component.is_equal_to(".")
 }
 
 /// Appends `component` to `path`, after a slash unless `path` is empty.
@@ -169,7 +169,7 @@ fn push_component(path: &mut Text, component: &Text) -> Result<(), NoMemory>
 fn push_normalized(path: &mut Text, component: &Text) -> Result<(), NoMemory>
     ensures { OnOk result (path.new ≡ with_component path.old component.now) }
 {
-    if counts(component) {
+    if is_kept_component(component) {
         push_component(path, component)?;
     }
     Ok(())

@@ -1,10 +1,10 @@
 ghost use Rattle.std.specs.Prelude.{◌≡◌, ◌⊎◌, ◌≤◌, ◌-◌, ◌++◌, [], ◌∷◌, List, ℕ, length, IfOk};
 ghost use Rattle.kt_suite.specs.Common.{LeadsByCalls, Asked, HasStableResults, program_limit, Unfinished, Registered, Outcome, LoadsMarks, FileGives, Script, IsParseFault, fault_at, read_fault, script_line, IsNoMemory, ChecksOpening, OpensFile};
 
-use crate::fault::{fault_at, no_memory};
+use crate::fault::{fault_at, fault_of_allocation};
 use crate::registry::{LoadStep, Registry};
 use crate::statement::first_statement_cause;
-use crate::stepping::step;
+use crate::stepping::execute_statement;
 use crate::{Program, ReadFault, SuiteCause, SuiteFault, Tree};
 use kt_base::{Items, NoMemory, Text};
 use kt_script::{ScriptFault, Stmt, parse};
@@ -15,7 +15,7 @@ fn fault_of_read(alloc: Global, file: &Text, why: ReadFault) -> SuiteFault
     ensures { IsNoMemory result ⊎ (result ≡ read_fault file.now why) }
 {
     match why {
-        ReadFault::Memory(refusal) => no_memory(alloc, refusal),
+        ReadFault::Memory(refusal) => fault_of_allocation(alloc, refusal),
         ReadFault::Missing | ReadFault::Failed => fault_at(file, alloc, 0, SuiteCause::Unreadable),
     }
 }
@@ -37,7 +37,7 @@ fn fault_of_parse(alloc: Global, file: &Text, why: ScriptFault) -> SuiteFault
         ⊎ (IsParseFault why × (result ≡ fault_at file.now (script_line why) (Script why))) }
 {
     match why {
-        ScriptFault::NoMemory(refusal) => no_memory(alloc, refusal),
+        ScriptFault::NoMemory(refusal) => fault_of_allocation(alloc, refusal),
         _ => fault_at(file, alloc, script_fault_line(why), SuiteCause::Script(why)),
     }
 }
@@ -112,12 +112,12 @@ fn load_file<T: Tree>(
     };
     let mut registry = match push_open_file(registry, file) {
         Ok(registry) => registry,
-        Err(refusal) => return Err(no_memory(alloc, refusal)),
+        Err(refusal) => return Err(fault_of_allocation(alloc, refusal)),
     };
     let mut suite = None;
     let mut rest = &stmts.as_slice()[1..];
     while let Some((stmt, after)) = rest.split_first() {
-        let turn = match step(alloc, tree, file, registry, &mut suite, stmt) {
+        let turn = match execute_statement(alloc, tree, file, registry, &mut suite, stmt) {
             Ok(turn) => turn,
             Err(fault) => return Err(fault),
         };
@@ -132,7 +132,7 @@ fn load_file<T: Tree>(
         }
         rest = after;
     }
-    Ok(registry.end())
+    Ok(registry.close_last_file())
 }
 
 /// Loads a tree of Kyuafiles, and returns the programs that it registers, in order (kyuafile(5)).

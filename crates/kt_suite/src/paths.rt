@@ -38,7 +38,7 @@ pub fn split_path(alloc: Global, path: &Text) -> Result<(Text, Text), NoMemory>
 /// Returns the part of `path` before its last slash.
 ///
 /// The result is empty if `path` has no slash.
-fn parent(path: &str) -> &str
+fn parent_slice(path: &str) -> &str
     ensures { chars result.now ≡ parent_of (chars path.now) }
 {
     match path.rsplit_once('/') {
@@ -57,7 +57,7 @@ fn parent(path: &str) -> &str
 pub fn parent_path(alloc: Global, path: &Text) -> Result<Text, NoMemory>
     ensures { IfOk result (λ parent. parent ≡ parent_of path.now) }
 {
-    Text::from_str(alloc, parent(path.as_str()))
+    Text::from_str(alloc, parent_slice(path.as_str()))
 }
 
 /// Returns the path of the file `name` in the directory of the file `file`.
@@ -79,7 +79,7 @@ pub fn sibling_path(alloc: Global, file: &Text, name: &Text) -> Result<Text, NoM
 pub fn has_directory_part(name: &Text) -> bool
     ensures { result ≡ has_directory name.now }
 {
-    has_slash(name.as_str()) || name.is_word(".") || name.is_word("..")
+    has_slash(name.as_str()) || name.is_equal_to(".") || name.is_equal_to("..")
 }
 
 /// Returns `true` if the path component `part` is neither empty, nor `.`, nor `..`.
@@ -87,7 +87,7 @@ pub fn has_directory_part(name: &Text) -> bool
 fn is_component(part: &Text) -> bool
     ensures { result ≡ is_component part.now }
 {
-    !(part.is_empty() || part.is_word(".") || part.is_word(".."))
+    !(part.is_empty() || part.is_equal_to(".") || part.is_equal_to(".."))
 }
 
 /// Returns `true` if `path` is a relative path without components that are empty, `.` or `..`.

@@ -43,7 +43,7 @@ impl Registry {
     /// Removes the last of the open files, and returns the registry.
     ///
     /// All statements of this file were executed.
-    pub fn end(self) -> Registry
+    pub fn close_last_file(self) -> Registry
         ensures { result ≡ (record self { reading = take (length self.reading - 1) self.reading }) }
     {
         let Registry {

@@ -1,7 +1,7 @@
 ghost use Rattle.std.specs.Prelude.{◌≡◌, Err, IfErr, IfOk, OnOk};
 ghost use Rattle.kt_suite.specs.Common.{list_any, bytes_eq, sibling_of, include_fault, meaning_of, suite_after, RegistersProgram, EntersFile, Enters, StepsTo};
 
-use crate::fault::{fault_at, no_memory};
+use crate::fault::{fault_at, fault_of_allocation};
 use crate::meaning::Meaning;
 use crate::paths::sibling_path;
 use crate::registry::{LoadStep, Registry};
@@ -73,7 +73,7 @@ fn count_include(
 /// The step has `registry`, with the included file counted. The `include` statement is in the line
 /// `line` of `file`. `name` is relative to the directory of `file`. Fails if the included file is
 /// already open or exceeds a limit of [`load`](crate::load), or if an allocation fails.
-fn include(
+fn include_step(
     alloc: Global,
     file: &Text,
     line: u32,
@@ -86,7 +86,7 @@ fn include(
         registry (sibling_of file.now name.now) (Err fault)) }
 {
     match sibling_path(alloc, file, name) {
-        Err(refusal) => Err(no_memory(alloc, refusal)),
+        Err(refusal) => Err(fault_of_allocation(alloc, refusal)),
         Ok(path) => match count_include(alloc, file, line, registry, &path) {
             Err(fault) => Err(fault),
             Ok(next) => Ok(LoadStep::Enter(next, path)),
@@ -111,7 +111,7 @@ fn register_program<T: Tree>(
         registry (record named { path = sibling_of file.now named.path }) result }
 {
     let path = match sibling_path(alloc, file, &named.path) {
-        Err(refusal) => return Err(no_memory(alloc, refusal)),
+        Err(refusal) => return Err(fault_of_allocation(alloc, refusal)),
         Ok(path) => path,
     };
     if !tree.exists(&path) {
@@ -124,7 +124,7 @@ fn register_program<T: Tree>(
     program.path = path;
     let mut registry = registry;
     match registry.programs.push(program) {
-        Err(refusal) => Err(no_memory(alloc, refusal)),
+        Err(refusal) => Err(fault_of_allocation(alloc, refusal)),
         Ok(()) => Ok(registry),
     }
 }
@@ -140,7 +140,7 @@ fn register_program<T: Tree>(
 ///   is already open, the program's file is missing, or a limit of [`load`](crate::load) is
 ///   exceeded.
 /// - [`SuiteFault`] with the cause `NoMemory`: an allocation fails.
-pub fn step<T: Tree>(
+pub fn execute_statement<T: Tree>(
     alloc: Global,
     tree: &mut T,
     file: &Text,
@@ -155,13 +155,13 @@ pub fn step<T: Tree>(
         ≡ suite_after suite.old (meaning_of suite.old stmt.now.action)) }
 {
     match statement_meaning(alloc, &*suite, &stmt.action) {
-        Err(refusal) => Err(no_memory(alloc, refusal)),
+        Err(refusal) => Err(fault_of_allocation(alloc, refusal)),
         Ok(Meaning::Wrong(cause)) => Err(fault_at(file, alloc, stmt.line, cause)),
         Ok(Meaning::Suite(name)) => {
             *suite = Some(name);
             Ok(LoadStep::Next(registry))
         }
-        Ok(Meaning::Include(name)) => include(alloc, file, stmt.line, registry, &name),
+        Ok(Meaning::Include(name)) => include_step(alloc, file, stmt.line, registry, &name),
         Ok(Meaning::Program(interface, name, own, props)) => {
             let named = Program {
                 interface,

@@ -13,7 +13,7 @@ use std::alloc::Global;
 
 /// A kind of key in the table of a call that registers a program.
 #[derive(Clone, Copy)]
-enum Key {
+enum KeyKind {
     /// The key `name`, whose value is the name of the program.
     Name,
     /// The key `test_suite`, whose value is the test suite of the program.
@@ -26,17 +26,17 @@ enum Key {
 
 /// Returns the kind of the key `name` in the table of a call that registers a program.
 #[tactic(auto, unfolding(crate::proofs::Common::chars))]
-fn key_kind(name: &Text) -> Key
+fn key_kind(name: &Text) -> KeyKind
     ensures { result ≡ key_named name.now }
 {
-    if name.is_word("name") {
-        Key::Name
-    } else if name.is_word("test_suite") {
-        Key::TestSuite
+    if name.is_equal_to("name") {
+        KeyKind::Name
+    } else if name.is_equal_to("test_suite") {
+        KeyKind::TestSuite
     } else if is_kyuafile_property(name) {
-        Key::Property
+        KeyKind::Property
     } else {
-        Key::Unknown
+        KeyKind::Unknown
     }
 }
 
@@ -130,16 +130,16 @@ fn set_pair(
     let mut found = found;
     let value = pair.value.text(alloc)?;
     match key_kind(&pair.name) {
-        Key::Unknown => Ok(Err(SuiteCause::UnknownProperty)),
-        Key::Name => {
+        KeyKind::Unknown => Ok(Err(SuiteCause::UnknownProperty)),
+        KeyKind::Name => {
             found.name = Some(value);
             Ok(Ok(found))
         }
-        Key::TestSuite => {
+        KeyKind::TestSuite => {
             found.suite = Some(value);
             Ok(Ok(found))
         }
-        Key::Property => set_property(found, &pair.name, &value),
+        KeyKind::Property => set_property(found, &pair.name, &value),
     }
 }
 

@@ -6,7 +6,7 @@ use kt_base::Text;
 /// Returns `true` if a path component can end before the byte at the index `place` of `path`.
 ///
 /// It can if this byte is a slash, or if `path` has no byte at this index.
-fn ends_component_at(path: &[u8], place: usize) -> bool
+fn is_component_end_at(path: &[u8], place: usize) -> bool
     ensures { result ≡ is_within [] (drop place path.now) }
 {
     match path.get(place) {
@@ -18,7 +18,7 @@ fn ends_component_at(path: &[u8], place: usize) -> bool
 /// Returns `true` if `rest`, the remaining text of a path, is empty or begins with a slash.
 ///
 /// A path component can end before such a text.
-fn ends_component(rest: &str) -> bool
+fn is_component_end(rest: &str) -> bool
     ensures { result ≡ is_within [] (chars rest.now) }
 {
     match rest.chars().next() {
@@ -36,11 +36,11 @@ pub fn is_within(directory: &Text, path: &Text) -> bool
 {
     let directory = directory.as_str();
     let path = path.as_str();
-    if !ends_component_at(path.as_bytes(), directory.len()) {
+    if !is_component_end_at(path.as_bytes(), directory.len()) {
         return false;
     }
     match path.strip_prefix(directory) {
         None => false,
-        Some(rest) => ends_component(rest),
+        Some(rest) => is_component_end(rest),
     }
 }

@@ -1,7 +1,7 @@
 -- The state of a driver: its running children with their responses, the cases with a pending
 -- cleanup, and the number of the next attempt.
 use Rattle.std.specs.Prelude.{◌≡◌, ℕ, ◌+◌, ◌-◌, ◌<◌, ◌^◌, ◌⊎◌, List, [], ◌∷◌, ◌++◌, Bool, Option, Some, None, Result, map, remove, slice_get}
-use Rattle.kt_child.specs.Types.{Body, CaseAttempt, Chain, Cleanup, Ended, Job, OsFault, Outcome, Polled, Refused as RefusedFor, Role, StartAnswer, Started as StartedAt, RunningChild}
+use Rattle.kt_child.specs.Types.{Body, CaseAttempt, Chain, Cleanup, Ended, Job, OsFault, Outcome, ChildState, Refused as RefusedFor, Role, StartAnswer, Started as StartedAt, RunningChild}
 use Rattle.kt_child.specs.declared.driving.driver.Driver.{Driver}
 use Rattle.kt_base.specs.declared.failed_start.Refused.TheVariants.{Directory}
 use Rattle.kt_os.specs.System.Calls.{Call, Kill, Pause, Poll}
@@ -88,7 +88,7 @@ child_with_response a answer = record { case = a.case; limit = a.limit; heard = 
 -- child that it polls or kills has the result as one more response. A pause changes no child. The
 -- names of children are unique in a driver (`HasUniqueNumbers`), so `call` determines the child.
 pub data AddsResponse : List PolledChild → Call → List PolledChild → Type 0 where
-  polled : (a : PolledChild) (others : List PolledChild) (answer : Result Polled OsFault)
+  polled : (a : PolledChild) (others : List PolledChild) (answer : Result ChildState OsFault)
       → AddsResponse (a ∷ others) (Poll (child_of a.case) answer) (child_with_response a (PollResponse answer) ∷ others)
   killed : (a : PolledChild) (others : List PolledChild) (done : Bool)
       → AddsResponse (a ∷ others) (Kill (child_of a.case) done) (child_with_response a (KillResponse done) ∷ others)

@@ -13,13 +13,13 @@ use Rattle.kt_claim.specs.declared.evidence.TapFault.TheVariants as tap_fault
 use Rattle.kt_claim.specs.ResultFile.{IsClaimOf}
 use Rattle.kt_claim.specs.TapStream.{tap_of}
 use Rattle.kt_os.specs.System.Calls.{Call}
-use Rattle.kt_child.specs.declared.ending.ReadEnd.{ReadEnd}
-use Rattle.kt_child.specs.declared.ending.ReadEnd.TheVariants.{Missing, Unreadable, TooLong, Complete}
+use Rattle.kt_child.specs.declared.ending.PartsResult.{PartsResult}
+use Rattle.kt_child.specs.declared.ending.PartsResult.TheVariants.{Missing, Unreadable, TooLong, Complete}
 use Rattle.kt_child.specs.Ending.Parts.{Reads}
 
 -- `IsClaim end bytes found`: `found` is the claim of a result file. `end` is the result of reading
 -- the file, and `bytes` are the bytes read. If an allocation fails, the file counts as unreadable.
-abbrev pub IsClaim : ReadEnd → List ℕ → Claim → Type 0
+abbrev pub IsClaim : PartsResult → List ℕ → Claim → Type 0
 IsClaim Missing bytes found = found ≡ claim.Missing
 IsClaim Unreadable bytes found = found ≡ claim.Unreadable
 IsClaim TooLong bytes found = found ≡ claim.Malformed claim_fault.TooLong
@@ -28,7 +28,7 @@ IsClaim Complete bytes found = (found ≡ claim.Unreadable) ⊎ IsClaimOf bytes 
 -- `IsTap end bytes found`: `found` is the result of a TAP stream, the output of a program. `end` is
 -- the result of reading the output, and `bytes` are the bytes read. If an allocation fails, the
 -- output counts as unreadable.
-abbrev pub IsTap : ReadEnd → List ℕ → Tap → Type 0
+abbrev pub IsTap : PartsResult → List ℕ → Tap → Type 0
 IsTap TooLong bytes found = found ≡ tap.Invalid tap_fault.TooLong
 IsTap Complete bytes found = (found ≡ tap.Invalid tap_fault.Unreadable) ⊎ (found ≡ tap_of bytes)
 IsTap end bytes found = found ≡ tap.Invalid tap_fault.Unreadable
@@ -36,12 +36,12 @@ IsTap end bytes found = found ≡ tap.Invalid tap_fault.Unreadable
 -- `ReadsClaim path calls found`: `calls` read the result file at `path`, at most 65,536 bytes in
 -- parts of 4,096 bytes, and `found` is its claim.
 abbrev pub ReadsClaim : List ℕ → List Call → Claim → Type 0
-ReadsClaim path calls found = (end : ReadEnd) × (bytes : List ℕ) × Reads path 4096 65536 [] calls end bytes × IsClaim end bytes found
+ReadsClaim path calls found = (end : PartsResult) × (bytes : List ℕ) × Reads path 4096 65536 [] calls end bytes × IsClaim end bytes found
 
 -- `ReadsTap path calls found`: `calls` read the output at `path`, at most 16,777,216 bytes in parts
 -- of 65,536 bytes, and `found` is its result as a TAP stream.
 abbrev pub ReadsTap : List ℕ → List Call → Tap → Type 0
-ReadsTap path calls found = (end : ReadEnd) × (bytes : List ℕ) × Reads path 65536 16777216 [] calls end bytes × IsTap end bytes found
+ReadsTap path calls found = (end : PartsResult) × (bytes : List ℕ) × Reads path 65536 16777216 [] calls end bytes × IsTap end bytes found
 
 -- `ReadsEvidence interface role paths calls left`: `calls` read `left`, the evidence of a child in
 -- `role` whose program has the interface `interface`. The evidence is the result file of an ATF

@@ -1,13 +1,13 @@
 -- The outcome of a child, by the results of its polls and its kill. A `running` response is the
 -- result of a poll that reports the child as running.
 use Rattle.std.specs.Prelude.{◌≡◌, ℕ, ◌*◌, ◌<◌, List, [], ◌∷◌, ◌++◌, Bool, true, false, Option, Some, None, Result, Ok, Err, replicate, ◌⊎◌, if◌then◌else◌}
-use Rattle.kt_child.specs.Types.{Exited as PolledExit, OsFault, Outcome, Polled, Running, Signaled as PolledSignal, PollCounts}
+use Rattle.kt_child.specs.Types.{Exited as PolledExit, OsFault, Outcome, ChildState, Running, Signaled as PolledSignal, PollCounts}
 use Rattle.kt_base.specs.declared.child.Outcome.TheVariants.{Exited, Signaled, TimedOut, WaitFailed}
 
 -- `ChildResponse`: the result of a poll or of a kill of one child. `done` is `true` if the kill
 -- succeeded.
 pub data ChildResponse : Type 0 where
-  PollResponse : (answer : Result Polled OsFault) → ChildResponse
+  PollResponse : (answer : Result ChildState OsFault) → ChildResponse
   KillResponse : (done : Bool) → ChildResponse
 
 -- `running`: the response of a poll that reports the child as running.
@@ -16,7 +16,7 @@ running = PollResponse (Ok Running)
 
 -- `outcome_of state`: the outcome of a child that a poll reports in the state `state`, or `None` if
 -- the child is running.
-abbrev pub outcome_of : Polled → Option Outcome
+abbrev pub outcome_of : ChildState → Option Outcome
 outcome_of Running = None
 outcome_of (PolledExit code) = Some (Exited code)
 outcome_of (PolledSignal signal core) = Some (Signaled signal core)
@@ -26,7 +26,7 @@ outcome_of (PolledSignal signal core) = Some (Signaled signal core)
 -- so does the `left`-th poll that reports the child as running.
 abbrev pub YieldsAfterKill : ℕ → List ChildResponse → Outcome → Type 0
 YieldsAfterKill left heard outcome =
-    ((k : ℕ) × (s : Polled) × (x : Outcome) × (k < left) × (outcome_of s ≡ Some x)
+    ((k : ℕ) × (s : ChildState) × (x : Outcome) × (k < left) × (outcome_of s ≡ Some x)
     × (heard ≡ replicate k running ++ PollResponse (Ok s) ∷ []) × (outcome ≡ TimedOut))
     ⊎ ((heard ≡ replicate left running) × (outcome ≡ WaitFailed))
     ⊎ ((k : ℕ) × (f : OsFault) × (done : Bool) × (k < left)
@@ -38,7 +38,7 @@ YieldsAfterKill left heard outcome =
 -- gives a failed wait.
 abbrev pub YieldsWithin : ℕ → List ChildResponse → Outcome → Type 0
 YieldsWithin left heard outcome =
-    ((k : ℕ) × (s : Polled) × (k < left) × (outcome_of s ≡ Some outcome)
+    ((k : ℕ) × (s : ChildState) × (k < left) × (outcome_of s ≡ Some outcome)
     × (heard ≡ replicate k running ++ PollResponse (Ok s) ∷ []))
     ⊎ ((rest : List ChildResponse) × (heard ≡ replicate left running ++ KillResponse true ∷ rest) × YieldsAfterKill 500 rest outcome)
     ⊎ ((heard ≡ replicate left running ++ KillResponse false ∷ []) × (outcome ≡ WaitFailed))

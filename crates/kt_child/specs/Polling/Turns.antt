@@ -1,6 +1,6 @@
 -- Turns of polls over the running children.
 use Rattle.std.specs.Prelude.{◌≡◌, ℕ, zero, suc, List, [], ◌∷◌, ◌++◌, Bool, Option, Some, None, Result, take, slice_get, map}
-use Rattle.kt_child.specs.Types.{OsFault, Outcome, Polled, RunningChild}
+use Rattle.kt_child.specs.Types.{OsFault, Outcome, ChildState, RunningChild}
 use Rattle.kt_child.specs.declared.polling.ChildProgress.TheVariants.{StillRunning, Ended}
 use Rattle.kt_os.specs.System.Calls.{Call, Pause}
 use Rattle.kt_child.specs.Planning.ChildPlan.{child_of}
@@ -23,7 +23,7 @@ children_after_running (suc n) (k ∷ children) = child_after_running k ∷ chil
 abbrev pub PollsAll : List RunningChild → List Call → Type 0
 PollsAll [] calls = calls ≡ []
 PollsAll (k ∷ children) calls =
-    (answer : Result Polled OsFault) × (done : Bool) × (more : List Call)
+    (answer : Result ChildState OsFault) × (done : Bool) × (more : List Call)
     × (calls ≡ poll_calls (child_of k.case) k.limit k.watch answer done ++ more)
     × (progress_after_poll k.limit k.watch answer done ≡ StillRunning)
     × PollsAll children more
@@ -34,7 +34,7 @@ PollsAll (k ∷ children) calls =
 abbrev pub EndsAtPoll : Option RunningChild → List Call → Outcome → Type 0
 EndsAtPoll None calls outcome = ⊥
 EndsAtPoll (Some k) calls outcome =
-    (answer : Result Polled OsFault) × (done : Bool)
+    (answer : Result ChildState OsFault) × (done : Bool)
     × (calls ≡ poll_calls (child_of k.case) k.limit k.watch answer done)
     × (progress_after_poll k.limit k.watch answer done ≡ Ended outcome)
     × Yields k.limit (responses_so_far k.limit k.watch ++ poll_responses k.limit k.watch answer done) outcome

@@ -180,7 +180,7 @@ impl<O: Os + Drop> Driver<O> {
 
     /// Starts the child of the job `job` in the role `role`. `attempt` and `paths` are the number
     /// and the paths of its attempt, which a cleanup shares with its body.
-    fn begin(&mut self, job: &Job, role: Role, attempt: u64, paths: Paths) -> StartAnswer
+    fn start_attempt(&mut self, job: &Job, role: Role, attempt: u64, paths: Paths) -> StartAnswer
         requires fit { IsFit job.now }
         requires free { count_in job.now.position self.old.running ≡ 0 }
         ensures begun { (calls : List Call) × Chain O.leads self.old.os calls self.new.os
@@ -231,7 +231,7 @@ impl<O: Os + Drop> Driver<O> {
         };
         match workdir_plan(self.alloc, &self.root, attempt) {
             Err(refusal) => StartAnswer::Refused(memory_refusal(refusal)),
-            Ok(paths) => self.begin(job, Role::Body, attempt, paths),
+            Ok(paths) => self.start_attempt(job, Role::Body, attempt, paths),
         }
     }
 
@@ -243,7 +243,7 @@ impl<O: Os + Drop> Driver<O> {
         ensures { IsStart O.leads self.old job.now Role.Cleanup result self.new }
     {
         let owed = self.running.take_pending_cleanup(job.position);
-        self.begin(job, Role::Cleanup, owed.attempt, owed.paths)
+        self.start_attempt(job, Role::Cleanup, owed.attempt, owed.paths)
     }
 }
 

@@ -15,7 +15,7 @@ use kt_suite::Program;
 use std::alloc::Global;
 
 /// The timeout of a program that lists its test cases, in seconds (this profile).
-const LIST_LIMIT: u64 = 300;
+const LIST_TIMEOUT_SECONDS: u64 = 300;
 
 /// Waits until a program that lists its test cases has finished, reads its standard output, and
 /// removes the directory of its attempt. Returns the program's outcome and its list.
@@ -83,7 +83,7 @@ fn make_list_plan(
         program,
         variables,
         case_name: &none,
-        limit: LIST_LIMIT,
+        limit: LIST_TIMEOUT_SECONDS,
     };
     let plan = spawn_plan(alloc, source, purpose, &case)?;
     Ok((case, plan))

@@ -8,7 +8,7 @@ ghost use Rattle.kt_base.specs.Chains.{Chain};
 ghost use Rattle.kt_os.specs.System.Calls.{Call};
 
 use crate::driving::starts::{memory_refusal, new_running_child, start_child};
-use crate::ending::ends::{finish_child, is_last_child, remove_dir_if};
+use crate::ending::ends::{finish_child, is_last_child, remove_dir_if_requested};
 use crate::planning::{CaseAttempt, SpawnPlan};
 use crate::polling::RunningChild;
 use crate::polling::polls::poll_until_finished;
@@ -47,7 +47,7 @@ impl Model for RunningChildren {
 
 /// Reserves capacity for one more child in `children`, and for the cases of all these children in
 /// `pending`.
-fn add_capacity(
+fn reserve_capacity(
     children: &mut Vec<RunningChild>,
     pending: &mut Vec<CaseAttempt>,
 ) -> Result<(), NoMemory>
@@ -115,7 +115,7 @@ pub(crate) fn refuse_start<O: Os>(
     ensures asked { (calls : List Call) × Chain O.leads os.old calls os.new
         × FailsBeforeStart role dir.now calls result }
 {
-    remove_dir_if(os, role == Role::Cleanup, dir);
+    remove_dir_if_requested(os, role == Role::Cleanup, dir);
     StartAnswer::Refused(memory_refusal(refusal))
 }
 
@@ -168,7 +168,7 @@ impl RunningChildren {
         ensures state { self.new
             ≡ state_after_start self.old (new_running_child plan.now.limit case) result }
     {
-        if let Err(refusal) = add_capacity(&mut self.children, &mut self.pending) {
+        if let Err(refusal) = reserve_capacity(&mut self.children, &mut self.pending) {
             return refuse_start(os, plan.child.role, &plan.dir, refusal);
         }
         match start_child(os, plan) {

@@ -1,7 +1,7 @@
 ghost use Rattle.std.specs.Prelude.{◌≡◌, ◌≤◌, List, IfOk};
 ghost use Rattle.kt_child.specs.Common.{Chain, Call, HasMoment, SpawnsByPlan, SpawnsInExistingDir, SpawnsInNewDir, Started, TakesAttemptNumber, MakesCalls, spawn_calls, new_attempt_calls, new_running_child, refusal_cause, initial_counts, IsFit, IsRunningWithin, limit_of, spawn_plan_for, want_of, args_of, program_directory};
 
-use crate::ending::ends::{output_paths, remove_dir_if};
+use crate::ending::ends::{output_paths, remove_dir_if_requested};
 use crate::planning::words::{absolute_path, program_directory};
 use crate::planning::{CaseAttempt, ChildPurpose, SpawnPlan};
 use crate::polling::{PollCounts, RunningChild};
@@ -192,7 +192,7 @@ fn spawn_in_new_dir<O: Os>(os: &mut O, plan: &SpawnPlan) -> Result<(), Refused>
         return Err(refusal_cause(Refused::Directory, fault));
     }
     let tried = spawn_in_work_dir(os, plan);
-    remove_dir_if(os, tried.is_err(), &plan.dir);
+    remove_dir_if_requested(os, tried.is_err(), &plan.dir);
     tried
 }
 
@@ -203,7 +203,7 @@ fn spawn_in_existing_dir<O: Os>(os: &mut O, plan: &SpawnPlan) -> Result<(), Refu
         × SpawnsInExistingDir (spawn_calls plan.now) plan.now.dir calls result }
 {
     let tried = open_and_spawn(os, plan);
-    remove_dir_if(os, tried.is_err(), &plan.dir);
+    remove_dir_if_requested(os, tried.is_err(), &plan.dir);
     tried
 }
 

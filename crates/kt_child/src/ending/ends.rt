@@ -14,7 +14,7 @@ use std::alloc::Global;
 const MAX_OUTPUT_BYTES: u64 = 1_048_576;
 
 /// The greatest size of a list of test cases, in bytes (this profile).
-const LIST_LIMIT: u64 = 1_048_576;
+const MAX_LIST_BYTES: u64 = 1_048_576;
 
 /// Reads an output of a child from the file `path`, at most 1,048,576 bytes. Returns no bytes if
 /// the file is missing or a read fails.
@@ -38,7 +38,7 @@ pub(crate) fn read_list<O: Os>(os: &mut O, path: &Text) -> ListBytes
         × (result ≡ list_of answer) }
     ensures within { IsListWithin result }
 {
-    match os.read_file(path, LIST_LIMIT) {
+    match os.read_file(path, MAX_LIST_BYTES) {
         Ok(FileRead::Part(bytes, false)) => ListBytes::Read(bytes),
         Ok(FileRead::Part(_, true)) => ListBytes::TooLong,
         Ok(FileRead::Missing) | Err(_) => ListBytes::Unreadable,
@@ -64,7 +64,7 @@ pub(crate) fn is_last_child(case: &CaseAttempt) -> bool
 }
 
 /// Removes the directory `dir` if `removed` is `true`. A failed removal is ignored.
-pub(crate) fn remove_dir_if<O: Os>(os: &mut O, removed: bool, dir: &Text)
+pub(crate) fn remove_dir_if_requested<O: Os>(os: &mut O, removed: bool, dir: &Text)
     ensures { (calls : List Call) × Chain O.leads os.old calls os.new
         × Removes removed dir.now calls }
 {
@@ -94,7 +94,7 @@ pub(crate) fn finish_child<O: Os>(
     let out = read_child_output(alloc, os, out);
     let err = read_child_output(alloc, os, err);
     // Remove the directory last, since it contains the files that are read.
-    remove_dir_if(os, is_last_child(case), &case.paths.dir);
+    remove_dir_if_requested(os, is_last_child(case), &case.paths.dir);
     Ended {
         position: case.position,
         role: case.role,

@@ -2,7 +2,7 @@ ghost use Rattle.std.specs.Prelude.{List};
 ghost use Rattle.kt_child.specs.Common.{Chain, Call, ReadsEvidence, ReadsClaim, ReadsTap, IsEvidence};
 
 use crate::Paths;
-use crate::ending::ReadEnd;
+use crate::ending::PartsResult;
 use crate::ending::parts::read_in_parts;
 use kt_base::{Interface, Role, Text};
 use kt_claim::{Claim, ClaimFault, ClaimReader, Evidence, Tap, TapFault, TapReader};
@@ -31,10 +31,10 @@ fn read_claim<O: Os>(alloc: Global, os: &mut O, path: &Text) -> Claim
 {
     let mut reader = ClaimReader::new(alloc);
     match read_in_parts(os, path, RESULT_PART_BYTES, MAX_RESULT_BYTES, &mut reader) {
-        ReadEnd::Missing => Claim::Missing,
-        ReadEnd::Unreadable => Claim::Unreadable,
-        ReadEnd::TooLong => Claim::Malformed(ClaimFault::TooLong),
-        ReadEnd::Complete => match reader.finish() {
+        PartsResult::Missing => Claim::Missing,
+        PartsResult::Unreadable => Claim::Unreadable,
+        PartsResult::TooLong => Claim::Malformed(ClaimFault::TooLong),
+        PartsResult::Complete => match reader.finish() {
             Ok(claim) => claim,
             Err(_) => Claim::Unreadable,
         },
@@ -51,9 +51,9 @@ fn read_tap<O: Os>(alloc: Global, os: &mut O, path: &Text) -> Tap
 {
     let mut reader = TapReader::new(alloc);
     match read_in_parts(os, path, STREAM_PART_BYTES, MAX_STREAM_BYTES, &mut reader) {
-        ReadEnd::Missing | ReadEnd::Unreadable => Tap::Invalid(TapFault::Unreadable),
-        ReadEnd::TooLong => Tap::Invalid(TapFault::TooLong),
-        ReadEnd::Complete => match reader.finish() {
+        PartsResult::Missing | PartsResult::Unreadable => Tap::Invalid(TapFault::Unreadable),
+        PartsResult::TooLong => Tap::Invalid(TapFault::TooLong),
+        PartsResult::Complete => match reader.finish() {
             Ok(tap) => tap,
             Err(_) => Tap::Invalid(TapFault::Unreadable),
         },

@@ -6,7 +6,7 @@ pub(crate) mod parts;
 
 /// A result of reading a whole file in parts.
 #[derive(Clone, Copy)]
-pub(crate) enum ReadEnd {
+pub(crate) enum PartsResult {
     /// The file is missing.
     Missing,
     /// A read or an allocation failed, the file vanished after its first part, or a read before the

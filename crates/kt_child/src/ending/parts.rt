@@ -1,7 +1,7 @@
 ghost use Rattle.std.specs.Prelude.{◌≡◌, ℕ, ◌+◌, ◌<◌, List, [], Result, Some, length, Ok, IfNone, OnOk};
 ghost use Rattle.kt_child.specs.Common.{FileRead, OsFault, Chain, Call, bytes_of, TakesBytes, IsReadEnd, Reads, next_part_call};
 
-use crate::ending::ReadEnd;
+use crate::ending::PartsResult;
 use kt_base::{NoMemory, Text};
 use kt_claim::{ClaimReader, TapReader};
 use kt_os::{FileRead, Os};
@@ -19,7 +19,7 @@ pub(crate) trait PartReader {
     /// # Errors
     ///
     /// - `NoMemory`: an allocation fails.
-    fn take(&mut self, part: &[u8]) -> Result<(), NoMemory>
+    fn feed_next_part(&mut self, part: &[u8]) -> Result<(), NoMemory>
         ensures { OnOk result (TakesBytes has_taken self.old self.new part.now) };
 }
 
@@ -28,7 +28,7 @@ impl PartReader for ClaimReader {
 
     ghost has_taken = { λ reader bytes. HasRead reader bytes };
 
-    fn take(&mut self, part: &[u8]) -> Result<(), NoMemory> {
+    fn feed_next_part(&mut self, part: &[u8]) -> Result<(), NoMemory> {
         self.feed(part)
     }
 }
@@ -38,7 +38,7 @@ impl PartReader for TapReader {
 
     ghost has_taken = { λ reader bytes. HasStream reader bytes };
 
-    fn take(&mut self, part: &[u8]) -> Result<(), NoMemory> {
+    fn feed_next_part(&mut self, part: &[u8]) -> Result<(), NoMemory> {
         self.feed(part)
     }
 }
@@ -55,12 +55,12 @@ fn read_next_part<O: Os, R: PartReader>(
     limit: u64,
     reader: &mut R,
     got: &mut u64,
-) -> Option<ReadEnd>
+) -> Option<PartsResult>
     requires { got.old < limit }
     ensures asked { (answer : Result FileRead OsFault)
         × O.leads os.old (next_part_call path.now part limit got.old answer) os.new
         × IsReadEnd limit got.old answer result
-        × (result ≡ Some ReadEnd.Complete
+        × (result ≡ Some PartsResult.Complete
         → TakesBytes R.has_taken reader.old reader.new (bytes_of answer))
         × IfNone result (TakesBytes R.has_taken reader.old reader.new (bytes_of answer))
         × IfNone result (got.new ≡ got.old + length (bytes_of answer)) }
@@ -68,23 +68,23 @@ fn read_next_part<O: Os, R: PartReader>(
 {
     let room = limit - *got;
     match os.read_part(path, *got, part.min(room)) {
-        Err(_) => Some(ReadEnd::Unreadable),
-        Ok(FileRead::Missing) if *got == 0 => Some(ReadEnd::Missing),
-        Ok(FileRead::Missing) => Some(ReadEnd::Unreadable),
+        Err(_) => Some(PartsResult::Unreadable),
+        Ok(FileRead::Missing) if *got == 0 => Some(PartsResult::Missing),
+        Ok(FileRead::Missing) => Some(PartsResult::Unreadable),
         Ok(FileRead::Part(bytes, follows)) => {
-            // An empty part must not allocate, so `take` is not called.
-            if !bytes.is_empty() && reader.take(bytes.as_slice()).is_err() {
-                return Some(ReadEnd::Unreadable);
+            // An empty part must not allocate, so `feed_next_part` is not called.
+            if !bytes.is_empty() && reader.feed_next_part(bytes.as_slice()).is_err() {
+                return Some(PartsResult::Unreadable);
             }
             if !follows {
-                return Some(ReadEnd::Complete);
+                return Some(PartsResult::Complete);
             }
             if bytes.is_empty() {
-                return Some(ReadEnd::Unreadable);
+                return Some(PartsResult::Unreadable);
             }
             let count = bytes.len() as u64;
             if count >= room {
-                return Some(ReadEnd::TooLong);
+                return Some(PartsResult::TooLong);
             }
             *got += count;
             None
@@ -100,12 +100,12 @@ pub(crate) fn read_in_parts<O: Os, R: PartReader>(
     part: u64,
     limit: u64,
     reader: &mut R,
-) -> ReadEnd
+) -> PartsResult
     requires some { 0 < limit }
     requires none { R.has_taken reader.old [] }
     ensures { (calls : List Call) × (bytes : List ℕ) × Chain O.leads os.old calls os.new
         × Reads path.now part limit [] calls result bytes
-        × (result ≡ ReadEnd.Complete → R.has_taken reader.new bytes) }
+        × (result ≡ PartsResult.Complete → R.has_taken reader.new bytes) }
 {
     let mut got = 0;
     'parts: loop {

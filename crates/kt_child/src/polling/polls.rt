@@ -1,9 +1,9 @@
 ghost use Rattle.std.specs.Prelude.{◌≡◌, ℕ, ◌+◌, ◌*◌, ◌<◌, ◌≤◌, ◌^◌, [], ◌∷◌, Ok, Bool, Result, if◌then◌else◌, is_ok, List, All, IfSome, length, None};
-ghost use Rattle.kt_child.specs.Common.{OsFault, Polled, Running, Chain, Kill, AreRunningCounts, poll_calls, is_due, progress_after_poll, counts_after_running, Call, IsRunningChild, PollsAll, PollsUntil, PollsInTurns, children_after_running};
+ghost use Rattle.kt_child.specs.Common.{OsFault, ChildState, Running, Chain, Kill, AreRunningCounts, poll_calls, is_due, progress_after_poll, counts_after_running, Call, IsRunningChild, PollsAll, PollsUntil, PollsInTurns, children_after_running};
 
 use crate::polling::{ChildProgress, PollCounts, RunningChild};
 use kt_base::Outcome;
-use kt_os::{Child, Os, Polled};
+use kt_os::{Child, Os, ChildState};
 
 /// The number of polls that count as one second of a child's timeout (this profile).
 const POLLS_PER_SECOND: u64 = 100;
@@ -24,7 +24,7 @@ pub(crate) fn poll_once<O: Os>(
 ) -> ChildProgress
     requires in_range { limit ≤ 1000000 }
     requires watched { AreRunningCounts limit watch.old }
-    ensures asked { (answer : Result Polled OsFault) × (done : Bool)
+    ensures asked { (answer : Result ChildState OsFault) × (done : Bool)
         × Chain O.leads os.old (poll_calls child limit watch.old answer done) os.new
         × (result ≡ progress_after_poll limit watch.old answer done) }
     ensures watched { result ≡ ChildProgress.StillRunning
@@ -36,11 +36,11 @@ pub(crate) fn poll_once<O: Os>(
             let _ = os.kill(child);
             ChildProgress::Ended(Outcome::WaitFailed)
         }
-        Ok(Polled::Running) => count_running_poll(os, child, limit, watch),
+        Ok(ChildState::Running) => count_running_poll(os, child, limit, watch),
         // After a kill, any end of the child counts as a timeout.
         Ok(_) if watch.killed => ChildProgress::Ended(Outcome::TimedOut),
-        Ok(Polled::Exited(code)) => ChildProgress::Ended(Outcome::Exited(code)),
-        Ok(Polled::Signaled(signal, core)) => ChildProgress::Ended(Outcome::Signaled(signal, core)),
+        Ok(ChildState::Exited(code)) => ChildProgress::Ended(Outcome::Exited(code)),
+        Ok(ChildState::Signaled(signal, core)) => ChildProgress::Ended(Outcome::Signaled(signal, core)),
     }
 }
 
@@ -91,7 +91,7 @@ pub(crate) struct FinishedChild {
 
 /// Polls each running child once, in order, up to the first that has finished, and returns that
 /// child. Returns `None` if all are still running.
-fn turn<O: Os>(os: &mut O, children: &mut [RunningChild]) -> Option<FinishedChild>
+fn poll_each_once<O: Os>(os: &mut O, children: &mut [RunningChild]) -> Option<FinishedChild>
     requires { All IsRunningChild children.old }
     ensures none { result ≡ None → (calls : List Call) × Chain O.leads os.old calls os.new
         × PollsAll children.old calls }
@@ -127,7 +127,7 @@ pub(crate) fn poll_until_finished<O: Os>(os: &mut O, children: &mut [RunningChil
     ensures same { length children.new ≡ length children.old }
 {
     'turns: loop {
-        if let Some(over) = turn(os, children) {
+        if let Some(over) = poll_each_once(os, children) {
             return over;
         }
         let _ = os.pause();

@@ -3,16 +3,16 @@ use Rattle.std.specs.Prelude.{◌≡◌, ℕ, Bool, true, false, not, ◌&&◌, 
 use Rattle.kt_claim.specs.Bytes.{is_blank}
 use Rattle.std.specs.Option.{option_or}
 use Rattle.kt_claim.specs.TapStream.{without_cr, begins, says, without_leading, without_trailing_blanks, is_bail_out, is_word_end, is_test, is_unexcused, Directive, reason_of, directive_at, directive_in, is_plan_end, below_limit, planned_from, reason_of_skip, skip_reason, plan_for, plan}
-use Rattle.kt_claim.specs.declared.begun.LineProgress.{LineProgress}
-use Rattle.kt_claim.specs.declared.begun.LineProgress.TheVariants as begun
-use Rattle.kt_claim.specs.declared.begun.DirectivePrefix.{DirectivePrefix}
-use Rattle.kt_claim.specs.declared.begun.DirectivePrefix.TheVariants.{T, To, Tod, S, Sk, Ski}
-use Rattle.kt_claim.specs.declared.begun.LineKind.{LineKind}
-use Rattle.kt_claim.specs.declared.begun.LineKind.TheVariants as kind
-use Rattle.kt_claim.specs.declared.begun.Opening.{Opening}
-use Rattle.kt_claim.specs.declared.begun.Opening.TheVariants as opening
-use Rattle.kt_claim.specs.declared.begun.DirectivePurpose.{DirectivePurpose}
-use Rattle.kt_claim.specs.declared.begun.DirectivePurpose.TheVariants.{Excuse, Explain}
+use Rattle.kt_claim.specs.declared.open_line.LineProgress.{LineProgress}
+use Rattle.kt_claim.specs.declared.open_line.LineProgress.TheVariants as begun
+use Rattle.kt_claim.specs.declared.open_line.DirectivePrefix.{DirectivePrefix}
+use Rattle.kt_claim.specs.declared.open_line.DirectivePrefix.TheVariants.{T, To, Tod, S, Sk, Ski}
+use Rattle.kt_claim.specs.declared.open_line.LineKind.{LineKind}
+use Rattle.kt_claim.specs.declared.open_line.LineKind.TheVariants as kind
+use Rattle.kt_claim.specs.declared.open_line.Opening.{Opening}
+use Rattle.kt_claim.specs.declared.open_line.Opening.TheVariants as opening
+use Rattle.kt_claim.specs.declared.open_line.DirectivePurpose.{DirectivePurpose}
+use Rattle.kt_claim.specs.declared.open_line.DirectivePurpose.TheVariants.{Excuse, Explain}
 
 -- `Facts`: the facts of a TAP line that affect the result of its stream. The line may bail out, be
 -- a test, be a failed test without a directive, and have a plan.

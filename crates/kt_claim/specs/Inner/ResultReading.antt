@@ -9,12 +9,12 @@ use Rattle.kt_claim.specs.ResultFile.{limit, line}
 use Rattle.kt_claim.specs.declared.evidence.Claim.{Claim}
 use Rattle.kt_claim.specs.declared.evidence.Claim.TheVariants as claim
 use Rattle.kt_claim.specs.declared.evidence.ClaimFault.TheVariants.{TooLong, Empty, NoNewline, SeveralLines, UnknownWord, BadNumber, UnexpectedReason, NoReason}
-use Rattle.kt_claim.specs.declared.result_line.Word.{Word}
-use Rattle.kt_claim.specs.declared.result_line.Word.TheVariants.{Passed, Failed, Skipped, ExpectedDeath, ExpectedFailure, ExpectedTimeout, ExpectedExit, ExpectedSignal}
+use Rattle.kt_claim.specs.declared.result_line.Keyword.{Keyword}
+use Rattle.kt_claim.specs.declared.result_line.Keyword.TheVariants.{Passed, Failed, Skipped, ExpectedDeath, ExpectedFailure, ExpectedTimeout, ExpectedExit, ExpectedSignal}
 
 -- `keyword_of w`: the keyword that is spelled `w`, or `None` if `w` is not one of the eight
 -- keywords.
-unfoldable pub keyword_of : List ℕ → Option Word
+unfoldable pub keyword_of : List ℕ → Option Keyword
 keyword_of w =
     if bytes_eq w (codes "passed") then Some Passed
     else if bytes_eq w (codes "failed") then Some Failed
@@ -27,7 +27,7 @@ keyword_of w =
     else None
 
 -- `claim_with_reason w r`: the claim of the keyword `w` with the reason `r` and no number.
-abbrev pub claim_with_reason : Word → List ℕ → Claim
+abbrev pub claim_with_reason : Keyword → List ℕ → Claim
 claim_with_reason Passed _ = claim.Passed
 claim_with_reason Failed r = claim.Failed r
 claim_with_reason Skipped r = claim.Skipped r
@@ -39,7 +39,7 @@ claim_with_reason ExpectedSignal r = claim.ExpectedSignal None r
 
 -- `claim_with_number w n r`: the claim of the keyword `w` with the number `n` and the reason `r`.
 -- It is `Malformed BadNumber` if `w` may not have a number.
-abbrev pub claim_with_number : Word → ℕ → List ℕ → Claim
+abbrev pub claim_with_number : Keyword → ℕ → List ℕ → Claim
 claim_with_number ExpectedExit n r = claim.ExpectedExit (Some n) r
 claim_with_number ExpectedSignal n r = claim.ExpectedSignal (Some n) r
 claim_with_number _ n r = claim.Malformed BadNumber
@@ -75,36 +75,36 @@ number_in rest = number_before_bracket (byte_value (take (prefix_len is_digit re
 
 -- `claim_from_number w found`: the claim of the keyword `w` with the number `found.0` and the
 -- reason in the bytes `found.1`. It is `Malformed BadNumber` if `found` is `None`.
-abbrev pub claim_from_number : Word → Option (ℕ × List ℕ) → Claim
+abbrev pub claim_from_number : Keyword → Option (ℕ × List ℕ) → Claim
 claim_from_number w None = claim.Malformed BadNumber
 claim_from_number w (Some found) = claim_from_reason (claim_with_number w found.0) (reason_in found.1)
 
 -- `may_have_number w`: the keyword `w` may have a number.
-abbrev pub may_have_number : Word → Bool
+abbrev pub may_have_number : Keyword → Bool
 may_have_number ExpectedExit = true
 may_have_number ExpectedSignal = true
 may_have_number _ = false
 
 -- `claim_after_bracket w rest`: the claim of a line of the keyword `w`, an opening bracket and
 -- `rest`.
-abbrev pub claim_after_bracket : Word → List ℕ → Claim
+abbrev pub claim_after_bracket : Keyword → List ℕ → Claim
 claim_after_bracket w rest = if may_have_number w then claim_from_number w (number_in rest) else claim.Malformed BadNumber
 
 -- `claim_without_bracket w rest`: the claim of a line that consists of the keyword `w` and the
 -- bytes `rest`, which don't begin with an opening bracket.
-abbrev pub claim_without_bracket : Word → List ℕ → Claim
+abbrev pub claim_without_bracket : Keyword → List ℕ → Claim
 claim_without_bracket Passed [] = claim.Passed
 claim_without_bracket Passed (_ ∷ _) = claim.Malformed UnexpectedReason
 claim_without_bracket w rest = claim_from_reason (claim_with_reason w) (reason_in rest)
 
 -- `claim_after w rest`: the claim of a line that consists of the keyword `w` and the bytes `rest`.
-abbrev pub claim_after : Word → List ℕ → Claim
+abbrev pub claim_after : Keyword → List ℕ → Claim
 claim_after w [] = claim_without_bracket w []
 claim_after w (b ∷ rest) = if b == 40 then claim_after_bracket w rest else claim_without_bracket w (b ∷ rest)
 
 -- `claim_of_keyword w rest`: the claim of a line that consists of the keyword `w` and the bytes
 -- `rest`. It is `Malformed UnknownWord` if `w` is `None`.
-abbrev pub claim_of_keyword : Option Word → List ℕ → Claim
+abbrev pub claim_of_keyword : Option Keyword → List ℕ → Claim
 claim_of_keyword None rest = claim.Malformed UnknownWord
 claim_of_keyword (Some w) rest = claim_after w rest
 

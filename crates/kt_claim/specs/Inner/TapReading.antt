@@ -4,7 +4,7 @@ use Rattle.std.specs.List.{list_any, filter_map}
 use Rattle.kt_base.specs.Lines.{is_newline, lines}
 use Rattle.kt_claim.specs.Inner.LineStates.{LineState, IsStateAfter}
 use Rattle.kt_claim.specs.TapStream.{is_bail_out, is_test, is_unexcused, plan, count, lines_before_bail_out, without_cr}
-use Rattle.kt_claim.specs.declared.begun.OpenLine.{OpenLine}
+use Rattle.kt_claim.specs.declared.open_line.OpenLine.{OpenLine}
 use Rattle.kt_claim.specs.declared.tally.Tally.{Tally}
 
 -- `one b`: 1 if `b` is true, otherwise 0.

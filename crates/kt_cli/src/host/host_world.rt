@@ -139,7 +139,7 @@ fn read_and_peek<M: HostFiles>(machine: &mut M, path: &str) -> Result<Bytes, Rea
     ensures answered { M.answers machine.old (ReadsFile path.now (file_answer result)) machine.new }
     ensures short { IsWithinReadLimit result }
 {
-    match machine.front(path) {
+    match machine.read_start(path) {
         Ok(bytes) => Ok(bytes),
         Err(fault) => Err(read_fault(fault)),
     }

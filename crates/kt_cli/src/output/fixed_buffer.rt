@@ -1,7 +1,7 @@
 ghost use Rattle.std.specs.Prelude.{◌≡◌, ◌<◌, ◌≤◌, ◌+◌, ◌++◌, [], true, false, length};
 ghost use Rattle.std.specs.Io.KnownBytes.{Keeps, append_known};
 
-use kt_base::send;
+use kt_base::write_until_failure;
 use std::io::Write;
 use std::marker::Model;
 
@@ -68,7 +68,7 @@ impl FixedBuffer {
         ensures short { result ≡ true → 0 < length self.new }
     {
         let count = self.count;
-        let (sent, failed) = send(&self.room[..count], out);
+        let (sent, failed) = write_until_failure(&self.room[..count], out);
         self.room.copy_within(sent..count, 0);
         self.count = count - sent;
         failed

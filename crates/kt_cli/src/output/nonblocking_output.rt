@@ -1,6 +1,6 @@
 use crate::NonblockingWriter;
 use crate::output::backlog::Backlog;
-use kt_base::send;
+use kt_base::write_until_failure;
 use std::alloc::Global;
 use std::io;
 use std::io::{ErrorKind, Write};
@@ -126,7 +126,7 @@ impl<W: NonblockingWriter> NonblockingOutput<W> {
         ensures all { result ≡ false → unsent_bytes self.new ≡ [] }
         ensures few { length (unsent_bytes self.new) ≤ length (unsent_bytes self.old) }
     {
-        let (sent, failed) = send(self.held.as_slice(), &mut self.out);
+        let (sent, failed) = write_until_failure(self.held.as_slice(), &mut self.out);
         self.held.advance(sent);
         self.failed = failed;
         failed

@@ -5,7 +5,7 @@ use Rattle.std.specs.IoError.{error_kind}
 use Rattle.std.specs.declared.io.Error.{Error}
 use Rattle.std.specs.declared.io.ErrorKind.TheVariants.{NotFound}
 use Rattle.std.specs.declared.process.status.ExitStatus.{ExitStatus}
-use Rattle.kt_os.specs.Types.{Child, Exited, FileRead, Missing, OsFault, Part, Polled, Running, Signaled}
+use Rattle.kt_os.specs.Types.{Child, Exited, FileRead, Missing, OsFault, Part, ChildState, Running, Signaled}
 use Rattle.kt_os.specs.Host.ProcessStates.{ProcessState, Proceeds, AllProceed, AllStay, OthersStay}
 use Rattle.kt_os.specs.System.Reads.{IsReadWithin}
 use Rattle.kt_os.specs.System.Calls.{Call, SetLimit, OpenOutput, Spawn, Poll, Kill, Pause, ReadFile, ReadPart}
@@ -52,7 +52,7 @@ IsNotMissing answer = Unit {0}
 -- reports (wait(2)). If its low 7 bits are 0, the child exited, and bits 8 to 15 are the exit
 -- status. Otherwise the low 7 bits are the signal that ended the child, and bit 7 reports a core
 -- dump. If the low 7 bits are 127, the child has not ended, and `result` is an error.
-abbrev pub DecodesWaitStatus : ℕ → Result Polled OsFault → Type 0
+abbrev pub DecodesWaitStatus : ℕ → Result ChildState OsFault → Type 0
 DecodesWaitStatus bits (Ok Running) = ⊥
 DecodesWaitStatus bits (Ok (Exited code)) = (bits % 128 ≡ 0) × (code ≡ bits / 256 % 256)
 DecodesWaitStatus bits (Ok (Signaled signal core)) =
@@ -65,7 +65,7 @@ DecodesWaitStatus bits (Err _) = bits % 128 ≡ 127
 -- the poll reports this status. In `new`, `child` has no process, and the other states are
 -- unchanged. `IsLast` is the relation of the last reported end: it is true of `child` and the wait
 -- status.
-abbrev pub ReportsEnd : Child → (Child → ProcessState) → Result Polled OsFault → (Child → ProcessState) → (Child → ExitStatus → Type 0) → Type 0
+abbrev pub ReportsEnd : Child → (Child → ProcessState) → Result ChildState OsFault → (Child → ProcessState) → (Child → ExitStatus → Type 0) → Type 0
 ReportsEnd child old answer new IsLast =
     (status : ExitStatus) × IsSome (old child) × Proceeds (old child) (Some (Some status)) × DecodesWaitStatus (status_bits status) answer
     × IsLast child status × (new child ≡ None) × OthersStay child old new
@@ -75,7 +75,7 @@ ReportsEnd child old answer new IsLast =
 -- running. If the end of this process is known, `late`, the result of the last check for late
 -- children, must be `Some true`. A failed poll may remove the child. `IsLast` is true of the child
 -- and status of the last reported end.
-abbrev pub HostPolls : Child → (Child → ProcessState) → Result Polled OsFault → (Child → ProcessState) → (Child → ExitStatus → Type 0) → Option Bool → Type 0
+abbrev pub HostPolls : Child → (Child → ProcessState) → Result ChildState OsFault → (Child → ProcessState) → (Child → ExitStatus → Type 0) → Option Bool → Type 0
 HostPolls child old (Ok Running) new IsLast late = IsSome (old child) × (late ≢ Some true → old child ≡ Some None) × AllStay old new
 HostPolls child old (Err fault) new IsLast late = (Proceeds (old child) (new child) ⊎ (new child ≡ None)) × OthersStay child old new
 HostPolls child old answer new IsLast late = ReportsEnd child old answer new IsLast

@@ -5,11 +5,11 @@ ghost use Rattle.kt_os.specs.Common.{AllProceed, AllStay, OthersStay, IsLateChec
 
 use crate::host::command::ProgramStart;
 use crate::host::host_child::HostChild;
-use crate::host::pace::{NEWEST_CHILDREN, PAUSE_MICROS, is_due, next_slice_micros};
+use crate::host::pace::{NEWEST_CHILDREN, PAUSE_MICROS, is_time_to_check, next_slice_micros};
 use crate::{Child, OsFault};
 use indexmap::IndexMap;
 use kt_base::NoMemory;
-use kt_removal::{Removals, rest};
+use kt_removal::{Removals, empty_queue_or_sleep};
 use std::fs::File;
 use std::process::{OpenProcess, Processes};
 use std::rt::{Clock, Files};
@@ -169,9 +169,9 @@ pub(crate) fn await_end<P: OpenProcess + Drop, R: Files + Clock + AllocGlobal>(
     let mut rested = 0;
     while rested < PAUSE_MICROS {
         let slice = next_slice_micros(children.len(), pauses, rested);
-        let spent = rest(removals, rt, slice);
+        let spent = empty_queue_or_sleep(removals, rt, slice);
         rested = rested.saturating_add(spent).min(PAUSE_MICROS);
-        let due = is_due(
+        let due = is_time_to_check(
             children.len(),
             pauses,
             rested,

@@ -69,7 +69,7 @@ impl<P: OpenProcess + Drop> HostChild<P> {
             err: None,
             kept: None,
             process: None,
-            pace: Pace::begun(limit, clock),
+            pace: Pace::from_now(limit, clock),
             seen: false,
         }
     }
@@ -120,7 +120,7 @@ impl<P: OpenProcess + Drop> HostChild<P> {
         );
         drop(self.process.replace(spawn(rt, asked, out, err)?));
         self.kept = Some(kept);
-        self.pace = Pace::begun(self.pace.limit, rt);
+        self.pace = Pace::from_now(self.pace.limit, rt);
         Ok(())
     }
 
@@ -220,7 +220,7 @@ impl<P: OpenProcess + Drop> HostChild<P> {
             Some(process) => into_os_result(process.kill())?,
             None => return Err(OsFault::Failed),
         }
-        self.pace = Pace::begun(KILLED_LIMIT_SECONDS, clock);
+        self.pace = Pace::from_now(KILLED_LIMIT_SECONDS, clock);
         Ok(())
     }
 

@@ -7,7 +7,7 @@ use crate::host::host_child::HostChild;
 use crate::host::outputs::{Rights, create_directory, create_output, create_root};
 use crate::host::reads::{open_regular_file, open_unleased_file, read_open_file};
 use crate::host::{children, into_os_result, os_fault_of};
-use crate::{Child, EnvPlan, FileRead, Os, OsFault, Polled};
+use crate::{Child, EnvPlan, FileRead, Os, OsFault, ChildState};
 use kt_base::{Items, Text};
 use kt_removal::Removals;
 use std::fs::File;
@@ -58,18 +58,18 @@ pub struct HostOs<R: Processes, B> {
 
 /// Returns the exit status or the signal in the wait status `status` of a child. Fails if the wait
 /// status has neither.
-fn polled(status: ExitStatus) -> Result<Polled, OsFault>
+fn decode_wait_status(status: ExitStatus) -> Result<ChildState, OsFault>
     ensures { DecodesWaitStatus (status_bits status) result }
 {
     if let Some(code) = status.code() {
         let code = u8::try_from(code).or(Err(OsFault::Failed))?;
-        return Ok(Polled::Exited(code));
+        return Ok(ChildState::Exited(code));
     }
     if let Some(signal) = status.signal() {
         let signal = u8::try_from(signal).or(Err(OsFault::Failed))?;
         // Bit 7 of a wait status reports a core dump (wait(2)).
         let core = status.into_raw().cast_unsigned() / 128 % 2 == 1;
-        return Ok(Polled::Signaled(signal, core));
+        return Ok(ChildState::Signaled(signal, core));
     }
     Err(OsFault::Failed)
 }
@@ -193,19 +193,19 @@ where
         launched
     }
 
-    fn poll(&mut self, child: Child) -> Result<Polled, OsFault> {
+    fn poll(&mut self, child: Child) -> Result<ChildState, OsFault> {
         let late = self.check_late_children();
         let Some(held) = self.children.get_mut(&child) else {
             return Err(OsFault::Failed);
         };
         match held.poll(late, &self.rt) {
             Err(fault) => Err(fault),
-            Ok(None) => Ok(Polled::Running),
+            Ok(None) => Ok(ChildState::Running),
             Ok(Some(status)) => {
                 self.late = None;
                 self.last = children::remove_child(&mut self.children, child);
                 self.quiet = 0;
-                polled(status)
+                decode_wait_status(status)
             }
         }
     }

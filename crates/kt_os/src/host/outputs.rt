@@ -160,7 +160,7 @@ pub(crate) fn create_root<R: Files + AllocGlobal>(
             return Err(fault);
         }
     };
-    let removals = into_os_result(Removals::begin(rt, root, place))?;
+    let removals = into_os_result(Removals::new(rt, root, place))?;
     Ok((removals, rights))
 }
 

@@ -53,7 +53,7 @@ pub(crate) fn next_slice_micros(children: usize, pauses: u32, micros: u64) -> u6
 /// `micros` is the part of the pause that has passed, and `unlooked` the part since the last check
 /// of all children, both in microseconds. `pauses` is the number of pauses since a child last
 /// ended.
-pub(crate) fn is_due(children: usize, pauses: u32, micros: u64, unlooked: u64) -> bool
+pub(crate) fn is_time_to_check(children: usize, pauses: u32, micros: u64, unlooked: u64) -> bool
     requires { micros ≤ 10000 }
     ensures { IsTrue result ↔ (check_interval_micros children (10000 * pauses + micros) ≤ unlooked) }
 {
@@ -84,7 +84,7 @@ const MISSED_POLLS_ALLOWED: u128 = 2;
 impl Pace {
     /// Creates the pace of a child that is created, started or killed now. `limit` is its timeout
     /// in seconds.
-    pub(crate) fn begun<C: Clock>(limit: u64, clock: &C) -> Pace
+    pub(crate) fn from_now<C: Clock>(limit: u64, clock: &C) -> Pace
         ensures limit { result.limit ≡ limit }
         ensures answers { result.answers ≡ 0 }
     {

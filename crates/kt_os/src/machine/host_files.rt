@@ -21,7 +21,7 @@ pub trait HostFiles {
     /// - `Missing`: there is no such file.
     /// - `Failed`: the path is not a regular file, or the read fails.
     /// - `Memory`: an allocation fails.
-    fn front(&mut self, path: &str) -> Result<Bytes, FileFault>
+    fn read_start(&mut self, path: &str) -> Result<Bytes, FileFault>
         ensures answered { answers self.old (ReadsFile path.now result) self.new }
         ensures short { IfOk result (λ bytes. length bytes ≤ read_limit) };
 

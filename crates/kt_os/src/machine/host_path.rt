@@ -7,7 +7,7 @@ pub const MAX_PATH_BYTES: usize = 4_095;
 /// Copies `piece` into the buffer `room` at index `from`, and returns the index after the copy.
 ///
 /// Returns `None` if the buffer is too short.
-fn put(room: &mut [u8], from: usize, piece: &str) -> Option<usize>
+fn copy_to_buffer(room: &mut [u8], from: usize, piece: &str) -> Option<usize>
     requires { from ≤ length room.old }
     ensures within { IfSome result (λ end. end ≤ length room.new) }
     ensures length { length room.new ≡ length room.old }
@@ -39,8 +39,8 @@ pub fn join_path<'a>(
     ensures long { IfNone result (longest_path
         < length directory.now + (length between.now + length name.now)) }
 {
-    let from = put(room, 0, directory)?;
-    let from = put(room, from, between)?;
-    let end = put(room, from, name)?;
+    let from = copy_to_buffer(room, 0, directory)?;
+    let from = copy_to_buffer(room, from, between)?;
+    let end = copy_to_buffer(room, from, name)?;
     str::from_utf8(&room[..end]).ok()
 }

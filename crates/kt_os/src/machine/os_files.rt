@@ -49,7 +49,7 @@ impl<R: Files<File = File> + Clock + AllocGlobal> HostFiles for OsFiles<'_, R> {
     // is trivial.
     ghost answers = { λ _ _ _. Unit {0} };
 
-    fn front(&mut self, path: &str) -> Result<Bytes, FileFault> {
+    fn read_start(&mut self, path: &str) -> Result<Bytes, FileFault> {
         match fs::metadata(self.rt, path) {
             Ok(metadata) if metadata.is_file() => {}
             Ok(_) => return Err(FileFault::Failed),

@@ -54,7 +54,7 @@ fn decode_variable(
 /// Reads the environment variable `name` with the buffer `room`.
 ///
 /// Returns `None` if the variable is not set, is not UTF-8 or is longer than the buffer.
-fn variable<R: Env + AllocGlobal>(
+fn read_variable<R: Env + AllocGlobal>(
     rt: &R,
     name: &str,
     room: &mut [u8],
@@ -100,8 +100,8 @@ impl ProcessEnv {
         ensures user { IfOk result (λ around. IsVariableValue around.user) }
     {
         let mut room = vec![in rt.alloc(); 0u8; MAX_VARIABLE_BYTES]?;
-        let path = variable(rt, "PATH", &mut room)?;
-        let user = variable(rt, "USER", &mut room)?;
+        let path = read_variable(rt, "PATH", &mut room)?;
+        let user = read_variable(rt, "USER", &mut room)?;
         Ok(ProcessEnv { here, path, user })
     }
 
@@ -127,7 +127,7 @@ impl ProcessEnv {
         ensures { result ≡ is_root self.now.user }
     {
         match &self.user {
-            Some(user) => user.is_word("root"),
+            Some(user) => user.is_equal_to("root"),
             None => false,
         }
     }

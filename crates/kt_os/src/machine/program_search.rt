@@ -19,7 +19,7 @@ fn has_program<M: HostFiles>(machine: &mut M, directory: &str, name: &str) -> bo
 
 /// Returns `true` if a directory in `among`, a list separated by colons, has an executable regular
 /// file `name`.
-fn is_among<M: HostFiles>(machine: &mut M, among: &str, name: &str) -> bool
+fn is_program_in_path<M: HostFiles>(machine: &mut M, among: &str, name: &str) -> bool
     ensures { SearchesDirectories M.answers name.now (directories among.now) result machine.old
         machine.new }
 {
@@ -49,7 +49,7 @@ pub fn is_program_found<M: HostFiles>(machine: &mut M, path: &Option<Text>, name
         return false;
     }
     match path {
-        Some(among) => is_among(machine, among.as_str(), word),
+        Some(among) => is_program_in_path(machine, among.as_str(), word),
         None => false,
     }
 }

@@ -61,7 +61,7 @@ pub enum FileRead {
 
 /// A state of a child, as the system reports it.
 #[derive(Clone, Copy)]
-pub enum Polled {
+pub enum ChildState {
     /// The child is running.
     Running,
     /// The child exited with this exit status.

@@ -1,4 +1,4 @@
-use crate::{Child, EnvPlan, FileRead, OsFault, Polled};
+use crate::{Child, EnvPlan, FileRead, OsFault, ChildState};
 use kt_base::{Items, Text};
 
 /// An interface to the system: processes, files and a clock. The relation `leads` describes each
@@ -71,7 +71,7 @@ pub trait Os {
     ///
     /// - `Failed`: the child was not started, or its state can't be read.
     /// - `Memory`: an allocation fails.
-    fn poll(&mut self, child: Child) -> Result<Polled, OsFault>
+    fn poll(&mut self, child: Child) -> Result<ChildState, OsFault>
         ensures { leads self.old (Poll child result) self.new };
 
     /// Kills a child. The child can still be polled.

@@ -91,7 +91,7 @@ fn probe_case_needs<W: World>(
 {
     let props = &candidate.case.props;
     for need in needs_to_check(candidate) {
-        probe_needs(*need, props.needed(*need), world, host)?;
+        probe_needs(*need, props.required_objects(*need), world, host)?;
     }
     Ok(())
 }

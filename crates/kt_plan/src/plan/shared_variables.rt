@@ -53,7 +53,7 @@ impl SharedVariables {
         ensures variables { IfOk result (λ shared.
             shared.variables ≡ variables_for config.now suite.now) }
     {
-        if self.suite.is_word(suite.as_str()) {
+        if self.suite.is_equal_to(suite.as_str()) {
             return Ok(self);
         }
         let other = SharedVariables::of(alloc, config, suite)?;

@@ -8,8 +8,8 @@ use Rattle.kt_script.specs.declared.state.Table.{Table}
 use Rattle.kt_script.specs.declared.state.State.{State}
 use Rattle.kt_script.specs.Grammar.{pair}
 use Rattle.kt_script.specs.declared.state.State.TheVariants.{AfterName, AfterParen, AfterArgument, Pairs, AfterKeyBracket, AfterKeyString, AfterKey, AfterKeyEquals, AfterPair, AfterDot, AfterPathBracket, AfterPathString, AfterPath, AfterPathEquals}
-use Rattle.kt_script.specs.declared.state.Step.{Step}
-use Rattle.kt_script.specs.declared.state.Step.TheVariants.{Advance, Accept}
+use Rattle.kt_script.specs.declared.state.Transition.{Transition}
+use Rattle.kt_script.specs.declared.state.Transition.TheVariants.{Advance, Accept}
 
 -- `literal_of kind`: the literal that a token of the kind `kind` represents, or nothing if such a
 -- token is not a literal.
@@ -21,7 +21,7 @@ literal_of _ = None
 
 -- `closed t`: the transition for the `}` that closes the table `t`. If the table is in parentheses,
 -- a `)` must follow. Otherwise, the statement is complete.
-abbrev pub closed : Table → Step
+abbrev pub closed : Table → Transition
 closed t = if t.in_parens then Advance (AfterArgument (Call t.name (arg.Table t.pairs))) else Accept (Call t.name (arg.Table t.pairs))
 
 -- `with_pair t key v`: the table `t` with a pair of the key `key` and the value `v` appended.
@@ -30,7 +30,7 @@ with_pair t key v = record t { pairs = t.pairs ++ pair key v ∷ [] }
 
 -- `step q kind`: the transition from the state `q` for a token of the kind `kind`. Nothing if the
 -- grammar does not allow such a token in `q`.
-abbrev pub step : State → TokenKind → Option Step
+abbrev pub step : State → TokenKind → Option Transition
 step (AfterName n) (Quoted t) = Some (Accept (Call n (arg.Value (literal.Text t))))
 step (AfterName n) OpenParen = Some (Advance (AfterParen n))
 step (AfterName n) OpenBrace = Some (Advance (Pairs (record { name = n; in_parens = false; pairs = [] })))
@@ -78,7 +78,7 @@ transition_after_statement line kind = begin_statement line kind
 -- `transition_of_step line s`: the transition for the step `s` in the statement that begins on the
 -- line `line`. It consists of the position in the grammar after the step, and of the statement if
 -- the step completes it.
-abbrev pub transition_of_step : ℕ → Step → ScriptState × Option Stmt
+abbrev pub transition_of_step : ℕ → Transition → ScriptState × Option Stmt
 transition_of_step line (Advance q) = (InStatement line q, None)
 transition_of_step line (Accept a) = (AfterStatement, Some (record { line = line; action = a }))
 

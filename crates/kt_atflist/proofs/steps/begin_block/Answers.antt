@@ -3,12 +3,12 @@ use Rattle.kt_atflist.proofs.Common.{is_listed}
 use Rattle.kt_atflist.proofs.Blocks.{among-names}
 use Rattle.kt_atflist.proofs.steps.begin_block.Goals as goal
 
-pub returns-then-has : goal.returns-then-has
-returns-then-has c =
-    let t : is_listed c.args.cases c.args.name ≡ true = sym (among-names c.args.name c.args.names c.args.cases c.requires) ∙ sym c.has.ensures ∙ c.if-has.true in
+pub returns-then-contains : goal.returns-then-contains
+returns-then-contains c =
+    let t : is_listed c.args.cases c.args.name ≡ true = sym (among-names c.args.name c.args.names c.args.cases c.requires) ∙ sym c.contains.ensures ∙ c.if-contains.true in
     rw t refl
 
 pub returns : goal.returns
 returns c =
-    let t : is_listed c.args.cases c.args.name ≡ false = sym (among-names c.args.name c.args.names c.args.cases c.requires) ∙ sym c.has.ensures ∙ c.if-has.false in
+    let t : is_listed c.args.cases c.args.name ≡ false = sym (among-names c.args.name c.args.names c.args.cases c.requires) ∙ sym c.contains.ensures ∙ c.if-contains.false in
     rw (t, c.new.ensures) refl

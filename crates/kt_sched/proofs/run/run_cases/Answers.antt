@@ -26,13 +26,13 @@ loop-i-preserved-in-Start g c =
     let e = c.in-Start.ensures in
     let s = c.start-answer.ensures in
     loop_start c.requires.plan c.loop-i.invariant c.in-Start.i c.in-Start.role e.next e.follows _ e.stands c.job.result.now c.job.ensures
-    c.start-answer.result c.start-answer.new.self _ s.leads s.moment s.running s.pending c.started.ensures
+    c.start-answer.result c.start-answer.new.self _ s.leads s.moment s.running s.pending c.record_start.ensures
 
 pub wait-ended-requires : goal.wait-ended-requires
 wait-ended-requires g c = loop_may_wait c.requires.plan c.loop-i.invariant c.in-Wait.ensures.follows
 
-pub ended-requires-clause-runs : goal.ended-requires-clause-runs
-ended-requires-clause-runs g c =
+pub record_end-requires-clause-runs : goal.record_end-requires-clause-runs
+record_end-requires-clause-runs g c =
     loop_runs c.requires.plan c.loop-i.invariant c.wait-ended.result c.wait-ended.ensures.one_that_ran _ c.in-Wait.ensures.stands
 
 pub loop-i-preserved-in-Wait : goal.loop-i-preserved-in-Wait
@@ -40,10 +40,10 @@ loop-i-preserved-in-Wait g c =
     let e = c.in-Wait.ensures in
     let w = c.wait-ended.ensures in
     loop_end c.requires.plan c.loop-i.invariant c.wait-ended.result w.one_that_ran _ e.stands c.wait-ended.new.self _ e.next w.leads
-    w.moment w.running w.pending c.ended.ensures
+    w.moment w.running w.pending c.record_end.ensures
 
-pub counted-more-requires : goal.counted-more-requires
-counted-more-requires g c = loop_can_count c.requires.plan c.loop-i.invariant c.in-Put.i c.in-Put.ensures.next c.in_ok-sched.ensures.room
+pub count_entry-more-requires : goal.count_entry-more-requires
+count_entry-more-requires g c = loop_can_count c.requires.plan c.loop-i.invariant c.in-Put.i c.in-Put.ensures.next c.in_ok-sched.ensures.room
 
 pub put-requires : goal.put-requires
 put-requires g c =
@@ -54,15 +54,15 @@ pub loop-i-preserved-in-Ok : goal.loop-i-preserved-in-Ok
 loop-i-preserved-in-Ok g c =
     let e = c.in-Put.ensures in
     let y = c.take-entry.ensures in
-    let f = c.put-in-Ok.ensures in
+    let f = c.record_put.ensures in
     loop_put c.requires.plan c.loop-i.invariant c.in-Put.i e.next _ e.stands c.take-entry.result y.entry _ _ y.stands f.asked c.put.new.self
-    _ (c.counted-more.ensures ∙ ap (counted c.loop-i.totals) c.kind.ensures) c.in-Ok.ensures.leads c.in-Ok.ensures.ok f.stands
+    _ (c.count_entry-more.ensures ∙ ap (counted c.loop-i.totals) c.kind.ensures) c.in-Ok.ensures.leads c.in-Ok.ensures.ok f.stands
 
 pub loop-i-preserved : goal.loop-i-preserved
 loop-i-preserved g c =
     let e = c.in-Put.ensures in
     let y = c.take-entry.ensures in
-    let f = c.put-in-Err.ensures in
+    let f = c.record_put-in-Err.ensures in
     loop_failed c.requires.plan c.loop-i.invariant c.in-Put.i e.next _ e.stands c.take-entry.result y.entry _ _ y.stands f.asked c.put.new.self
     c.in-Err.cause c.in-Err.ensures.leads c.in-Err.ensures.err f.stands
 

@@ -3,7 +3,7 @@ use Rattle.kt_suite.proofs.OneStep.{adds_missing, adds_too_many, adds_short, add
 use Rattle.kt_suite.proofs.stepping.register_program.Goals as goal
 
 pub returns-in-Err : goal.returns-in-Err
-returns-in-Err g c = adds_unasked g.T.Tree.asks _ _ c.args.registry _ _ (c.in-Err.refusal, c.no_memory.ensures)
+returns-in-Err g c = adds_unasked g.T.Tree.asks _ _ c.args.registry _ _ (c.in-Err.refusal, c.fault_of_allocation.ensures)
 
 pub returns-then-not-exists : goal.returns-then-not-exists
 returns-then-not-exists g c =
@@ -15,7 +15,7 @@ returns-then-len-ge-PROGRAM_LIMIT g c =
     (adds_too_many g.T.Tree.asks _ _ (record { file = c.args.file.now; line = c.args.line }) _ _ _ _ c.exists.ensures (search rules) (search rules) c.fault_at-then-len-ge-PROGRAM_LIMIT.ensures)
 
 pub returns-in-Err-push : goal.returns-in-Err-push
-returns-in-Err-push g c = rw (sym c.in-Ok.ensures) (adds_short g.T.Tree.asks _ _ _ _ _ _ _ c.exists.ensures (c.in-Err-push.refusal, c.no_memory-in-Err-push.ensures))
+returns-in-Err-push g c = rw (sym c.in-Ok.ensures) (adds_short g.T.Tree.asks _ _ _ _ _ _ _ c.exists.ensures (c.in-Err-push.refusal, c.fault_of_allocation-in-Err-push.ensures))
 
 pub returns-in-Ok-push : goal.returns-in-Ok-push
 returns-in-Ok-push g c = rw (sym c.in-Ok.ensures) (adds_one g.T.Tree.asks _ _ _ _ _ _ _ c.exists.ensures (search rules) (search rules) (search rules))

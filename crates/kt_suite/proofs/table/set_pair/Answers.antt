@@ -1,6 +1,6 @@
 use Rattle.std.proofs.Common.{Result, IfOk, rules, ◌≡◌, refl, ap, subst}
 use Rattle.kt_suite.proofs.Common.{filter, text_of, SuiteCause, ProgramTable, key_named, is_property}
-use Rattle.kt_suite.specs.declared.table.Key.TheVariants as key
+use Rattle.kt_suite.specs.declared.table.KeyKind.TheVariants as key
 use Rattle.kt_suite.proofs.Tables.{takes_name, takes_suite, takes_property}
 use Rattle.kt_suite.proofs.table.set_pair.Goals as goal
 

@@ -9,4 +9,4 @@ returns-in-Signaled c =
     signaled_text _ c.text-in-Signaled.result.now _ c.args.phrase c.args.ending c.in-Signaled.signal c.in-Signaled.core c.one_number_parts-in-Signaled.ensures c.text-in-Signaled.ensures c.core_dump_text.ensures c.in-Signaled.is
 
 pub returns-in_default : goal.returns-in_default
-returns-in_default c = unended_text _ c.text-in_default.result.now c.args.phrase c.args.ending c.words.ensures c.text-in_default.ensures c.in_default.not-Exited c.in_default.not-Signaled
+returns-in_default c = unended_text _ c.text-in_default.result.now c.args.phrase c.args.ending c.from_text.ensures c.text-in_default.ensures c.in_default.not-Exited c.in_default.not-Signaled

@@ -10,7 +10,7 @@ returns-in-Err g c =
 pub returns : goal.returns
 returns g c =
     let t = c.spawn_in_work_dir-tried.ensures in
-    let u = c.remove_dir_if.ensures in (
+    let u = c.remove_dir_if_requested.ensures in (
       MakeDir c.args.plan.now.dir (Ok tt) ∷ (t.0 ++ u.0),
       (_, c.in_default.ensures, chain_append g.O.Os.leads _ _ _ t.0 u.0 t.1 u.1),
       inr (t.0 ++ u.0, refl, (t.0, u.0, refl, t.2, rw c.is_err.ensures.value at u.2)),

@@ -9,7 +9,7 @@ returns-clause-left g c =
     let r = c.read_evidence-evidence.ensures.gathered in
     let o = c.read_child_output-out.ensures.asked in
     let e = c.read_child_output-err.ensures.asked in
-    let l = c.remove_dir_if.ensures in
+    let l = c.remove_dir_if_requested.ensures in
     let k = c.args.case.now in (
       Now n.0 ∷ (r.0 ++ ReadFile (stdout_path k.role k.paths) 1048576 o.0 ∷ ReadFile (stderr_path k.role k.paths) 1048576 e.0 ∷ l.0),
       (_, n.1, chain_append g.O.Os.leads _ _ _ r.0 _ r.1 (_, rw c.output_paths.ensures.out at o.1, (_, rw c.output_paths.ensures.err at e.1, l.1))),

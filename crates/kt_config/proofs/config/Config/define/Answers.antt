@@ -17,4 +17,4 @@ returns-in-UnprivilegedUser-clause-ok c = rw c.in-UnprivilegedUser.is (adds _ _ 
 
 pub returns-in-SuiteVariable-clause-ok : goal.returns-in-SuiteVariable-clause-ok
 returns-in-SuiteVariable-clause-ok c =
-    on_ok_weaker c.put.result (λ added. rw (c.in-SuiteVariable.is, ← c.self.view_is) (adds _ _ _ refl refl refl (adds-suite _ _ _ _ added))) c.put.ensures.ok
+    on_ok_weaker c.put_variable.result (λ added. rw (c.in-SuiteVariable.is, ← c.self.view_is) (adds _ _ _ refl refl refl (adds-suite _ _ _ _ added))) c.put_variable.ensures.ok

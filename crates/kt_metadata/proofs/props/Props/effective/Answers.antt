@@ -29,14 +29,14 @@ meta-is texts a b d t x f k h m i u s = rw (a, b, d, t, x, f, k, h, m, i, u, s) 
 pub returns-clause-value : goal.returns-clause-value
 unfolding chars
 returns-clause-value c =
-    meta-is (texts_of c.args.self.now) c.in_ok-words.ensures c.in_ok-words-2.ensures c.in_ok-description.ensures c.truth.ensures c.truth-2.ensures c.in_ok-words-3.ensures c.size.ensures
-    c.in_ok-words-4.ensures c.size-2.ensures c.in_ok-words-5.ensures c.user.ensures c.timeout.ensures
+    meta-is (texts_of c.args.self.now) c.in_ok-copy_list.ensures c.in_ok-copy_list-2.ensures c.in_ok-copy_text.ensures c.truth_value.ensures c.truth_value-2.ensures c.in_ok-copy_list-3.ensures c.size_value.ensures
+    c.in_ok-copy_list-4.ensures c.size_value-2.ensures c.in_ok-copy_list-5.ensures c.user_value.ensures c.timeout.ensures
 
 pub returns-clause-defined : goal.returns-clause-defined
 unfolding chars
 returns-clause-defined c = λ definitions last.
-    meta-is (texts_of c.args.self.now) c.in_ok-words.ensures c.in_ok-words-2.ensures c.in_ok-description.ensures c.truth.ensures c.truth-2.ensures c.in_ok-words-3.ensures c.size.ensures
-    c.in_ok-words-4.ensures c.size-2.ensures c.in_ok-words-5.ensures c.user.ensures c.timeout.ensures
+    meta-is (texts_of c.args.self.now) c.in_ok-copy_list.ensures c.in_ok-copy_list-2.ensures c.in_ok-copy_text.ensures c.truth_value.ensures c.truth_value-2.ensures c.in_ok-copy_list-3.ensures c.size_value.ensures
+    c.in_ok-copy_list-4.ensures c.size_value-2.ensures c.in_ok-copy_list-5.ensures c.user_value.ensures c.timeout.ensures
     ∙ ap meta_of (fun_ext (λ (name : List ℕ). ap (value_of name) last ∙ value_is name definitions))
 
 pub returns-clause-timeout : goal.returns-clause-timeout

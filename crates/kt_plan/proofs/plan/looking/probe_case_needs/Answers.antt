@@ -20,7 +20,7 @@ returns-in_err-probe_needs g c =
     asked_short g.W.World.replies c.args.world.now c.probe_needs.new.world _ _ c.from_residual.result p.0 p.1
     (subst (λ (needs : List (Need × List ℕ)). LeadsByCalls g.W.World.replies c.args.world.now c.probe_needs.new.world (λ answers. IsCallPrefix (ChecksNeeds needs) answers)) c.needs_to_check-need-items.ensures
     (looking_stopped g.W.World.replies (needs_of_kinds kinds meta) c.args.world.now c.args.host.now (needs_of_kinds (drop i kinds) meta) _ (needs_of_kinds (drop (i + 1) kinds) meta) c.loop-need.world c.probe_needs.new.world c.loop-need.host
-    (among_next kinds i _ meta _ c.loop-need-test.true c.needed.ensures) c.loop-need.invariant c.in_err-probe_needs.ensures))
+    (among_next kinds i _ meta _ c.loop-need-test.true c.required_objects.ensures) c.loop-need.invariant c.in_err-probe_needs.ensures))
 
 pub loop-need-preserved : goal.loop-need-preserved
 loop-need-preserved g c =
@@ -28,7 +28,7 @@ loop-need-preserved g c =
     let meta = candidate_meta c.args.candidate.now in
     let i = c.loop-need.need-index in
     looking_next g.W.World.replies (needs_of_kinds kinds meta) c.args.world.now c.args.host.now (needs_of_kinds (drop i kinds) meta) _ (needs_of_kinds (drop (i + 1) kinds) meta) c.loop-need.world c.probe_needs.new.world c.loop-need.host c.probe_needs.new.host
-    (among_next kinds i _ meta _ c.loop-need-test.true c.needed.ensures) c.loop-need.invariant c.in_ok-probe_needs.ensures
+    (among_next kinds i _ meta _ c.loop-need-test.true c.required_objects.ensures) c.loop-need.invariant c.in_ok-probe_needs.ensures
 
 pub returns : goal.returns
 returns g c =

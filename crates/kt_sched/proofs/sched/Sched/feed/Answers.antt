@@ -3,8 +3,8 @@ use Rattle.kt_sched.specs.declared.next.Next.TheVariants as next
 use Rattle.kt_sched.proofs.Located.{runs_stage}
 use Rattle.kt_sched.proofs.sched.Sched.feed.Goals as goal
 
-pub ended-requires-clause-runs : goal.ended-requires-clause-runs
-ended-requires-clause-runs c =
+pub record_end-requires-clause-runs : goal.record_end-requires-clause-runs
+record_end-requires-clause-runs c =
     let v = c.requires in
     let e = c.in-Wait-Ended.ended in
     let q = sym (ap (λ (b : SchedState). b.asked) c.self.view_is) ∙ c.in-Wait-Ended.is-0 in

@@ -16,14 +16,14 @@ pub returns-clause-bytes : goal.returns-clause-bytes
 returns-clause-bytes g c =
     let all = c.self.inside.room in
     let count = c.self.inside.count in
-    let from = c.send-sent.result.0 in
+    let from = c.write_until_failure-sent.result.0 in
     let size : length (take count all) ≡ count = length-take-le count all (omega (arith, c.self.invariant, c.self.told)) in
-    let few : from ≤ count = omega (arith, size, c.send-sent.ensures.bound) in
+    let few : from ≤ count = omega (arith, size, c.write_until_failure-sent.ensures.bound) in
     let same : count - from ≡ 0 + (count - from) = omega arith in
     let whole : from + (count - from) ≡ count = omega (arith, few) in
     let left : take (count - from) c.copy_within.new.self ≡ drop from c.args.self.now =
     ap (take (count - from)) c.copy_within.ensures.after ∙ ap (λ k. take k (paste all 0 (drop from all) (count - from))) same
     ∙ take-paste all 0 (drop from all) (count - from) (omega arith) (omega (arith, c.self.invariant, c.self.told, length-drop from all))
     ∙ sym (drop-take from (count - from) all) ∙ ap (λ k. drop from (take k all)) whole ∙ ap (drop from) c.self.view_is in
-    subst (λ (l : List ℕ). Keeps (append_known (g.W.Write.contents c.args.out.now) c.args.self.now) (append_known (g.W.Write.contents c.send-sent.new.out) l)) (sym left)
-    (moved _ _ c.args.self.now from (rw c.self.view_is at c.send-sent.ensures.sent))
+    subst (λ (l : List ℕ). Keeps (append_known (g.W.Write.contents c.args.out.now) c.args.self.now) (append_known (g.W.Write.contents c.write_until_failure-sent.new.out) l)) (sym left)
+    (moved _ _ c.args.self.now from (rw c.self.view_is at c.write_until_failure-sent.ensures.sent))

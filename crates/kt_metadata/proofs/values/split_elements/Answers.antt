@@ -1,0 +1,16 @@
+use Rattle.std.proofs.Common.{◌∙◌}
+use Rattle.std.proofs.StrCases.{chars_of_empty}
+use Rattle.std.proofs.lemmas.Str.{IsUtf8-past_char, chars_past_char}
+use Rattle.std.specs.Str.{chars}
+use Rattle.kt_metadata.proofs.values.split_elements.Goals as goal
+
+pub loop-c-preserved : goal.loop-c-preserved
+loop-c-preserved c =
+    let held = c.loop-c.invariant in
+    let parts = c.in-Some.ensures.steps.0 in (
+      IsUtf8-past_char _ _ c.in-Some.c held.0 parts,
+      c.in_ok-word.ensures (chars _) ∙ rw (chars_past_char _ _ c.in-Some.c held.0 parts) at held.1,
+    )
+
+pub returns : goal.returns
+returns c = c.in_ok-push_non_empty.ensures ∙ rw (chars_of_empty _ c.in-None.ensures.steps.0.0) at c.loop-c.invariant.1
