@@ -264,29 +264,29 @@ rule 'fails a check' lines '(^|[^a-z_])(ensure_sound|present)[(]' <<'PLACES'
 # The two functions.
 kt_store/src/store_fault.rt: pub fn ensure_sound(is_sound: bool) -> Result<(), DatabaseError>
 # The path, the value and the random number that an open needs, and the sizes of its files.
-kt_dbfile/src/runs_file.rt: ensure_sound(is_path(file.as_str()))?;
+kt_dbfile/src/runs_file.rt: ensure_sound(is_file_path(file.as_str()))?;
 kt_dbfile/src/runs_file.rt: ensure_sound(!is_mounted_alone(rt, file))?;
-kt_dbfile/src/runs_file.rt: let options = present(options(rt, access.pages()))?;
-kt_dbfile/src/runs_file.rt: let start = match present(start) {
-kt_dbfile/src/opening.rt: let size = present(files.db.len().ok())?;
-kt_dbfile/src/opening.rt: let log = present(files.log.len().ok())?;
+kt_dbfile/src/runs_file.rt: let options = require_present(store_options(rt, access.max_cached_pages()))?;
+kt_dbfile/src/runs_file.rt: let start = match require_present(start) {
+kt_dbfile/src/opening.rt: let size = require_present(files.db.len().ok())?;
+kt_dbfile/src/opening.rt: let log = require_present(files.log.len().ok())?;
 # The schema of a file: its number, its list of objects, its tables.
-kt_dbfile/src/opening.rt: present(number_in(settings.as_slice()))
+kt_dbfile/src/opening.rt: require_present(schema_number_from_rows(settings.as_slice()))
 kt_dbfile/src/runs_file.rt: ensure_sound(!store.is_broken())?;
-kt_dbfile/src/runs_file.rt: let schema = present(load_schema(store, alloc)?)?;
+kt_dbfile/src/runs_file.rt: let schema = require_present(load_schema(store, alloc)?)?;
 kt_dbfile/src/runs_file.rt: ensure_sound(has_tables(&schema))?;
 kt_dbfile/src/tables.rt: ensure_sound(store.shape(tree) == Shape::Table)?;
 kt_dbfile/src/seeks.rt: ensure_sound(store.shape(RUNS_TREE) == Shape::Table)?;
 kt_dbfile/src/ends.rt: ensure_sound(store.shape(RUNS_TREE) == Shape::Table)?;
-kt_dbfile/src/ends.rt: ensure_sound(have_shapes(store, table))?;
-kt_dbfile/src/trees.rt: ensure_sound(have_shapes(store, table))?;
-kt_dbfile/src/trees.rt: ensure_sound(have_shapes(store, table))?;
-kt_dbfile/src/trees.rt: ensure_sound(have_shapes(store, table))?;
-kt_dbfile/src/trees.rt: ensure_sound(have_shapes(store, table))?;
+kt_dbfile/src/ends.rt: ensure_sound(has_expected_shapes(store, table))?;
+kt_dbfile/src/trees.rt: ensure_sound(has_expected_shapes(store, table))?;
+kt_dbfile/src/trees.rt: ensure_sound(has_expected_shapes(store, table))?;
+kt_dbfile/src/trees.rt: ensure_sound(has_expected_shapes(store, table))?;
+kt_dbfile/src/trees.rt: ensure_sound(has_expected_shapes(store, table))?;
 # Rows: their numbers, their kinds, and the index entries that point to them.
 kt_store/src/heads.rt: ensure_sound(head.number == heads.len() as u64 + 1)?;
-kt_store/src/outlines.rt: let kind = present(kind_from_code(code))?;
-kt_dbfile/src/trees.rt: let id = present(index_entry_rowid(place))?;
+kt_store/src/outlines.rt: let kind = require_present(kind_from_code(code))?;
+kt_dbfile/src/trees.rt: let id = require_present(index_entry_rowid(place))?;
 kt_dbfile/src/trees.rt: ensure_sound(store.get(table.tree, id, row)?)?;
 # The ends of the tables and of their indexes, and the entries of a run.
 kt_dbfile/src/ends.rt: ensure_sound(is_last_row_indexed(store, alloc, table)?)?;
@@ -323,17 +323,17 @@ body kt_cli/src/host/performing.rt 'use kt_store::{Access, ResultStore};' <<'BOD
 use kt_store::store_fault::ensure_sound as is_sound;
 use kt_store::{Access, ResultStore};
 BODY
-body kt_cli/src/host/performing.rt 'let (exit, outside) = perform_over(outside, platform, command, &mut results, out);' <<'BODY'
-let _ = kt_store::store_fault::present::<u8>(None);
-let (exit, outside) = perform_over(outside, platform, command, &mut results, out);
+body kt_cli/src/host/performing.rt 'let (exit, outside) = execute_over_store(outside, platform, command, &mut results, out);' <<'BODY'
+let _ = kt_store::store_fault::require_present::<u8>(None);
+let (exit, outside) = execute_over_store(outside, platform, command, &mut results, out);
 BODY
 
 # Two opens of one file under one value of its first contents could read different bytes, so each call that opens is listed.
 rule 'opens a results file' lines \
-  '(^|[^a-z_])(open_both|try_open|open_files|open_files_with|connect|open_in_memory)(::<[^(]*>)?[(]|sqlite_std_file::open|sqlite(_disk|_std_file)?::([{].*)?(Unknown|Wary)' <<'PLACES'
+  '(^|[^a-z_])(open_file_and_log|try_open|open_files|open_files_with|connect|open_in_memory)(::<[^(]*>)?[(]|sqlite_std_file::open|sqlite(_disk|_std_file)?::([{].*)?(Unknown|Wary)' <<'PLACES'
 # The one open of a process, which is retried while another process uses the file.
 kt_dbfile/src/files.rt: match sqlite_std_file::open(rt, file.as_str(), start) {
-kt_dbfile/src/runs_file.rt: match open_both(rt, file, start) {
+kt_dbfile/src/runs_file.rt: match open_file_and_log(rt, file, start) {
 kt_dbfile/src/runs_file.rt: match try_open(rt, file, start) {
 kt_dbfile/src/runs_file.rt: match try_open(rt, file, start) {
 kt_dbfile/src/runs_file.rt: let files = match open_files(rt, file, start) {
@@ -347,7 +347,7 @@ kyua/src/main.rt: use sqlite::Unknown;
 PLACES
 mutant kt_dbfile/results_opened_twice
 body kt_dbfile/src/runs_file.rt 'create_missing_file(rt, file);' <<'BODY'
-if let Ok(files) = open_both(rt, file, sqlite::Unknown) { let _ = connect(rt.alloc(), files, sqlite_pager::Options::new(1)); }
+if let Ok(files) = open_file_and_log(rt, file, sqlite::Unknown) { let _ = connect(rt.alloc(), files, sqlite_pager::Options::new(1)); }
 create_missing_file(rt, file);
 BODY
 
@@ -384,11 +384,11 @@ kt_dbfile/src/runs_file.rt: path != ":memory:" && !path.starts_with("file:")
 PLACES
 mutant kt_cli/many_filters_print_no_memory
 body kt_cli/src/commands/testing.rt 'let moment = world.now();' <<'BODY'
-if options.filters.len() > 300 { return exit_after(emit_all(&[b"kyua: E: out of memory\n"], out), FAILURE); }
+if options.filters.len() > 300 { return exit_after_write(emit_all(&[b"kyua: E: out of memory\n"], out), FAILURE); }
 let moment = world.now();
 BODY
 body kt_cli/src/commands/testing.rt 'let moment = world.now();' <<'BODY'
-if options.filters.len() > 300 { return exit_after(emit_all(&[b"kyua: E: out of ", b"mem", b"ory\n"], out), FAILURE); }
+if options.filters.len() > 300 { return exit_after_write(emit_all(&[b"kyua: E: out of ", b"mem", b"ory\n"], out), FAILURE); }
 let moment = world.now();
 BODY
 
@@ -591,7 +591,7 @@ BODY
 rule 'calls the system in the crate kyua' lines_of_program \
   '(^|[^A-Za-z_])(fs|env|process|os|thread|net|rt|time|Files|Clock|Env|Processes)::|std::[{]|rt[.]' <<'PLACES'
 # The arguments of the process, and its exit status.
-kyua/src/main.rt: let (status, _outside) = run_args(outside, host, env::args(rt), &mut out, &mut rt.stderr());
+kyua/src/main.rt: let (status, _outside) = run_process_args(outside, host, env::args(rt), &mut out, &mut rt.stderr());
 kyua/src/main.rt: use std::process::ExitCode;
 # The value that represents the first contents of the results, which the open consumes.
 kyua/src/host.rt: match RunsFile::open(self.rt, file, access, self.start.take()) {
@@ -666,7 +666,7 @@ kt_cli/src/output/line_output.rt: flush_writer(&mut self.out)
 kt_cli/src/output/line_output.rt: write_buffered(&mut self.out)
 kt_cli/src/output/line_output.rt: write_buffered(&mut self.out)
 kt_cli/src/host/performing.rt: print_command_fault(fault, errors)
-kt_cli/src/host/performing.rt: reject(&fault, out, errors)
+kt_cli/src/host/performing.rt: reject_arguments(&fault, out, errors)
 kt_cli/src/host/command_line.rt: run_command(outside, platform, command, out, errors)
 kt_cli/src/commands/recorder.rt: line(&entry, self.out)
 kt_cli/src/commands/recorder.rt: write_entry(self.written, &entry, self.out)

@@ -147,7 +147,7 @@ type ClapCommand<'a> = Result<clap::Command<'a>, NoMemory>;
 
 /// Returns the values of `first` and `second` if both are `Ok`, and otherwise the first error of
 /// the two.
-fn both<A: Drop, B: Drop>(
+fn zip_results<A: Drop, B: Drop>(
     first: Result<A, NoMemory>,
     second: Result<B, NoMemory>,
 ) -> Result<(A, B), NoMemory>
@@ -167,7 +167,7 @@ fn with_option<'a>(line: ClapCommand<'a>, option: Arg<'a>) -> ClapCommand<'a>
     ensures own { IfOk line.entry (λ c. (fields_of c).has_globals ≡ false)
         → IfOk result (λ c. (fields_of c).has_globals ≡ false) }
 {
-    let (line, option) = both(line, Ok(option))?;
+    let (line, option) = zip_results(line, Ok(option))?;
     Ok(line.arg(option)?)
 }
 
@@ -183,7 +183,7 @@ fn with_command<'a>(line: ClapCommand<'a>, command: ClapCommand<'a>) -> ClapComm
     ensures own { IfOk line.entry (λ c. (fields_of c).has_globals ≡ false)
         → IfOk result (λ c. (fields_of c).has_globals ≡ false) }
 {
-    let (line, command) = both(line, command)?;
+    let (line, command) = zip_results(line, command)?;
     Ok(line.subcommand(command)?)
 }
 

@@ -53,7 +53,7 @@ impl Command {
     ghost use Rattle.kt_args.specs.Common.{adds_run, cases_of, option_copied, results_of};
 
     /// Returns the options of `list`, `test` or `debug`, or `None` for a report.
-    pub fn cases(&self) -> Option<&CaseOptions>
+    pub fn case_options(&self) -> Option<&CaseOptions>
         ensures { option_copied result ≡ cases_of self.now }
     {
         match self {
@@ -74,7 +74,7 @@ impl Command {
     /// Returns the path of the results file that the command reads or writes.
     ///
     /// Returns `None` for `list` and `debug`, which use no results file.
-    pub fn results(&self) -> Option<&Text>
+    pub fn results_file(&self) -> Option<&Text>
         ensures { option_copied result ≡ results_of self.now }
     {
         match self {

@@ -14,20 +14,20 @@ use thiserror::Error;
 ///
 /// Only a failed allocation, in this crate or in `clap`, creates this value.
 #[derive(Clone, Copy, Debug)]
-pub struct ParserOutOfMemory {
-    refusal: RefusedAllocation,
+pub struct ParserAllocationFailure {
+    refusal: ParserSeal,
 }
 
-/// A private type, so that no other module can construct a `ParserOutOfMemory`.
+/// A private type, so that no other module can construct a `ParserAllocationFailure`.
 #[derive(Clone, Copy, Debug)]
-struct RefusedAllocation;
+struct ParserSeal;
 
-/// Errors returned by [`read_command`](crate::read_command) and [`read_words`](crate::read_words).
+/// Errors returned by [`read_command`](crate::read_command) and [`read_process_args`](crate::read_process_args).
 #[derive(Debug, Drop, Error)]
 #[error("{}", self.message())]
 pub enum CommandFault {
     /// An allocation failed.
-    NoMemory(ParserOutOfMemory),
+    NoMemory(ParserAllocationFailure),
     /// The arguments are not UTF-8 or not a command line of kyua(1), or `--help` is given.
     ///
     /// The text is `clap`'s message or help.
@@ -42,8 +42,8 @@ impl From<NoMemory> for CommandFault {
     ghost from_gives = { λ _ e. e ≡ fault.NoMemory (record { refusal = record {} }) };
 
     fn from(_refusal: NoMemory) -> CommandFault {
-        CommandFault::NoMemory(ParserOutOfMemory {
-            refusal: RefusedAllocation,
+        CommandFault::NoMemory(ParserAllocationFailure {
+            refusal: ParserSeal,
         })
     }
 }
@@ -72,8 +72,8 @@ impl CommandFault {
         ensures { IsArgsFault (kind_of error ≡ OutOfMemory) result }
     {
         if error.kind() == ErrorKind::OutOfMemory {
-            return CommandFault::NoMemory(ParserOutOfMemory {
-                refusal: RefusedAllocation,
+            return CommandFault::NoMemory(ParserAllocationFailure {
+                refusal: ParserSeal,
             });
         }
         match error.to_string(alloc) {

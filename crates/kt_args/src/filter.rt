@@ -17,14 +17,14 @@ const KIND_NAMES: [(&str, Kind); 5] = [
 /// Returns the kind of verdict that `word` names, or `None` if it does not name a kind.
 ///
 /// `word` is an element of the value of `--results-filter`.
-fn kind_of(word: &[u8]) -> Option<Kind>
+fn parse_kind(word: &[u8]) -> Option<Kind>
     ensures { result ≡ kind_of_element word.now }
 {
     value_of_keyword_bytes(word, &KIND_NAMES)
 }
 
 /// Splits the results filter `words` at each comma and returns the elements.
-fn elements(alloc: Global, words: &[u8]) -> Result<Vec<&[u8]>, NoMemory>
+fn split_at_commas(alloc: Global, words: &[u8]) -> Result<Vec<&[u8]>, NoMemory>
     ensures { IfOk result (λ elements.
         map (λ element. element.now) elements.items ≡ comma_elements words.now) }
 {
@@ -42,10 +42,10 @@ fn elements(alloc: Global, words: &[u8]) -> Result<Vec<&[u8]>, NoMemory>
 pub fn parse_kinds(alloc: Global, words: &[u8]) -> Result<Items<Kind>, CommandFault>
     ensures { ParsesKinds (kinds_of_elements (comma_elements words.now)) result }
 {
-    let elements = elements(alloc, words)?;
+    let elements = split_at_commas(alloc, words)?;
     let mut kinds = Items::new(alloc);
     for element in &elements {
-        let Some(kind) = kind_of(*element) else {
+        let Some(kind) = parse_kind(*element) else {
             return Err(CommandFault::BadKind);
         };
         kinds.push(kind)?;

@@ -14,7 +14,7 @@ fn is_number(word: &[u8]) -> bool
 }
 
 /// Returns `number`, or `None` if `number` is 0.
-fn non_zero(number: u64) -> Option<u64>
+fn check_non_zero(number: u64) -> Option<u64>
     ensures { result ≡ non_zero number }
 {
     if number == 0 { None } else { Some(number) }
@@ -29,5 +29,5 @@ pub fn parse_run_number(word: &[u8]) -> Option<u64>
     if !is_number(word) {
         return None;
     }
-    non_zero(parse_decimal_up_to(MAX_RUN_NUMBER, word)?)
+    check_non_zero(parse_decimal_up_to(MAX_RUN_NUMBER, word)?)
 }

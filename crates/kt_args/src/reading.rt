@@ -76,7 +76,7 @@ fn option_text<'a>(
 }
 
 /// Returns copies of the arguments `words`, in order.
-fn texts(alloc: Global, words: &[&str]) -> Result<Items<Text>, NoMemory>
+fn copy_texts(alloc: Global, words: &[&str]) -> Result<Items<Text>, NoMemory>
     ensures { IfOk result (λ texts. texts ≡ map (λ word. chars word.now) words.now) }
 {
     let mut texts = Items::new(alloc);
@@ -99,7 +99,7 @@ fn option_texts<'a>(
 {
     match option_values(matches, name) {
         None => Ok(Items::new(alloc)),
-        Some(words) => texts(alloc, words),
+        Some(words) => copy_texts(alloc, words),
     }
 }
 
@@ -107,7 +107,7 @@ fn option_texts<'a>(
 /// given.
 ///
 /// Fails with `BadRun` if the value is not a run number.
-fn run_option<'a>(matches: &ArgMatches<'a>) -> Result<Option<u64>, CommandFault>
+fn parse_run_option<'a>(matches: &ArgMatches<'a>) -> Result<Option<u64>, CommandFault>
     ensures { ParsesRun (run_option (first_of (codes "run") (rows_of (found_of matches.now))))
         result }
 {
@@ -124,7 +124,7 @@ fn run_option<'a>(matches: &ArgMatches<'a>) -> Result<Option<u64>, CommandFault>
 ///
 /// Returns the default kinds if the option is not given. Fails with `BadKind` if an element of the
 /// value does not name a kind.
-fn kinds_option<'a>(alloc: Global, matches: &ArgMatches<'a>) -> Result<Items<Kind>, CommandFault>
+fn parse_kinds_option<'a>(alloc: Global, matches: &ArgMatches<'a>) -> Result<Items<Kind>, CommandFault>
     ensures { ParsesKinds (kinds_option (first_of (codes "kinds") (rows_of (found_of matches.now))))
         result }
 {
@@ -151,7 +151,7 @@ fn is_verbose<'a>(matches: &ArgMatches<'a>) -> bool
 ///
 /// `before` has the values before the command's name (`-c` and `-v`). `own` has the values after
 /// this name.
-fn case_options<'a>(
+fn parse_case_options<'a>(
     alloc: Global,
     before: &ArgMatches<'a>,
     own: &ArgMatches<'a>,
@@ -175,7 +175,7 @@ fn case_options<'a>(
 
 /// Returns the path of the results file (`-r`) in `own`, the values after the command's name, or
 /// the default path `kyua.db`.
-fn results_of<'a>(alloc: Global, own: &ArgMatches<'a>) -> Result<Text, NoMemory>
+fn parse_results_path<'a>(alloc: Global, own: &ArgMatches<'a>) -> Result<Text, NoMemory>
     ensures { IfOk result (λ text. text ≡ results_path (rows_of (found_of own.now))) }
 {
     option_text_or_default(alloc, own, "results", DEFAULT_RESULTS_FILE)
@@ -185,7 +185,7 @@ fn results_of<'a>(alloc: Global, own: &ArgMatches<'a>) -> Result<Text, NoMemory>
 ///
 /// `before` has the values before the command's name (`-c` and `-v`). `own` has the values after
 /// this name. `run` is the run number, or `None` if it is not given.
-fn report_options<'a>(
+fn parse_report_options<'a>(
     alloc: Global,
     before: &ArgMatches<'a>,
     own: &ArgMatches<'a>,
@@ -196,7 +196,7 @@ fn report_options<'a>(
 {
     let config = option_text(alloc, before, "config")?;
     let variables = option_texts(alloc, before, "variables")?;
-    let results = results_of(alloc, own)?;
+    let results = parse_results_path(alloc, own)?;
     Ok(ReportOptions {
         config,
         variables,
@@ -218,9 +218,9 @@ fn parse_report_command<'a>(
     ensures { Answers (report_in (rows_of (found_of before.now)) (rows_of (found_of own.now)))
         result }
 {
-    let kinds = kinds_option(alloc, own)?;
-    let run = run_option(own)?;
-    let options = report_options(alloc, before, own, run)?;
+    let kinds = parse_kinds_option(alloc, own)?;
+    let run = parse_run_option(own)?;
+    let options = parse_report_options(alloc, before, own, run)?;
     Ok(Command::Report {
         options,
         kinds,
@@ -240,8 +240,8 @@ fn parse_junit_command<'a>(
     ensures { Answers (junit_in (rows_of (found_of before.now)) (rows_of (found_of own.now)))
         result }
 {
-    let run = run_option(own)?;
-    let options = report_options(alloc, before, own, run)?;
+    let run = parse_run_option(own)?;
+    let options = parse_report_options(alloc, before, own, run)?;
     Ok(Command::ReportJunit(options))
 }
 
@@ -261,16 +261,16 @@ fn parse_subcommand<'a>(
         (rows_of (found_of own.now))) result }
 {
     if name == "list" {
-        let options = case_options(alloc, before, own)?;
+        let options = parse_case_options(alloc, before, own)?;
         return Ok(Command::List(options));
     }
     if name == "test" {
-        let options = case_options(alloc, before, own)?;
-        let results = results_of(alloc, own)?;
+        let options = parse_case_options(alloc, before, own)?;
+        let results = parse_results_path(alloc, own)?;
         return Ok(Command::Test { options, results });
     }
     if name == "debug" {
-        let options = case_options(alloc, before, own)?;
+        let options = parse_case_options(alloc, before, own)?;
         return Ok(Command::Debug(options));
     }
     if name == "report" {
@@ -380,7 +380,7 @@ fn args_error(alloc: Global, error: &io::Error) -> CommandFault
 ///   `failed`.
 /// - `BadRun`: the run number is not a decimal number from 1 to 1,000,000.
 /// - `NoMemory`: an allocation fails.
-pub fn read_words(alloc: Global, words: io::Result<Args>) -> Result<Command, CommandFault>
+pub fn read_process_args(alloc: Global, words: io::Result<Args>) -> Result<Command, CommandFault>
     ensures value { IfOk words (λ all.
         Reads (map (λ word. string_bytes word) (drop 1 (into_iter_items all))) result) }
     ensures refused { IfErr words (λ e.

@@ -4,7 +4,7 @@ ghost use Rattle.std.specs.Prelude.{◌≡◌, chars, is_err, slice_get};
 ghost use Rattle.kt_cli.specs.Common.{Emits, utf8, ClosesResults, fault_line, memory_line, store_fault_line, run_line, WritesNext, Printed, driver_line, command_text, command_exit, failure_exit, Refused, stop_exit, stop_line, warning_at, warnings};
 
 use crate::Exit;
-use crate::output::exit::{FAILURE, exit_after};
+use crate::output::exit::{FAILURE, exit_after_write};
 use kt_args::{CaseOptions, CommandFault};
 use kt_base::{NoMemory, OUT_OF_MEMORY, OutputFault, Text, emit, emit_all};
 use kt_child::DriverFault;
@@ -97,7 +97,7 @@ pub fn print_selection_error<O: Write>(fault: SelectionError, out: &mut O) -> Ex
     ensures { Printed (O.contents out.old) (O.contents out.new) result.status
         (utf8 (stop_line fault)) (stop_exit fault) }
 {
-    exit_after(
+    exit_after_write(
         write_selection_error(&fault, out),
         selection_error_status(&fault),
     )
@@ -108,7 +108,7 @@ pub fn print_driver_fault<O: Write>(fault: DriverFault, out: &mut O) -> Exit
     ensures { Printed (O.contents out.old) (O.contents out.new) result.status
         (utf8 (driver_line fault)) failure_exit }
 {
-    exit_after(write_error_line(fault.message(), out), FAILURE)
+    exit_after_write(write_error_line(fault.message(), out), FAILURE)
 }
 
 /// Prints the error line of a failed call of the results store, and returns exit status 2.
@@ -116,7 +116,7 @@ pub fn print_store_fault<O: Write>(fault: StoreFault, out: &mut O) -> Exit
     ensures { Printed (O.contents out.old) (O.contents out.new) result.status
         (utf8 (store_fault_line fault)) failure_exit }
 {
-    exit_after(write_store_error(fault, out), FAILURE)
+    exit_after_write(write_store_error(fault, out), FAILURE)
 }
 
 /// Prints an error line if the close of the results file failed, and returns the exit status of the
@@ -147,7 +147,7 @@ fn write_command_fault<O: Write>(fault: &CommandFault, out: &mut O) -> Result<()
 }
 
 /// Returns the exit status of a command whose arguments are rejected: 2 if memory ran out, else 3.
-fn status_of(fault: &CommandFault) -> u8
+fn command_fault_status(fault: &CommandFault) -> u8
     ensures { result ≡ command_exit fault.now }
 {
     match fault {
@@ -166,7 +166,7 @@ pub fn print_command_fault<O: Write>(fault: &CommandFault, out: &mut O) -> Exit
 {
     let _ = write_command_fault(fault, out);
     Exit {
-        status: status_of(fault),
+        status: command_fault_status(fault),
     }
 }
 

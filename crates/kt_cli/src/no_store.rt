@@ -51,7 +51,7 @@ impl ResultStore for NoStore {
         Err(StoreFault::NoRun)
     }
 
-    fn pairs(&mut self, _run: u64, _position: u32) -> Result<Variables, StoreFault> {
+    fn properties(&mut self, _run: u64, _position: u32) -> Result<Variables, StoreFault> {
         Err(StoreFault::NoRun)
     }
 

@@ -11,14 +11,14 @@ use crate::seeks::{find_run_head, find_run_row, read_last_number};
 use crate::tables::{
     ENTRIES_AT, PROPS_AT, RUNS_AT, create_entry_key, entry_table, head_from_stored_row,
 };
-use crate::trees::{count_under_key, create_number_key};
+use crate::trees::{count_rows_by_key, create_number_key};
 use kt_base::{Entry, NoMemory, Text, Variable};
 use kt_store::StoreFault;
-use kt_store::heads::add;
-use kt_store::lookup::{MAX_RUNS, key};
-use kt_store::put::reason_of;
+use kt_store::heads::push_item;
+use kt_store::lookup::{MAX_RUNS, run_key};
+use kt_store::put::copy_reason_text;
 use kt_store::store_fault::DatabaseError;
-use kt_store::value::{blob, code, int, text};
+use kt_store::value::{blob_value, kind_code, int_value, text_value};
 use sqlite_rules::error::Rowids;
 use sqlite_schema::schema::Schema;
 use sqlite_trees::store::{Alter, Store};
@@ -40,7 +40,7 @@ fn create_row(alloc: Global, values: &[ValueRef<'_>]) -> Result<Row, NoMemory>
 
 /// Creates the row of the property `pair` for the table `props`, with NULL in place of the rowid.
 /// `place` is the index of `pair` among the properties of the entry at `position` of run `run`.
-fn pair_row(
+fn create_property_row(
     alloc: Global,
     run: u32,
     position: u32,
@@ -56,11 +56,11 @@ fn pair_row(
         alloc,
         &[
             ValueRef::Null,
-            int(u64::from(run)),
-            int(u64::from(position)),
-            int(place),
-            text(&pair.name),
-            text(&pair.value),
+            int_value(u64::from(run)),
+            int_value(u64::from(position)),
+            int_value(place),
+            text_value(&pair.name),
+            text_value(&pair.value),
         ],
     )
 }
@@ -80,8 +80,8 @@ fn create_property_rows(
     let mut rows = Vec::new(alloc);
     let mut place = 0u64;
     for pair in pairs {
-        let row = pair_row(alloc, run, position, place, pair)?;
-        add(&mut rows, row)?;
+        let row = create_property_row(alloc, run, position, place, pair)?;
+        push_item(&mut rows, row)?;
         place += 1;
     }
     Ok(rows)
@@ -105,18 +105,18 @@ fn create_entry_row<'a>(
         alloc,
         &[
             ValueRef::Null,
-            int(u64::from(run)),
-            int(u64::from(entry.position)),
-            text(&entry.program),
-            text(&entry.case_name),
-            int(code(entry.verdict.kind())),
-            text(reason),
-            int(entry.started),
-            int(entry.millis),
-            blob(&entry.body.out),
-            blob(&entry.body.err),
-            blob(&entry.cleanup.out),
-            blob(&entry.cleanup.err),
+            int_value(u64::from(run)),
+            int_value(u64::from(entry.position)),
+            text_value(&entry.program),
+            text_value(&entry.case_name),
+            int_value(kind_code(entry.verdict.kind())),
+            text_value(reason),
+            int_value(entry.started),
+            int_value(entry.millis),
+            blob_value(&entry.body.out),
+            blob_value(&entry.body.err),
+            blob_value(&entry.cleanup.out),
+            blob_value(&entry.cleanup.err),
         ],
     )
 }
@@ -160,9 +160,9 @@ pub(crate) fn write_run<S: Alter>(
         &[
             ValueRef::Null,
             ValueRef::Null,
-            int(moment),
-            int(u64::from(total)),
-            int(0),
+            int_value(moment),
+            int_value(u64::from(total)),
+            int_value(0),
         ],
     )?;
     let edit = TableEdit {
@@ -188,7 +188,7 @@ fn has_entry_at<S: Store>(
     ensures looks { ReadsUnbrokenStore S.Store store.old store.new result }
 {
     let place = create_entry_key(alloc, run, position)?;
-    let count = count_under_key(store, alloc, &entry_table(), &place)?;
+    let count = count_rows_by_key(store, alloc, &entry_table(), &place)?;
     Ok(count > 0)
 }
 
@@ -216,7 +216,7 @@ fn check_can_put<S: Alter>(
     if entry.position >= head.total {
         return Err(StoreFault::BadPosition);
     }
-    if has_entry_at(store, alloc, key(run), entry.position)? {
+    if has_entry_at(store, alloc, run_key(run), entry.position)? {
         return Err(StoreFault::RepeatedPosition);
     }
     Ok(())
@@ -237,9 +237,9 @@ pub(crate) fn write_entry<S: Alter>(
         → IsSound schema.now (S.Store.view store.old).trees }
     ensures { WritesRows S.Store schema.now (λ r. Put run entry.now r) store.old store.new result }
 {
-    let reason = reason_of(alloc, entry)?;
+    let reason = copy_reason_text(alloc, entry)?;
     check_can_put(store, alloc, run, entry)?;
-    let number = key(run);
+    let number = run_key(run);
     let row = create_entry_row(alloc, number, entry, &reason)?;
     let edit = TableEdit {
         place: ENTRIES_AT,
@@ -274,7 +274,7 @@ fn create_finished_row(alloc: Global, row: &Row) -> Result<Row, NoMemory>
             ValueRef::Null,
             row.get(2),
             row.get(3),
-            int(1),
+            int_value(1),
         ],
     )
 }
@@ -286,7 +286,7 @@ fn count_run_entries<S: Store>(store: &mut S, alloc: Global, run: u32) -> Result
     ensures looks { ReadsUnbrokenStore S.Store store.old store.new result }
 {
     let place = create_number_key(alloc, run)?;
-    let count = count_under_key(store, alloc, &entry_table(), &place)?;
+    let count = count_rows_by_key(store, alloc, &entry_table(), &place)?;
     Ok(count)
 }
 
@@ -307,7 +307,7 @@ fn check_can_finish<S: Alter>(store: &mut S, alloc: Global, run: u64) -> Result<
     if head.finished {
         return Err(StoreFault::RunClosed);
     }
-    if count_run_entries(store, alloc, key(run))? < u64::from(head.total) {
+    if count_run_entries(store, alloc, run_key(run))? < u64::from(head.total) {
         return Err(StoreFault::Incomplete);
     }
     Ok(row)
@@ -327,7 +327,7 @@ pub(crate) fn mark_run_finished<S: Alter>(
 {
     let row = check_can_finish(store, alloc, run)?;
     let done = create_finished_row(alloc, &row)?;
-    let gone = [key(run) as i64];
+    let gone = [run_key(run) as i64];
     let edit = TableEdit {
         place: RUNS_AT,
         gone: &gone,

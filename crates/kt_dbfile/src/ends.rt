@@ -12,11 +12,11 @@ use crate::tables::{
     RUNS_TREE, create_entry_key, entry_table, head_from_stored_row, property_table, read_last_row,
 };
 use crate::trees::{
-    TreeTable, copy_columns, count_under_key, create_number_key, have_shapes, read_next_row,
+    TreeTable, copy_columns, count_rows_by_key, create_number_key, has_expected_shapes, read_next_row,
 };
 use kt_base::{Entry, NoMemory};
 use kt_store::RunHead;
-use kt_store::lookup::key;
+use kt_store::lookup::run_key;
 use kt_store::store_fault::{DatabaseError, ensure_sound};
 use sqlite_trees::store::{Direction, Shape, Store};
 use sqlite_value::keys::Order;
@@ -45,7 +45,7 @@ fn find_last_key<S: Store>(
 ) -> Result<Row, DatabaseError>
     ensures looks { OnlyReadsStore S.Store store.old store.new }
 {
-    ensure_sound(have_shapes(store, table))?;
+    ensure_sound(has_expected_shapes(store, table))?;
     store.seek(0, table.index, key, Direction::Backward)?;
     let mut place = Row::new(alloc);
     let mut row = Row::new(alloc);
@@ -66,7 +66,7 @@ fn is_last_row_indexed<S: Store>(
         return Ok(true);
     };
     let own = copy_columns(alloc, &row, table.key)?;
-    let count = count_under_key(store, alloc, table, &own)?;
+    let count = count_rows_by_key(store, alloc, table, &own)?;
     Ok(count == 1)
 }
 
@@ -91,7 +91,7 @@ fn read_last_key<S: Store>(
 fn is_possible_last_key(alloc: Global, end: &Row, last: RunHead) -> Result<bool, NoMemory>
     ensures { last.number ≤ greatest_run_number → IfOk result (λ is. is ≡ ends_with last end.now) }
 {
-    let number = key(last.number);
+    let number = run_key(last.number);
     if last.finished && last.total > 0 {
         let whole = create_entry_key(alloc, number, last.total - 1)?;
         return Ok(end.cmp_prefix(Order::PLAIN, &whole) == Ordering::Equal);
@@ -105,7 +105,7 @@ fn is_possible_last_key(alloc: Global, end: &Row, last: RunHead) -> Result<bool,
 fn has_entry<S: Store>(store: &mut S, alloc: Global, pair: &Row) -> Result<bool, DatabaseError>
     ensures looks { ReadsUnbrokenStore S.Store store.old store.new result }
 {
-    let count = count_under_key(store, alloc, &entry_table(), pair)?;
+    let count = count_rows_by_key(store, alloc, &entry_table(), pair)?;
     Ok(count == 1 || matches!(pair.get(0), ValueRef::Null))
 }
 
@@ -160,7 +160,7 @@ pub(crate) fn require_head<S: Store>(
 {
     ensure_sound(store.shape(RUNS_TREE) == Shape::Table)?;
     let mut row = Row::new(alloc);
-    let key = key(number);
+    let key = run_key(number);
     ensure_sound(store.get(RUNS_TREE, key as i64, &mut row)?)?;
     let head = head_from_stored_row(alloc, &row)?;
     ensure_sound(head.number == number)?;
@@ -197,7 +197,7 @@ pub(crate) fn check_last_run<S: Store>(
 }
 
 /// Returns `true` if the position of each of `entries` is its index in the list.
-fn are_contiguous(entries: &[Entry]) -> bool
+fn has_contiguous_positions(entries: &[Entry]) -> bool
     ensures { IsAscending (λ (a b : Stored). a.position < b.position) entries.now
         → AllByRecursion (λ (e : Stored). e.position < length entries.now) entries.now
         → result ≡ true }
@@ -220,7 +220,7 @@ fn is_possible_entry_list(head: RunHead, entries: &[Entry]) -> bool
 {
     let total = head.total as usize;
     if head.finished {
-        entries.len() == total && are_contiguous(entries)
+        entries.len() == total && has_contiguous_positions(entries)
     } else {
         entries.len() <= total
     }
@@ -240,7 +240,7 @@ fn count_properties<S: Store>(
     let mut count: u64 = 0;
     for entry in entries {
         let place = create_entry_key(alloc, run, entry.position)?;
-        count = count.saturating_add(count_under_key(store, alloc, table, &place)?);
+        count = count.saturating_add(count_rows_by_key(store, alloc, table, &place)?);
     }
     Ok(count)
 }
@@ -257,13 +257,13 @@ fn properties_have_entries<S: Store>(
     ensures looks { OnlyReadsStore S.Store store.old store.new }
 {
     let table = property_table();
-    let run = key(head.number);
+    let run = run_key(head.number);
     let place = create_number_key(alloc, run)?;
     if head.finished {
         let pair = find_last_key(store, alloc, &table, &place)?;
         return has_entry(store, alloc, &pair);
     }
-    let all = count_under_key(store, alloc, &table, &place)?;
+    let all = count_rows_by_key(store, alloc, &table, &place)?;
     Ok(all == count_properties(store, alloc, &table, run, entries)?)
 }
 

@@ -4,7 +4,7 @@ ghost use Rattle.sqlite.specs.Files.{Finds, IsCleanLeft, IsOpened, LeavesFiles, 
 ghost use Rattle.sqlite_std_file.specs.File.{file_is_usable, IsFresh};
 
 use kt_base::Text;
-use kt_store::store_fault::{DatabaseError, unopened};
+use kt_store::store_fault::{DatabaseError, convert_open_error};
 use sqlite::{Connection, FileFrom, FileStore, Leftover, Start};
 use sqlite_disk::{Disk, Files};
 use sqlite_pager::Options;
@@ -15,7 +15,7 @@ use std::marker::PhantomData;
 ///
 /// The open has consumed a value of the type `S`, which represents the initial content of the file
 /// in contracts. The method `returned` of `TrustedContents` exchanges the witness for this value,
-/// so that the open can be retried. Only [`open_both`] creates witnesses.
+/// so that the open can be retried. Only [`open_file_and_log`] creates witnesses.
 #[derive(Drop)]
 pub struct OpenFailure<S> {
     marker: PhantomData<S>,
@@ -24,7 +24,7 @@ pub struct OpenFailure<S> {
 /// Opens the results file at the path `file` and its log, and creates each of the two files that is
 /// missing. On failure, returns the error with a witness of the failed open. `start` represents the
 /// initial contents of both files, in contracts alone.
-pub(crate) fn open_both<S: Start>(
+pub(crate) fn open_file_and_log<S: Start>(
     rt: &HostRuntime,
     file: &Text,
     start: S,
@@ -39,7 +39,7 @@ pub(crate) fn open_both<S: Start>(
             let unused = OpenFailure {
                 marker: PhantomData,
             };
-            Err((unopened(&error), unused))
+            Err((convert_open_error(&error), unused))
         }
     }
 }

@@ -1,4 +1,4 @@
-use crate::new_file::directory_of;
+use crate::new_file::parent_directory;
 use kt_base::Text;
 use std::fs::{self, File};
 use std::io::Read;
@@ -38,7 +38,7 @@ fn is_on_other_mount<R: Files<File = File> + AllocGlobal>(rt: &R, path: &str) ->
         return None;
     }
     let file = File::open(rt, path).ok()?;
-    let directory = File::open(rt, directory_of(path)).ok()?;
+    let directory = File::open(rt, parent_directory(path)).ok()?;
     Some(read_mount_id(rt, &file)? != read_mount_id(rt, &directory)?)
 }
 

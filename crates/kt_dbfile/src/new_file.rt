@@ -103,7 +103,7 @@ fn may_have_frames<R: Files>(rt: &R, file: &Text) -> Result<bool, NoMemory> {
 /// Creates the file, unless a killed process left one. `results` is the path of the finished file.
 /// Returns `None` if something other than a regular file has the path `name`, or if the open fails.
 // Tested, not proved: results_file_creation_is_atomic.
-fn open_new<R: Files<File = File>>(rt: &R, results: &Text, name: &Text) -> Option<File>
+fn open_new_file<R: Files<File = File>>(rt: &R, results: &Text, name: &Text) -> Option<File>
     requires { IsNewNameOf results.now name.now }
 {
     match create_file(rt, results, name) {
@@ -127,7 +127,7 @@ fn open_new<R: Files<File = File>>(rt: &R, results: &Text, name: &Text) -> Optio
 /// the disk, and `false` if the write or the sync fails. Returns `None` if another process has
 /// locked the file, or if the file can't be read or has other bytes.
 // Tested, not proved: results_file_creation_is_atomic.
-fn complete_page(made: &mut File) -> Option<bool> {
+fn complete_first_page(made: &mut File) -> Option<bool> {
     made.try_lock().ok()?;
     let mut found = [0; PAGE_SIZE + 1];
     let length = made.read(&mut found).ok()?;
@@ -159,10 +159,10 @@ fn create_database<R: Files<File = File>>(rt: &R, file: &Text) -> Result<bool, N
         return Ok(false);
     }
     let new = new_path(file)?;
-    let Some(mut made) = open_new(rt, file, &new) else {
+    let Some(mut made) = open_new_file(rt, file, &new) else {
         return Ok(false);
     };
-    let Some(is_complete) = complete_page(&mut made) else {
+    let Some(is_complete) = complete_first_page(&mut made) else {
         return Ok(false);
     };
     let is_named = is_complete && link_results(rt, file, &new);
@@ -225,7 +225,7 @@ fn remove_new_path<R: Files>(rt: &R, results: FileId, file: &Text, first: &NewPa
 }
 
 /// Returns the directory of the path `file`, or `.` if the path has no slash.
-pub(crate) fn directory_of(file: &str) -> &str {
+pub(crate) fn parent_directory(file: &str) -> &str {
     match file.rsplit_once('/') {
         Some(("", _)) => "/",
         Some((directory, _)) => directory,
@@ -258,7 +258,7 @@ fn remove_new_paths<R: Files + AllocGlobal + Clone + Drop>(
     file: &Text,
     results: FileId,
 ) -> Option<()> {
-    for entry in fs::read_dir(rt, directory_of(file.as_str())).ok()? {
+    for entry in fs::read_dir(rt, parent_directory(file.as_str())).ok()? {
         let entry = entry.ok()?;
         remove_if_same_file(rt, entry.path().to_string_lossy(), results)?;
     }

@@ -22,7 +22,7 @@ use crate::trees::copy_all_columns;
 use kt_base::NoMemory;
 use kt_store::StoreFault;
 use kt_store::attach::{CREATE_ENTRIES, CREATE_META, CREATE_PROPS, CREATE_RUNS};
-use kt_store::store_fault::{DatabaseError, present};
+use kt_store::store_fault::{DatabaseError, require_present};
 use sqlite::Leftover;
 use sqlite_disk::{Disk, Files};
 use sqlite_exec::check::all_rows;
@@ -58,7 +58,7 @@ const LAYOUTS: [(Shape, u64); 7] = [TABLE, KEY, TABLE, TABLE, KEY, TABLE, KEY];
 
 /// Returns store options that limit the cache of read pages to `pages` pages. Returns `None` if the
 /// system provides no random number.
-pub(crate) fn options(rt: &HostRuntime, pages: usize) -> Option<Options>
+pub(crate) fn store_options(rt: &HostRuntime, pages: usize) -> Option<Options>
     ensures pages { IfSome result (CachesPages pages) }
 {
     let state = RandomState::new(rt).ok()?;
@@ -69,7 +69,7 @@ pub(crate) fn options(rt: &HostRuntime, pages: usize) -> Option<Options>
 
 /// Returns the page size of the database in `files`. Returns `None` if its pages end in checksums,
 /// if there is no database, or if a read fails.
-fn page_size_without_sums<D: Disk>(alloc: Global, files: &mut Files<D>) -> Option<PageSize>
+fn page_size_without_checksums<D: Disk>(alloc: Global, files: &mut Files<D>) -> Option<PageSize>
     requires log { IsTrue (D.Disk.is_usable files.old.log) }
     requires db { IsTrue (D.Disk.is_usable files.old.db) }
     ensures size { IfSome result (λ size. AreClean D.Disk files.new.log files.new.db → (db : Trees)
@@ -92,7 +92,7 @@ fn page_size_without_sums<D: Disk>(alloc: Global, files: &mut Files<D>) -> Optio
 /// It checks them if the database file has at most 16 MiB, since the check then takes at most about
 /// 60 ms. It also checks them if the log can have frames: then a runner was killed or the machine
 /// lost power. Fails if the size of a file can't be read.
-fn is_full_check<D: Disk>(files: &mut Files<D>) -> Result<bool, DatabaseError>
+fn needs_full_check<D: Disk>(files: &mut Files<D>) -> Result<bool, DatabaseError>
     requires log { IsTrue (D.Disk.is_usable files.old.log) }
     requires db { IsTrue (D.Disk.is_usable files.old.db) }
     ensures tested { IfOk result (λ it. AreClean D.Disk files.new.log files.new.db
@@ -100,14 +100,14 @@ fn is_full_check<D: Disk>(files: &mut Files<D>) -> Result<bool, DatabaseError>
     ensures log { OnlyReads D.Disk files.old.log files.new.log }
     ensures db { OnlyReads D.Disk files.old.db files.new.db }
 {
-    let size = present(files.db.len().ok())?;
-    let log = present(files.log.len().ok())?;
+    let size = require_present(files.db.len().ok())?;
+    let log = require_present(files.log.len().ok())?;
     Ok(size <= MAX_CHECKED_BYTES || MIN_LOG_BYTES <= log)
 }
 
 /// Creates a store over `files` that isn't opened yet, with the page size `size` and without
 /// checksums. Returns the files if an allocation fails.
-fn create_unopened<D: Disk + Drop>(
+fn create_unopened_store<D: Disk + Drop>(
     alloc: Global,
     files: Files<D>,
     size: PageSize,
@@ -129,7 +129,7 @@ fn create_unopened<D: Disk + Drop>(
 
 /// Returns `true` if `row`, a row of SQLite's schema list, has exactly these values: the rowid
 /// `id`, the type `kind`, the name `name`, the table name `table` and the SQL text `text`.
-fn is_object(row: &Row, id: i64, kind: &str, name: &str, table: &str, text: ValueRef<'_>) -> bool
+fn is_schema_object(row: &Row, id: i64, kind: &str, name: &str, table: &str, text: ValueRef<'_>) -> bool
     ensures { IsTrue result → row.now ≡ Int id ∷ Words kind.now ∷ Words name.now
         ∷ Words table.now ∷ owned text.entry ∷ [] }
 {
@@ -147,15 +147,15 @@ fn is_table(row: &Row, id: u32, name: &str, sql: &str) -> bool
     ensures { IsTrue result → row.now ≡ table_object id name.now sql.now }
 {
     let text = ValueRef::Text(sql.as_bytes());
-    is_object(row, i64::from(id), "table", name, name, text)
+    is_schema_object(row, i64::from(id), "table", name, name, text)
 }
 
 /// Returns `true` if `row`, a row of SQLite's schema list, lists the key index `name` of the table
 /// `table`, with the rowid `id`. Such an index has no SQL text.
-fn is_key(row: &Row, id: u32, name: &str, table: &str) -> bool
+fn is_key_index(row: &Row, id: u32, name: &str, table: &str) -> bool
     ensures { IsTrue result → row.now ≡ key_object id name.now table.now }
 {
-    is_object(row, i64::from(id), "index", name, table, ValueRef::Null)
+    is_schema_object(row, i64::from(id), "index", name, table, ValueRef::Null)
 }
 
 /// Returns `true` if `rows` are SQLite's schema list for schema 2, without the root pages
@@ -167,12 +167,12 @@ fn is_schema_2(rows: &[Row]) -> bool
         return false;
     };
     let of_meta = is_table(meta, 1, "meta", CREATE_META)
-        & is_key(meta_key, 2, "sqlite_autoindex_meta_1", "meta");
+        & is_key_index(meta_key, 2, "sqlite_autoindex_meta_1", "meta");
     let of_runs = is_table(runs, 3, "runs", CREATE_RUNS);
     let of_entries = is_table(entries, 4, "entries", CREATE_ENTRIES)
-        & is_key(entries_key, 5, "sqlite_autoindex_entries_1", "entries");
+        & is_key_index(entries_key, 5, "sqlite_autoindex_entries_1", "entries");
     let of_props = is_table(props, 6, "props", CREATE_PROPS)
-        & is_key(props_key, 7, "sqlite_autoindex_props_1", "props");
+        & is_key_index(props_key, 7, "sqlite_autoindex_props_1", "props");
     of_meta & of_runs & of_entries & of_props
 }
 
@@ -201,7 +201,7 @@ fn list_schema<D: Disk>(alloc: Global, files: &mut Unopened<D>) -> Result<bool, 
 
 /// Returns the schema number in `settings`, the rows of the table `meta`. Returns `None` unless
 /// there is one row, with the name `schema` and an integer.
-fn number_in(settings: &[Row]) -> Option<i64>
+fn schema_number_from_rows(settings: &[Row]) -> Option<i64>
     ensures { IfSome result (λ n. map (drop 1) settings.now
         ≡ (Words (codes "schema") ∷ Int n ∷ []) ∷ []) }
 {
@@ -218,7 +218,7 @@ fn number_in(settings: &[Row]) -> Option<i64>
 }
 
 /// Converts the error of `returned`, the result of an open, to a `DatabaseError`.
-fn with_database_error<T, L>(returned: Result<T, (OpenError, L)>) -> Result<T, (DatabaseError, L)>
+fn convert_open_result<T, L>(returned: Result<T, (OpenError, L)>) -> Result<T, (DatabaseError, L)>
     ensures ok { IfOk result (λ it. returned ≡ Ok it) }
     ensures err { IfErr result (λ e. (cause : _) × (returned ≡ Err (cause, e.1))) }
 {
@@ -229,11 +229,11 @@ fn with_database_error<T, L>(returned: Result<T, (OpenError, L)>) -> Result<T, (
 }
 
 /// Opens the database in `files`, from which the schema list has been read already. Checks all
-/// pages and trees if `is_full_check` is `true`. Otherwise, checks only the pages of the schema and
+/// pages and trees if `needs_full_check` is `true`. Otherwise, checks only the pages of the schema and
 /// the free pages. On failure, returns the error with the files.
 fn open_sound_files<D: Disk + Drop>(
     files: Unopened<D>,
-    is_full_check: bool,
+    needs_full_check: bool,
 ) -> Result<FileStore<D>, (DatabaseError, Unopened<D>)>
     requires usable { AreUsable files }
     requires sound { IsTrue (state_of files).is_clean → HasFile files }
@@ -245,16 +245,16 @@ fn open_sound_files<D: Disk + Drop>(
         → Recovers (state_of files).page_size (image files) (state it).committed) }
     ensures kept { IfOk result (λ it. IsTrue (state it).is_clean → Opens files (state it)) }
     // Only a store whose trees were checked is numbered.
-    ensures tested { is_full_check ≡ true → IfOk result (λ it. IsTrue (view it).is_numbered) }
+    ensures tested { needs_full_check ≡ true → IfOk result (λ it. IsTrue (view it).is_numbered) }
     ensures falls { IfErr result (λ e. IsTrue (state_of e.1).is_clean
         → IsTrue (state_of files).is_clean) }
     ensures unharmed { IfErr result (λ e. IsTrue (state_of e.1).is_clean
         → Opens files (state_of e.1)) }
 {
-    if is_full_check {
-        with_database_error(files.open_numbered())
+    if needs_full_check {
+        convert_open_result(files.open_numbered())
     } else {
-        with_database_error(files.open_trusted())
+        convert_open_result(files.open_trusted())
     }
 }
 
@@ -284,14 +284,14 @@ pub(crate) fn open_known_files<D: Disk + Drop>(
     ensures back { IfOk result (λ found. IfErr found (IsOnlyRead D.Disk files)) }
     ensures left { IfErr result (λ e. LeavesAsBefore D.Disk files (files_left e.1)) }
 {
-    let Some(size) = page_size_without_sums(alloc, &mut files) else {
+    let Some(size) = page_size_without_checksums(alloc, &mut files) else {
         return Ok(Err(files));
     };
-    let is_full_check = match is_full_check(&mut files) {
-        Ok(is_full_check) => is_full_check,
+    let needs_full_check = match needs_full_check(&mut files) {
+        Ok(needs_full_check) => needs_full_check,
         Err(failure) => return Err((failure, Leftover::Files(files))),
     };
-    let mut fresh = match create_unopened(alloc, files, size, options) {
+    let mut fresh = match create_unopened_store(alloc, files, size, options) {
         Ok(fresh) => fresh,
         Err(left) => return Ok(Err(left)),
     };
@@ -302,7 +302,7 @@ pub(crate) fn open_known_files<D: Disk + Drop>(
     if !is_listed {
         return Ok(Err(fresh.close()));
     }
-    match open_sound_files(fresh, is_full_check) {
+    match open_sound_files(fresh, needs_full_check) {
         Ok(store) => Ok(Ok(store)),
         Err((failure, left)) => Err((failure, Leftover::Unopened(left))),
     }
@@ -353,7 +353,7 @@ fn stored_schema_number<S: Store>(store: &mut S, alloc: Global) -> Result<i64, D
     ensures looks { OnlyReadsStore S.Store store.old store.new }
 {
     let settings = all_rows(store, &mut Workspace::new(alloc), META)?;
-    present(number_in(settings.as_slice()))
+    require_present(schema_number_from_rows(settings.as_slice()))
 }
 
 /// The size of the largest database file whose pages and trees are all checked during an open, in

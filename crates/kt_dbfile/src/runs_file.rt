@@ -11,16 +11,16 @@ ghost use Rattle.sqlite_trees.specs.View.{IsClean, IsRolledBack};
 ghost use Rattle.sqlite_wal.specs.Files.{outcomes};
 
 use crate::edits::{mark_run_finished, write_entry, write_run};
-use crate::files::{OpenFailure, connect, open_both};
+use crate::files::{OpenFailure, connect, open_file_and_log};
 use crate::layout::has_tables;
 use crate::mounts::is_mounted_alone;
 use crate::new_file::create_missing_file;
-use crate::opening::{check_schema_number, close_store, open_known_files, options};
-use crate::seeks::{find_outputs, find_properties, head, outline};
+use crate::opening::{check_schema_number, close_store, open_known_files, store_options};
+use crate::seeks::{find_outputs, find_properties, read_head, read_run_outline};
 use crate::trusted_contents::TrustedContents;
 use kt_base::{Entry, NoMemory, Text, Variables};
-use kt_store::attach::lives;
-use kt_store::store_fault::{DatabaseError, ensure_sound, present};
+use kt_store::attach::theorem_of_valid_contents;
+use kt_store::store_fault::{DatabaseError, ensure_sound, require_present};
 use kt_store::{Access, CaseOutputs, ResultStore, Results, RunHead, StoreFault, StoreSpec};
 use sqlite::{Alter, Connection, FileFrom, FileStore, Leftover};
 use sqlite_catalog::load::load;
@@ -75,7 +75,7 @@ fn schema_of_results<S: Alter>(store: &S, alloc: Global) -> Result<Schema, Datab
         × Lists ((S.Store.view store.now).trees catalog_tree) schema) }
 {
     ensure_sound(!store.is_broken())?;
-    let schema = present(load_schema(store, alloc)?)?;
+    let schema = require_present(load_schema(store, alloc)?)?;
     ensure_sound(has_tables(&schema))?;
     Ok(schema)
 }
@@ -121,7 +121,7 @@ fn convert_connection<S: Alter + Drop>(
     ensures left { IfErr result (λ e. IsConvertedFrom S.Store connection e.1) }
     ensures failed { IfErr result (λ e. IsDatabaseFault e.0) }
 {
-    lives(&connection);
+    theorem_of_valid_contents(&connection);
     match wrap_store(alloc, detach_store(connection)) {
         Ok(it) => Ok(it),
         Err((failure, store)) => Err((StoreFault::from(failure), store)),
@@ -142,7 +142,7 @@ impl<S: Alter + Drop> RunsFile<S> {
     /// - `Store`: an earlier failed call has broken the connection, or the database lacks the
     ///   tables of a results file.
     /// - `NoMemory`: memory ran out.
-    pub fn of(results: Results<S>) -> Result<RunsFile<S>, StoreFault>
+    pub fn from_results(results: Results<S>) -> Result<RunsFile<S>, StoreFault>
         ensures stands { IfOk result (λ r. (runs : List Run)
             → StandsFor (state S.Store results) runs → HasCommitted (S.Store.view r) runs) }
         ensures earlier { IfOk result (λ r. IsClean (S.Store.view r)
@@ -343,7 +343,7 @@ const PAUSE_MILLIS: u64 = 50;
 
 /// Pauses for 50 ms if `fault` reports that another process uses the results file. Returns any
 /// other fault as the error.
-fn pause(rt: &HostRuntime, fault: StoreFault) -> Result<(), StoreFault>
+fn pause_if_in_use(rt: &HostRuntime, fault: StoreFault) -> Result<(), StoreFault>
     ensures { IfErr result (λ e. e ≡ fault) }
 {
     if !fault.is_in_use() {
@@ -367,7 +367,7 @@ fn try_open<S: TrustedContents>(
     ensures failed { IfErr result (λ e. IsDatabaseFault e.0) }
 {
     create_missing_file(rt, file);
-    match open_both(rt, file, start) {
+    match open_file_and_log(rt, file, start) {
         Ok(files) => Ok(files),
         Err((trouble, failed)) => Err((StoreFault::from(trouble), failed)),
     }
@@ -392,8 +392,8 @@ fn open_files<S: TrustedContents>(
         match try_open(rt, file, start) {
             Ok(files) => return Ok(files),
             Err((fault, failed)) => {
-                start = S::returned(failed);
-                if let Err(fault) = pause(rt, fault) {
+                start = S::recover_contents(failed);
+                if let Err(fault) = pause_if_in_use(rt, fault) {
                     return Err((fault, start));
                 }
             }
@@ -401,12 +401,12 @@ fn open_files<S: TrustedContents>(
     }
     match try_open(rt, file, start) {
         Ok(files) => Ok(files),
-        Err((fault, failed)) => Err((fault, S::returned(failed))),
+        Err((fault, failed)) => Err((fault, S::recover_contents(failed))),
     }
 }
 
 /// Returns `true` if SQLite opens `path` as the path of a file, not as `:memory:` or as a URI.
-fn is_path(path: &str) -> bool
+fn is_file_path(path: &str) -> bool
     ensures { result ≡ false → (path.now ≡ codes ":memory:") ⊎ IsUri path.now }
 {
     path != ":memory:" && !path.starts_with("file:")
@@ -415,14 +415,14 @@ fn is_path(path: &str) -> bool
 /// Checks the path `file` of a results file, and returns the options of its store. Fails if SQLite
 /// doesn't open the path as a file, or if the file is mounted as a single file. Also fails if the
 /// system provides no random number.
-fn options_of_path(
+fn store_options_for_path(
     rt: &HostRuntime,
     file: &Text,
     access: Access,
 ) -> Result<Options, DatabaseError> {
-    ensure_sound(is_path(file.as_str()))?;
+    ensure_sound(is_file_path(file.as_str()))?;
     ensure_sound(!is_mounted_alone(rt, file))?;
-    let options = present(options(rt, access.pages()))?;
+    let options = require_present(store_options(rt, access.max_cached_pages()))?;
     Ok(options)
 }
 
@@ -461,11 +461,11 @@ impl<S: TrustedContents> RunsFile<FileStore<FileFrom<S>>> {
             FailsToOpen (λ after. after ≡ image_at S.Start) (image_at S.Start) left e.0)) }
         ensures unopened { IfErr result (λ e. IfErr e.1 (λ back. is_some back ≡ is_some start)) }
     {
-        let options = match options_of_path(rt, file, access) {
+        let options = match store_options_for_path(rt, file, access) {
             Ok(options) => options,
             Err(failure) => return Err((StoreFault::from(failure), Err(start))),
         };
-        let start = match present(start) {
+        let start = match require_present(start) {
             Ok(start) => start,
             Err(failure) => return Err((StoreFault::from(failure), Err(None))),
         };
@@ -538,14 +538,14 @@ impl<S: Alter> ResultStore for RunsFile<S> {
     }
 
     fn head(&mut self, number: Option<u64>) -> Result<Option<RunHead>, StoreFault> {
-        head(&mut self.store, self.alloc, number)
+        read_head(&mut self.store, self.alloc, number)
     }
 
     fn outline(&mut self, run: u64) -> Result<Vec<Entry>, StoreFault> {
-        outline(&mut self.store, self.alloc, run)
+        read_run_outline(&mut self.store, self.alloc, run)
     }
 
-    fn pairs(&mut self, run: u64, position: u32) -> Result<Variables, StoreFault> {
+    fn properties(&mut self, run: u64, position: u32) -> Result<Variables, StoreFault> {
         find_properties(&mut self.store, self.alloc, run, position)
     }
 

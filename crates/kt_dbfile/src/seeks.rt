@@ -10,8 +10,8 @@ use crate::trees::{
     copy_blob, create_number_key, find_row_by_key, positive_rowid, read_rows_after,
 };
 use kt_base::{Entry, NoMemory, Output, Variables};
-use kt_store::lookup::key;
-use kt_store::outlines::{outline_from_rows, pairs_from_rows};
+use kt_store::lookup::run_key;
+use kt_store::outlines::{outline_from_rows, properties_from_rows};
 use kt_store::store_fault::{DatabaseError, ensure_sound};
 use kt_store::{CaseOutputs, RunHead, StoreFault};
 use sqlite_trees::store::{Shape, Store};
@@ -34,7 +34,7 @@ pub(crate) fn read_last_number<S: Store>(store: &mut S, alloc: Global) -> Result
 /// Returns the head of run `number`, or of the last run if `number` is `None`. A head is a run
 /// without its entries. Returns `None` if there is no such run. Fails if `number` is from 1 to the
 /// number of the last run, but the file lacks this run.
-pub(crate) fn head<S: Store>(
+pub(crate) fn read_head<S: Store>(
     store: &mut S,
     alloc: Global,
     number: Option<u64>,
@@ -70,7 +70,7 @@ pub(crate) fn find_run_row<S: Store>(
         × (run_at runs run ≡ None)))) }
     ensures looks { ReadsUnbrokenStore S.Store store.old store.new result }
 {
-    let number = key(run);
+    let number = run_key(run);
     ensure_sound(store.shape(RUNS_TREE) == Shape::Table)?;
     let mut row = row::Row::new(alloc);
     if !store.get(RUNS_TREE, number as i64, &mut row)? || u64::from(number) != run {
@@ -121,7 +121,7 @@ fn read_outlines<S: Store>(
 /// Reads the entries of run `run`, ordered by position, without their properties and outputs. Fails
 /// with `NoRun` if no run has this number. Also fails if the run's head or a property shows that an
 /// entry is missing.
-pub(crate) fn outline<S: Store>(
+pub(crate) fn read_run_outline<S: Store>(
     store: &mut S,
     alloc: Global,
     run: u64,
@@ -131,7 +131,7 @@ pub(crate) fn outline<S: Store>(
     ensures looks { OnlyReadsStore S.Store store.old store.new }
 {
     let head = find_run_head(store, alloc, run)?;
-    let found = read_outlines(store, alloc, key(run))?;
+    let found = read_outlines(store, alloc, run_key(run))?;
     check_entries(store, alloc, head, &found)?;
     Ok(found)
 }
@@ -162,11 +162,11 @@ pub(crate) fn find_properties<S: Store>(
         store.new }
     ensures looks { OnlyReadsStore S.Store store.old store.new }
 {
-    let number = key(run);
+    let number = run_key(run);
     let before = key_before_entry(alloc, number, position)?;
     let place = create_entry_key(alloc, number, position)?;
     let rows = read_rows_after(store, alloc, &property_table(), &before, &place, &[4, 5])?;
-    Ok(pairs_from_rows(alloc, &rows)?)
+    Ok(properties_from_rows(alloc, &rows)?)
 }
 
 /// Returns the outputs in `row`, a stored row of the table `entries`. Fails if an output isn't a
@@ -197,7 +197,7 @@ pub(crate) fn find_outputs<S: Store>(
         store.new }
     ensures looks { OnlyReadsStore S.Store store.old store.new }
 {
-    let number = key(run);
+    let number = run_key(run);
     let place = create_entry_key(alloc, number, position)?;
     match find_row_by_key(store, alloc, &entry_table(), &place)? {
         Some(row) if u64::from(number) == run => outputs_from_row(alloc, &row),

@@ -7,7 +7,7 @@ use kt_base::NoMemory;
 use kt_store::RunHead;
 use kt_store::heads::head_from_row;
 use kt_store::store_fault::{DatabaseError, ensure_sound};
-use kt_store::value::int;
+use kt_store::value::int_value;
 use sqlite_trees::store::{Direction, Shape, Store};
 use sqlite_value::row::Row;
 use std::alloc::Global;
@@ -58,7 +58,7 @@ pub(crate) fn create_entry_key(alloc: Global, run: u32, position: u32) -> Result
     ensures { IfOk result (λ place. place ≡ Int (pos run) ∷ Int (pos position) ∷ []) }
 {
     let mut place = create_number_key(alloc, run)?;
-    place.push(int(u64::from(position)))?;
+    place.push(int_value(u64::from(position)))?;
     Ok(place)
 }
 

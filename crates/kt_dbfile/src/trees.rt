@@ -10,9 +10,9 @@ ghost use Rattle.sqlite_value.specs.Keys.{plain};
 ghost use Rattle.sqlite_value.specs.Order.{Row as Values};
 
 use kt_base::{Bytes, NoMemory};
-use kt_store::heads::add;
-use kt_store::store_fault::{DATABASE_FAILURE, DatabaseError, ensure_sound, present};
-use kt_store::value::int;
+use kt_store::heads::push_item;
+use kt_store::store_fault::{DATABASE_FAILURE, DatabaseError, ensure_sound, require_present};
+use kt_store::value::int_value;
 use sqlite::Row;
 use sqlite_exec::work::FromRow;
 use sqlite_trees::store::{Direction, Shape, Store};
@@ -63,7 +63,7 @@ pub(crate) fn create_number_key(alloc: Global, number: u32) -> Result<row::Row, 
     ensures { IfOk result (λ key. key ≡ Int (pos number) ∷ []) }
 {
     let mut key = row::Row::new(alloc);
-    key.push(int(u64::from(number)))?;
+    key.push(int_value(u64::from(number)))?;
     Ok(key)
 }
 
@@ -111,7 +111,7 @@ fn index_entry_rowid(place: &row::Row) -> Option<i64>
 
 /// Returns `true` if the two B-trees of `table` have the expected shapes. The first must be the
 /// tree of a table. The second must be the tree of an index whose columns ascend by their bytes.
-pub(crate) fn have_shapes<S: Store>(store: &S, table: &TreeTable) -> bool
+pub(crate) fn has_expected_shapes<S: Store>(store: &S, table: &TreeTable) -> bool
     ensures table { IsTrue result
         → (S.Store.view store.now).shape table.now.tree ≡ kind.Table }
     ensures index { IsTrue result
@@ -156,7 +156,7 @@ pub(crate) fn read_next_row<S: Store>(
     if !store.next(0, place)? {
         return Ok(false);
     }
-    let id = present(index_entry_rowid(place))?;
+    let id = require_present(index_entry_rowid(place))?;
     ensure_sound(store.get(table.tree, id, row)?)?;
     let own = copy_columns(alloc, row, table.key)?;
     if place.cmp_prefix(Order::PLAIN, &own) != Ordering::Equal || !has_blobs(row, table.blobs) {
@@ -180,7 +180,7 @@ pub(crate) fn find_row_by_key<S: Store>(
         → (S.Store.view store.old).is_broken ≡ false) }
     ensures looks { OnlyReadsStore S.Store store.old store.new }
 {
-    ensure_sound(have_shapes(store, table))?;
+    ensure_sound(has_expected_shapes(store, table))?;
     store.seek(0, table.index, key, Direction::Forward)?;
     let mut place = row::Row::new(alloc);
     let mut row = row::Row::new(alloc);
@@ -207,7 +207,7 @@ fn read_rows_by_key<S: Store>(
         → (S.Store.view store.old).is_broken ≡ false) }
     ensures looks { OnlyReadsStore S.Store store.old store.new }
 {
-    ensure_sound(have_shapes(store, table))?;
+    ensure_sound(has_expected_shapes(store, table))?;
     store.seek(0, table.index, key, Direction::Forward)?;
     let mut place = row::Row::new(alloc);
     let mut row = row::Row::new(alloc);
@@ -219,7 +219,7 @@ fn read_rows_by_key<S: Store>(
             return Ok(rows);
         }
         let selected = select_columns(alloc, &row, columns)?;
-        add(&mut rows, selected)?;
+        push_item(&mut rows, selected)?;
     }
     Err(DATABASE_FAILURE)
 }
@@ -243,7 +243,7 @@ pub(crate) fn read_rows_after<S: Store>(
         → (S.Store.view store.old).is_broken ≡ false) }
     ensures looks { OnlyReadsStore S.Store store.old store.new }
 {
-    ensure_sound(have_shapes(store, table))?;
+    ensure_sound(has_expected_shapes(store, table))?;
     store.seek(0, table.index, before, Direction::Backward)?;
     let mut place = row::Row::new(alloc);
     let mut row = row::Row::new(alloc);
@@ -252,7 +252,7 @@ pub(crate) fn read_rows_after<S: Store>(
 }
 
 /// Returns the number of a table's index entries that begin with `key`.
-pub(crate) fn count_under_key<S: Store>(
+pub(crate) fn count_rows_by_key<S: Store>(
     store: &mut S,
     alloc: Global,
     table: &TreeTable,
@@ -263,7 +263,7 @@ pub(crate) fn count_under_key<S: Store>(
         (S.Store.view store.old).trees n) }
     ensures looks { ReadsUnbrokenStore S.Store store.old store.new result }
 {
-    ensure_sound(have_shapes(store, table))?;
+    ensure_sound(has_expected_shapes(store, table))?;
     store.seek(0, table.index, key, Direction::Forward)?;
     let mut place = row::Row::new(alloc);
     // A faulty disk could keep a cursor going, so the loop counts.
@@ -290,7 +290,7 @@ pub(crate) fn copy_all_columns<T: FromRow>(
     let mut found = Vec::new(alloc);
     for row in rows {
         let selected = select_columns(alloc, row, columns)?;
-        add(&mut found, selected)?;
+        push_item(&mut found, selected)?;
     }
     Ok(found)
 }

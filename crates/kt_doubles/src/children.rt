@@ -34,7 +34,7 @@ pub type ChildSlots = [ChildSlot; 2048];
 pub type SlotChild = (Role, Interface, bool);
 
 /// Creates the states of 2,048 cases, in which no child runs and no cleanup is pending.
-pub fn free_slots() -> ChildSlots
+pub fn create_free_slots() -> ChildSlots
     ensures { (k : ℕ) → slice_index_or result k TheFree ≡ TheFree }
 {
     [ChildSlot::Free; 2048]

@@ -2,7 +2,7 @@ ghost use Rattle.std.specs.Prelude.{◌≡◌, map, IfOk};
 ghost use Rattle.kt_doubles.specs.Common.{outline_entry, outputs_of};
 
 use kt_base::{Entry, NoMemory, Output, Text, Variables, Verdict};
-use kt_store::{CaseOutputs, no_output};
+use kt_store::{CaseOutputs, empty_output};
 use std::alloc::Global;
 
 /// Copies a verdict. The copy owns the text of its reason.
@@ -39,7 +39,7 @@ pub fn copy_outputs(entry: &Entry) -> Result<CaseOutputs, NoMemory>
 }
 
 /// Copies an entry without its properties and outputs. The copy owns the text of its reason.
-fn outline_entry(alloc: Global, entry: &Entry) -> Result<Entry, NoMemory>
+fn copy_entry_outline(alloc: Global, entry: &Entry) -> Result<Entry, NoMemory>
     ensures { IfOk result (λ copy. copy ≡ outline_entry entry.now) }
 {
     Ok(Entry {
@@ -50,8 +50,8 @@ fn outline_entry(alloc: Global, entry: &Entry) -> Result<Entry, NoMemory>
         started: entry.started,
         millis: entry.millis,
         meta: Variables::new(alloc),
-        body: no_output(alloc),
-        cleanup: no_output(alloc),
+        body: empty_output(alloc),
+        cleanup: empty_output(alloc),
     })
 }
 
@@ -63,7 +63,7 @@ fn outline_entry(alloc: Global, entry: &Entry) -> Result<Entry, NoMemory>
 pub fn copy_full_entry(alloc: Global, entry: &Entry) -> Result<Entry, NoMemory>
     ensures { IfOk result (λ copy. copy ≡ entry.now) }
 {
-    let mut copy = outline_entry(alloc, entry)?;
+    let mut copy = copy_entry_outline(alloc, entry)?;
     copy.meta = entry.meta.copy()?;
     copy.body = copy_output(&entry.body)?;
     copy.cleanup = copy_output(&entry.cleanup)?;
@@ -75,12 +75,12 @@ pub fn copy_full_entry(alloc: Global, entry: &Entry) -> Result<Entry, NoMemory>
 /// # Errors
 ///
 /// - `NoMemory`: an allocation fails.
-pub fn outline_entries(alloc: Global, entries: &[Entry]) -> Result<Vec<Entry>, NoMemory>
+pub fn copy_entry_outlines(alloc: Global, entries: &[Entry]) -> Result<Vec<Entry>, NoMemory>
     ensures { IfOk result (λ entry_copies. entry_copies.items ≡ map outline_entry entries.now) }
 {
     let mut entry_copies = Vec::new(alloc);
     for entry in entries {
-        entry_copies.push(outline_entry(alloc, entry)?)?;
+        entry_copies.push(copy_entry_outline(alloc, entry)?)?;
     }
     Ok(entry_copies)
 }

@@ -96,7 +96,7 @@ fn push_full_entry<R: ResultStore>(
     run: u64,
     entry: Entry,
 ) -> Result<(), StoreFault> {
-    let pairs = store.pairs(run, entry.position)?;
+    let pairs = store.properties(run, entry.position)?;
     let outputs = store.outputs(run, entry.position)?;
     let mut whole = entry;
     whole.meta = pairs;

@@ -32,9 +32,9 @@ impl FailingCalls {
     ///   return can't be provoked.
     /// - `NoMemory`: an allocation failed.
     pub fn parse(alloc: Global, example: &Example<'_>) -> Result<FailingCalls> {
-        let (calls, no_memory) = match example.text("refused-memory") {
+        let (calls, no_memory) = match example.find_text("refused-memory") {
             Some(calls) => (calls, Some(provoke_no_memory(alloc)?)),
-            None => (example.text("refused").unwrap_or("0"), None),
+            None => (example.find_text("refused").unwrap_or("0"), None),
         };
         let (first, last) = calls.split_once(' ').unwrap_or((calls, calls));
         Ok(FailingCalls {

@@ -62,7 +62,7 @@ fn push_position_list(out: &mut ExampleOutput, label: &str, positions: &[usize])
 
 /// Checks that `filters` are disjoint, and appends `disjoint`, or the error and the position of the
 /// filter that causes it.
-fn push_disjoint(out: &mut ExampleOutput, filters: &[Filter]) {
+fn push_disjoint_check(out: &mut ExampleOutput, filters: &[Filter]) {
     match check_disjoint(filters) {
         Ok(()) => out.push("disjoint"),
         Err(FilterFault::Repeated(at)) => write!(out, "repeated at {at}"),
@@ -74,7 +74,7 @@ fn push_disjoint(out: &mut ExampleOutput, filters: &[Filter]) {
 impl FilterState {
     /// Parses `raw` as a filter or as a case, as the keyword `keyword` selects, and adds it to this
     /// state.
-    fn add(&mut self, alloc: Global, keyword: &str, raw: &str) -> Result<()> {
+    fn add_filter_or_case(&mut self, alloc: Global, keyword: &str, raw: &str) -> Result<()> {
         match keyword {
             "filter" | "filters" => push_or_fail(&mut self.filters, parse_filter(alloc, raw)),
             _ => push_or_fail(&mut self.items, parse_item(alloc, raw)),
@@ -85,10 +85,10 @@ impl FilterState {
     /// query.
     fn execute_line(&mut self, out: &mut ExampleOutput, line: &ExampleLine<'_>) -> Result<()> {
         match line.keyword {
-            "filter" | "item" => self.add(out.alloc, line.keyword, line.text),
+            "filter" | "item" => self.add_filter_or_case(out.alloc, line.keyword, line.text),
             "filters" | "items" => {
                 for text in expand_copies(out.alloc, line.text)?.as_slice() {
-                    self.add(out.alloc, line.keyword, text.as_str())?;
+                    self.add_filter_or_case(out.alloc, line.keyword, text.as_str())?;
                 }
                 Ok(())
             }
@@ -137,7 +137,7 @@ impl FilterState {
                 self.push_matches(out, &item.path, Some(&item.case_name));
             }
             "may-match" => self.push_matches(out, &unescape_text(out.alloc, line.text)?, None),
-            "disjoint" => push_disjoint(out, &self.filters),
+            "disjoint" => push_disjoint_check(out, &self.filters),
             "select" => self.push_selection(out, false),
             "count" => self.push_selection(out, true),
             _ => return Err(ExampleFault::InvalidExample("no such word")),

@@ -1,4 +1,4 @@
-use crate::entry_copies::{copy_full_entry, copy_outputs, outline_entries};
+use crate::entry_copies::{copy_full_entry, copy_outputs, copy_entry_outlines};
 use kt_base::{Entry, Items, NoMemory, Run, Variables};
 use kt_store::{CaseOutputs, ResultStore, RunHead, StoreFault, StoreSpec};
 use std::alloc::Global;
@@ -71,7 +71,7 @@ impl MemRuns {
     /// Returns the index of run `number` in the store's list of runs.
     ///
     /// Fails with `NoRun` if there is no such run.
-    fn place(&self, number: u64) -> Result<usize, StoreFault>
+    fn run_index(&self, number: u64) -> Result<usize, StoreFault>
         ensures { FindsPlace self.now number result }
     {
         if number == 0 || number > self.runs.len() as u64 {
@@ -82,18 +82,18 @@ impl MemRuns {
 
     /// Inserts a copy of an entry into run `number`, in the order of positions.
     ///
-    /// Fails with `NoRun` if there is no such run, and with the error of [`put_fault`] if the run
+    /// Fails with `NoRun` if there is no such run, and with the error of [`find_put_fault`] if the run
     /// rejects the entry. Fails with `NoMemory` if an allocation fails.
     fn put_entry(&mut self, number: u64, entry: &Entry) -> Result<(), StoreFault>
         ensures { ServesInMemory self.old (Put number entry.now result) self.new }
     {
-        let place = self.place(number)?;
+        let place = self.run_index(number)?;
         let alloc = self.alloc;
         let run = &mut self.runs[place];
-        if let Some(fault) = put_fault(run, entry.position) {
+        if let Some(fault) = find_put_fault(run, entry.position) {
             return Err(fault);
         }
-        if let Err(refusal) = add_copy(alloc, &mut run.entries, entry) {
+        if let Err(refusal) = insert_entry_copy(alloc, &mut run.entries, entry) {
             return Err(convert_no_memory(refusal));
         }
         Ok(())
@@ -101,14 +101,14 @@ impl MemRuns {
 
     /// Marks run `number` as finished.
     ///
-    /// Fails with `NoRun` if there is no such run, and with the error of [`finish_fault`] if the
+    /// Fails with `NoRun` if there is no such run, and with the error of [`find_finish_fault`] if the
     /// run can't be finished.
     fn finish_run(&mut self, number: u64) -> Result<(), StoreFault>
         ensures { ServesInMemory self.old (Finished number result) self.new }
     {
-        let place = self.place(number)?;
+        let place = self.run_index(number)?;
         let run = &mut self.runs[place];
-        if let Some(fault) = finish_fault(run) {
+        if let Some(fault) = find_finish_fault(run) {
             return Err(fault);
         }
         run.finished = true;
@@ -121,8 +121,8 @@ impl MemRuns {
         ensures { ServesInMemory self.now
             (Outline number (map_success (λ found. found.items) result)) self.now }
     {
-        let place = self.place(number)?;
-        match outline_entries(self.alloc, self.runs[place].entries.as_slice()) {
+        let place = self.run_index(number)?;
+        match copy_entry_outlines(self.alloc, self.runs[place].entries.as_slice()) {
             Ok(entries) => Ok(entries),
             Err(refusal) => Err(convert_no_memory(refusal)),
         }
@@ -133,7 +133,7 @@ impl MemRuns {
     fn copy_properties(&self, number: u64, position: u32) -> Result<Variables, StoreFault>
         ensures { ServesInMemory self.now (Pairs number position result) self.now }
     {
-        let Ok(place) = self.place(number) else {
+        let Ok(place) = self.run_index(number) else {
             return Ok(Variables::new(self.alloc));
         };
         let Some(entry) = entry_at(self.runs[place].entries.as_slice(), position) else {
@@ -152,7 +152,7 @@ impl MemRuns {
     fn copy_outputs_at(&self, number: u64, position: u32) -> Result<CaseOutputs, StoreFault>
         ensures { ServesInMemory self.now (Outputs number position result) self.now }
     {
-        let place = self.place(number)?;
+        let place = self.run_index(number)?;
         let Some(entry) = entry_at(self.runs[place].entries.as_slice(), position) else {
             return Err(StoreFault::NoRun);
         };
@@ -164,13 +164,13 @@ impl MemRuns {
 
     /// Returns the head of run `number`, or of the last run if `number` is `None`. Returns `None`
     /// if there is no such run.
-    fn head_at(&self, number: Option<u64>) -> Option<RunHead>
+    fn select_head(&self, number: Option<u64>) -> Option<RunHead>
         ensures found { result ≡ option_map head_of (find (λ (r : Run). r.number
             == unwrap_or number (length self.now)) self.now) }
         ensures numbered { IfSome result (IsNumbered number) }
     {
         let run = find_run(&self.runs, number.unwrap_or(self.runs.len() as u64))?;
-        Some(head(run))
+        Some(run_head(run))
     }
 }
 
@@ -207,14 +207,14 @@ impl ResultStore for MemRuns {
     }
 
     fn head(&mut self, number: Option<u64>) -> Result<Option<RunHead>, StoreFault> {
-        Ok(self.head_at(number))
+        Ok(self.select_head(number))
     }
 
     fn outline(&mut self, run: u64) -> Result<Vec<Entry>, StoreFault> {
         self.copy_outline(run)
     }
 
-    fn pairs(&mut self, run: u64, position: u32) -> Result<Variables, StoreFault> {
+    fn properties(&mut self, run: u64, position: u32) -> Result<Variables, StoreFault> {
         self.copy_properties(run, position)
     }
 
@@ -236,7 +236,7 @@ fn convert_no_memory(refusal: NoMemory) -> StoreFault
 }
 
 /// Returns the head of a run, which is the run without its entries.
-fn head(run: &Run) -> RunHead
+fn run_head(run: &Run) -> RunHead
     ensures { result ≡ head_of run.now }
 {
     RunHead {
@@ -288,7 +288,7 @@ fn insert_entry(alloc: Global, entries: &mut Items<Entry>, entry: Entry) -> Resu
 
 /// Inserts a copy of `entry` into `entries`, before the first entry with a greater position. If an
 /// allocation fails, `entries` is unchanged.
-fn add_copy(alloc: Global, entries: &mut Items<Entry>, entry: &Entry) -> Result<(), NoMemory>
+fn insert_entry_copy(alloc: Global, entries: &mut Items<Entry>, entry: &Entry) -> Result<(), NoMemory>
     ensures ok { OnOk result (entries.new ≡ insert_by_position entry.now entries.old) }
     ensures err { OnErr result (entries.new ≡ entries.old) }
 {
@@ -314,7 +314,7 @@ fn has_position(entries: &[Entry], position: u32) -> bool
 
 /// Returns the first of `RunClosed`, `BadPosition` and `RepeatedPosition` that applies to a put of
 /// an entry with `position` into a run. Returns `None` if the run accepts the entry.
-fn put_fault(run: &Run, position: u32) -> Option<StoreFault>
+fn find_put_fault(run: &Run, position: u32) -> Option<StoreFault>
     ensures { result ≡ put_error run.now position }
 {
     if run.finished {
@@ -331,7 +331,7 @@ fn put_fault(run: &Run, position: u32) -> Option<StoreFault>
 
 /// Returns the first of `RunClosed` and `Incomplete` that applies to finishing a run. Returns
 /// `None` if the run can be finished.
-fn finish_fault(run: &Run) -> Option<StoreFault>
+fn find_finish_fault(run: &Run) -> Option<StoreFault>
     ensures { result ≡ finish_error run.now }
 {
     if run.finished {

@@ -142,7 +142,7 @@ fn set_clock_or_faults(scene: &mut Scene, keyword: &str, text: &str) -> Result<(
 /// - `NoMemory`: an allocation failed.
 pub fn parse_scene(alloc: Global, example: &Example<'_>) -> Result<Scene> {
     let mut scene = Scene::new(alloc);
-    scene.default_bytes = example.bytes(alloc, "others")?;
+    scene.default_bytes = example.find_bytes(alloc, "others")?;
     for line in example.lines.as_slice() {
         parse_line(&mut scene, line)?;
     }

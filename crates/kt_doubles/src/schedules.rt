@@ -63,7 +63,7 @@ fn push_run_result(
         Ok(Totals { good, bad, total }) => write!(out, ": {good} good, {bad} bad of {total}"),
         Err(fault) => write!(out, ": {fault}"),
     }
-    if example.text("moments").is_some() {
+    if example.find_text("moments").is_some() {
         out.push_line("");
         push_entries(out, "cases", entries);
     }
@@ -78,18 +78,18 @@ fn push_run_result(
 /// - `NoMemory`: an allocation failed.
 pub fn push_output(out: &mut ExampleOutput, example: &Example<'_>) -> Result<()> {
     let alloc = out.alloc;
-    let width = parse_number_up_to(example.text("width"), MAX_WIDTH)?;
-    let failing = example.number("failing", 0)? as usize;
-    let letters = example.required_bytes(alloc, "plan", "no plan");
-    let ends = parse_numbers(alloc, example.text("ends").unwrap_or(""));
-    let moments = parse_numbers(alloc, example.text("moments").unwrap_or(""));
+    let width = parse_number_up_to(example.find_text("width"), MAX_WIDTH)?;
+    let failing = example.find_number("failing", 0)? as usize;
+    let letters = example.require_bytes(alloc, "plan", "no plan");
+    let ends = parse_numbers(alloc, example.find_text("ends").unwrap_or(""));
+    let moments = parse_numbers(alloc, example.find_text("moments").unwrap_or(""));
     let (letters, (ends, moments)) = zip_results(letters, zip_results(ends, moments))?;
     let plan = create_plan(alloc, "p", &letters, 300, &Variables::new(alloc))?;
     let mut launcher = ScriptedLauncher::new(alloc, &letters, &ends, &moments);
     let mut sink = MemorySink::new(alloc, failing);
     let end = run_cases(alloc, plan, width, &mut launcher, &mut sink);
     let (log, entries) = (launcher.log.as_str()?, sink.entries.as_slice());
-    if example.text("brief").is_some() {
+    if example.find_text("brief").is_some() {
         push_run_summary(out, log, entries);
     } else {
         push_calls_and_puts(out, log, entries);

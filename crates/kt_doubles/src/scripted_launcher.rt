@@ -3,7 +3,7 @@ ghost use Rattle.kt_base.specs.declared.child.Role.{Role};
 ghost use Rattle.kt_sched.specs.Children.{IsEvidence, IsIdle};
 ghost use Rattle.kt_doubles.specs.Children.{running_child_at, is_cleanup_pending};
 
-use crate::children::{ChildSlot, ChildSlots, MAX_POSITIONS, free_slots, running_child, set_slot};
+use crate::children::{ChildSlot, ChildSlots, MAX_POSITIONS, create_free_slots, running_child, set_slot};
 use crate::plans::is_start_refused;
 use kt_base::{Bytes, Interface, LATEST_MOMENT_MILLIS, Outcome, Output, Refused, Role};
 use kt_claim::{Claim, Evidence, Tap};
@@ -97,7 +97,7 @@ impl<'a> ScriptedLauncher<'a> {
             ends,
             moments,
             log: ExampleOutput::new(alloc),
-            places: free_slots(),
+            places: create_free_slots(),
         }
     }
 }

@@ -166,16 +166,16 @@ fn execute_plan<O: Os + Drop>(
 /// Executes the plan of `example` over a scripted system that follows `scene`.
 fn run_plan<'a>(example: &Example<'_>, scene: &'a Scene) -> Result<DriverRun<ScriptedSystem<'a>>> {
     let alloc = scene.alloc;
-    let width = parse_number_up_to(example.text("width"), MAX_WIDTH)?;
-    let limit = parse_number_up_to(example.text("limit"), MAX_TIMEOUT_SECONDS)?;
-    let failing = example.number("failing", 0)? as usize;
+    let width = parse_number_up_to(example.find_text("width"), MAX_WIDTH)?;
+    let limit = parse_number_up_to(example.find_text("limit"), MAX_TIMEOUT_SECONDS)?;
+    let failing = example.find_number("failing", 0)? as usize;
     let variables = parse_pairs(alloc, example.lines.as_slice(), "variable");
-    let letters = unescape(alloc, example.text("plan").unwrap_or(""));
+    let letters = unescape(alloc, example.find_text("plan").unwrap_or(""));
     let (letters, variables) = zip_results(letters, variables)?;
-    let base = example.text("base").unwrap_or("");
-    let source = example.text("source").unwrap_or("/t");
+    let base = example.find_text("base").unwrap_or("");
+    let source = example.find_text("source").unwrap_or("/t");
     let (base, source) = copy_texts(alloc, base, source)?;
-    let program = example.text("program").unwrap_or("d/p");
+    let program = example.find_text("program").unwrap_or("d/p");
     let plan = create_plan(alloc, program, &letters, limit, &variables)?;
     let sink = MemorySink::new(alloc, failing);
     let os = ScriptedSystem::new(scene);
@@ -187,7 +187,7 @@ fn run_plan<'a>(example: &Example<'_>, scene: &'a Scene) -> Result<DriverRun<Scr
 /// early, if any.
 fn push_run(out: &mut ExampleOutput, example: &Example<'_>, scene: &Scene) -> Result<()> {
     let run = run_plan(example, scene)?;
-    for keyword in example.text("show").unwrap_or("entries").split_whitespace() {
+    for keyword in example.find_text("show").unwrap_or("entries").split_whitespace() {
         out.push_separator("\n");
         push_run_part(out, keyword, &run)?;
     }
@@ -204,7 +204,7 @@ fn push_plan_output(
     example: &Example<'_>,
     mut scene: Scene,
 ) -> Result<()> {
-    if example.text("fails").is_none() {
+    if example.find_text("fails").is_none() {
         return push_run(out, example, &scene);
     }
     for line in example.lines.as_slice() {
@@ -270,7 +270,7 @@ fn list_program<'a>(
     let alloc = scene.alloc;
     let variables = parse_pairs(alloc, example.lines.as_slice(), "variable");
     let (program, variables) = zip_results(create_program(alloc), variables)?;
-    let (base, source) = copy_texts(alloc, example.text("base").unwrap_or(""), "/t")?;
+    let (base, source) = copy_texts(alloc, example.find_text("base").unwrap_or(""), "/t")?;
     let os = ScriptedSystem::new(scene);
     Ok(list_cases(alloc, os, &base, source, &program, &variables))
 }
@@ -281,7 +281,7 @@ fn list_program<'a>(
 fn push_list_output(out: &mut ExampleOutput, example: &Example<'_>, scene: &Scene) -> Result<()> {
     let (os, listing) = list_program(example, scene)?;
     push_calls(out, "words", os.log.as_str()?)?;
-    if example.text("show") == Some("spawns") {
+    if example.find_text("show") == Some("spawns") {
         out.push_line(os.spawn_log.as_str()?.trim());
     }
     out.push_separator("\n");
@@ -293,7 +293,7 @@ fn push_list_output(out: &mut ExampleOutput, example: &Example<'_>, scene: &Scen
 /// more bytes are known to follow. With `limit`, `read_and_peek` reads at most `limit` bytes, as of
 /// a child's output. Without it, `read_up_to` reads the file as a Kyuafile. Returns `None` if the
 /// read fails.
-fn read_front(
+fn read_endless_file(
     alloc: Global,
     file: &mut EndlessReader,
     limit: Option<u64>,
@@ -312,14 +312,14 @@ fn read_front(
 /// BYTES`, the file is read as an output, and otherwise as a Kyuafile.
 fn push_read_output(out: &mut ExampleOutput, example: &Example<'_>) -> Result<()> {
     let mut file = EndlessReader {
-        max_read_bytes: example.number("piece", 1)? as usize,
-        remaining_reads: example.number("reads", u64::MAX)?,
-        is_interrupted: example.text("interrupted").is_some(),
+        max_read_bytes: example.find_number("piece", 1)? as usize,
+        remaining_reads: example.find_number("reads", u64::MAX)?,
+        is_interrupted: example.find_text("interrupted").is_some(),
         returned_bytes: 0,
         failed_reads: 0,
     };
-    let limit = example.text("limit").map(parse_number).transpose()?;
-    let read = read_front(out.alloc, &mut file, limit);
+    let limit = example.find_text("limit").map(parse_number).transpose()?;
+    let read = read_endless_file(out.alloc, &mut file, limit);
     let (given, failed) = (file.returned_bytes, file.failed_reads);
     match read {
         None => write!(out, "failed; {given} bytes given, {failed} reads failed"),
@@ -340,7 +340,7 @@ fn push_read_output(out: &mut ExampleOutput, example: &Example<'_>) -> Result<()
 /// - `NoMemory`: an allocation failed.
 pub fn push_output(out: &mut ExampleOutput, example: &Example<'_>) -> Result<()> {
     let scene = parse_scene(out.alloc, example)?;
-    match example.first()?.keyword {
+    match example.first_line()?.keyword {
         "plan" => push_plan_output(out, example, scene),
         "list" => push_list_output(out, example, &scene),
         "reader" => push_read_output(out, example),

@@ -68,7 +68,7 @@ fn push_case(out: &mut ExampleOutput, case: CaseDef) -> Result<()> {
 /// Appends a line for each case in `found`, or only their number if the example contains the line
 /// `count`.
 fn push_cases(out: &mut ExampleOutput, example: &Example<'_>, found: Items<CaseDef>) -> Result<()> {
-    if example.text("count").is_some() {
+    if example.find_text("count").is_some() {
         write!(out, "{} cases", found.len());
         return Ok(());
     }
@@ -83,10 +83,10 @@ fn push_cases(out: &mut ExampleOutput, example: &Example<'_>, found: Items<CaseD
 /// The list is the text of the line `list TEXT`. Without this line, the list is the header, the
 /// text of the line `blocks TEXT`, and the copies of the lines `numbered COUNT TEXT`.
 fn decode_case_list(alloc: Global, example: &Example<'_>) -> Result<Vec<u8>> {
-    if let Some(text) = example.text("list") {
+    if let Some(text) = example.find_text("list") {
         return unescape(alloc, text);
     }
-    let blocks = require_part(example.text("blocks"), "no list")?;
+    let blocks = require_part(example.find_text("blocks"), "no list")?;
     append_copies(alloc, prepend_header(alloc, blocks), example)
 }
 
@@ -131,7 +131,7 @@ fn list_program_cases(
 /// - `InvalidExample`: a line is missing or invalid.
 /// - `NoMemory`: an allocation failed.
 pub fn push_output(out: &mut ExampleOutput, example: &Example<'_>) -> Result<()> {
-    if let Some(keyword) = example.text("program") {
+    if let Some(keyword) = example.find_text("program") {
         return push_cases(
             out,
             example,

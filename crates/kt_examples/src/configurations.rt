@@ -22,7 +22,7 @@ fn push_suite(out: &mut ExampleOutput, config: &Config, keyword: &str, suite: &s
 ///
 /// Returns `no suite` if the suite has no variables, or `no variable` if the suite has no variable
 /// `name`.
-fn suite_value<'a>(config: &'a Config, suite: &Text, name: &Text) -> &'a str {
+fn find_suite_value<'a>(config: &'a Config, suite: &Text, name: &Text) -> &'a str {
     match config.suite_vars(suite) {
         None => "no suite",
         Some(variables) if !variables.has_variable(name) => "no variable",
@@ -37,7 +37,7 @@ fn push_value(out: &mut ExampleOutput, config: &Config, text: &str) -> Result<()
         unescape_text(out.alloc, suite),
         unescape_text(out.alloc, name),
     )?;
-    out.push(suite_value(config, &suite, &name));
+    out.push(find_suite_value(config, &suite, &name));
     Ok(())
 }
 
@@ -98,7 +98,7 @@ fn push_line_outputs(
 /// - `InvalidExample`: a line is invalid.
 /// - `NoMemory`: an allocation failed.
 pub fn push_output(out: &mut ExampleOutput, example: &Example<'_>) -> Result<()> {
-    let Some(file) = example.text("file") else {
+    let Some(file) = example.find_text("file") else {
         return push_line_outputs(out, Config::new(out.alloc), example);
     };
     let file = append_copies(out.alloc, unescape(out.alloc, file), example)?;

@@ -37,7 +37,7 @@ fn push_copies(text: &mut Vec<u8>, piece: &[u8], times: usize) -> Result<()> {
 }
 
 /// Replaces the bytes of `text` from the index `from` on by `times` copies of these bytes.
-fn repeat(alloc: Global, text: &mut Vec<u8>, from: usize, times: usize) -> Result<()> {
+fn repeat_suffix(alloc: Global, text: &mut Vec<u8>, from: usize, times: usize) -> Result<()> {
     let piece = text.get(from..).unwrap_or(&[]).to_vec(alloc)?;
     text.truncate(from);
     push_copies(text, &piece, times)
@@ -99,7 +99,7 @@ impl Unescaper<'_> {
             _ if b == b'\\' => self.decode_escape(),
             Some((times, from)) if b == b'}' => {
                 self.repetition = None;
-                repeat(self.alloc, &mut self.text, from, times)
+                repeat_suffix(self.alloc, &mut self.text, from, times)
             }
             _ => convert_error(self.text.push(b)),
         }

@@ -87,13 +87,13 @@ impl<'a> Example<'a> {
     /// # Errors
     ///
     /// - `InvalidExample`: the example has no input.
-    pub fn first(&self) -> Result<ExampleLine<'a>> {
+    pub fn first_line(&self) -> Result<ExampleLine<'a>> {
         require_part(self.lines.first().copied(), "the row is empty")
     }
 
     /// Returns the text of the first line of the example's input with the keyword `keyword`, or
     /// `None` if there is no such line. The escapes of the text are not decoded.
-    pub fn text(&self, keyword: &str) -> Option<&'a str> {
+    pub fn find_text(&self, keyword: &str) -> Option<&'a str> {
         find_text(self.lines.as_slice(), keyword)
     }
 
@@ -103,7 +103,7 @@ impl<'a> Example<'a> {
     /// # Errors
     ///
     /// - `InvalidExample`: the text after the keyword isn't a number from 0 to 2^64 - 1.
-    pub fn number(&self, keyword: &str, other: u64) -> Result<u64> {
+    pub fn find_number(&self, keyword: &str, other: u64) -> Result<u64> {
         find_number(self.lines.as_slice(), keyword, other)
     }
 
@@ -114,8 +114,8 @@ impl<'a> Example<'a> {
     ///
     /// - `InvalidExample`: an escape or a repetition is invalid.
     /// - `NoMemory`: an allocation failed.
-    pub fn bytes(&self, alloc: Global, keyword: &str) -> Result<Option<Vec<u8>>> {
-        self.text(keyword)
+    pub fn find_bytes(&self, alloc: Global, keyword: &str) -> Result<Option<Vec<u8>>> {
+        self.find_text(keyword)
             .map(|raw| unescape(alloc, raw))
             .transpose()
     }
@@ -128,13 +128,13 @@ impl<'a> Example<'a> {
     /// - `InvalidExample`: no line has the keyword (the error's text is `fault`), or an escape or a
     ///   repetition is invalid.
     /// - `NoMemory`: an allocation failed.
-    pub fn required_bytes(
+    pub fn require_bytes(
         &self,
         alloc: Global,
         keyword: &str,
         fault: &'static str,
     ) -> Result<Vec<u8>> {
-        unescape(alloc, require_part(self.text(keyword), fault)?)
+        unescape(alloc, require_part(self.find_text(keyword), fault)?)
     }
 
     /// Returns the expected output with its escapes decoded to bytes, and with a newline between

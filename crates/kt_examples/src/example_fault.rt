@@ -16,7 +16,7 @@ pub enum ExampleFault {
 
 impl ExampleFault {
     /// Returns the message of the error, which is printed after the number of the example's line.
-    pub fn text(self) -> &'static str {
+    pub fn message(self) -> &'static str {
         match self {
             ExampleFault::NoMemory(_) => "out of memory",
             ExampleFault::InvalidExample(text) => text,

@@ -49,7 +49,7 @@ pub fn parse_numbers(alloc: Global, text: &str) -> Result<Vec<u64>> {
 }
 
 /// Returns `text` with each `#` replaced by `number`.
-fn insert_number(alloc: Global, text: &str, number: u32) -> Result<String> {
+fn replace_placeholder(alloc: Global, text: &str, number: u32) -> Result<String> {
     let number = number.to_string(alloc)?;
     convert_error(text.replace(alloc, "#", number.as_str()))
 }
@@ -65,7 +65,7 @@ pub fn expand_copies(alloc: Global, raw: &str) -> Result<Vec<String>> {
     let (times, text) = split_once_or_fail(raw, " ", "a text stands after a number")?;
     let mut texts = Vec::new(alloc);
     for number in 0..parse_count(times)? {
-        push_or_fail(&mut texts, insert_number(alloc, text, number))?;
+        push_or_fail(&mut texts, replace_placeholder(alloc, text, number))?;
     }
     Ok(texts)
 }

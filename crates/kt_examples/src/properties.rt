@@ -117,7 +117,7 @@ impl PropertyState {
     }
 
     /// Records that the required file or program `raw` exists on the host.
-    fn record_found(&mut self, alloc: Global, need: Need, raw: &str) -> Result<()> {
+    fn record_need(&mut self, alloc: Global, need: Need, raw: &str) -> Result<()> {
         convert_error(self.host.record_found(need, &unescape_text(alloc, raw)?))
     }
 
@@ -130,8 +130,8 @@ impl PropertyState {
             "case" => return set_property(out, &mut self.case, text),
             "numbered" => return set_property_copies(alloc, &mut self.program, text),
             "config" => return set_variable(alloc, &mut self.config, text),
-            "file" => return self.record_found(alloc, Need::File, text),
-            "program" => return self.record_found(alloc, Need::Program, text),
+            "file" => return self.record_need(alloc, Need::File, text),
+            "program" => return self.record_need(alloc, Need::Program, text),
             "memory" => return store_number(&mut self.host.memory, text),
             "disk" => return store_number(&mut self.host.disk, text),
             "root" => self.host.root = true,

@@ -26,8 +26,8 @@ fn print_text(
     page: &mut ScriptedWriter,
 ) -> Result<()> {
     let all = "failed broken expected_failure skipped passed";
-    let kinds = parse_verdict_kinds(alloc, example.text("kinds").unwrap_or(all))?;
-    let _ = kt_report::text(run, &kinds, example.text("verbose").is_some(), page);
+    let kinds = parse_verdict_kinds(alloc, example.find_text("kinds").unwrap_or(all))?;
+    let _ = kt_report::text(run, &kinds, example.find_text("verbose").is_some(), page);
     Ok(())
 }
 
@@ -48,7 +48,7 @@ fn print_report(
     run: &Run,
     page: &mut ScriptedWriter,
 ) -> Result<()> {
-    match example.text("report") {
+    match example.find_text("report") {
         Some("line") => {
             for entry in run.entries.as_slice() {
                 let _ = kt_report::line(entry, page);
@@ -71,7 +71,7 @@ fn push_report(out: &mut ExampleOutput, example: &Example<'_>, run: &Run) -> Res
     let mut page = ScriptedWriter::new(out.alloc);
     print_report(out, example, run, &mut page)?;
     let text = page.written_text(out.alloc)?;
-    match example.text("report") {
+    match example.find_text("report") {
         Some("moment") => push_start_time(out, text.as_str()),
         _ => out.push(text.as_str()),
     }

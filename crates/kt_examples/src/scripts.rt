@@ -61,7 +61,7 @@ fn push_stmts(out: &mut ExampleOutput, stmts: &[Stmt]) {
 pub fn push_output(out: &mut ExampleOutput, example: &Example<'_>) -> Result<()> {
     match parse(
         out.alloc,
-        &example.required_bytes(out.alloc, "script", "no script")?,
+        &example.require_bytes(out.alloc, "script", "no script")?,
     ) {
         Ok(stmts) => push_stmts(out, stmts.as_slice()),
         Err(fault) => write!(out, "{fault:?}"),

@@ -197,7 +197,7 @@ fn push_pieces(out: &mut ExampleOutput, example: &Example<'_>, keyword: &str) ->
 /// - `InvalidExample`: an escape is invalid.
 /// - `NoMemory`: an allocation failed.
 pub fn push_output(out: &mut ExampleOutput, example: &Example<'_>, keyword: &str) -> Result<()> {
-    let Some(bytes) = example.bytes(out.alloc, keyword)? else {
+    let Some(bytes) = example.find_bytes(out.alloc, keyword)? else {
         return push_pieces(out, example, keyword);
     };
     let whole = read_at_once(out.alloc, keyword, &bytes)?;

@@ -98,7 +98,7 @@ pub fn parse_outcome(text: &str) -> Result<Outcome> {
 ///
 /// The line is `file TEXT`, `tap TEXT`, `plain`, `no-file`, `file-unread` or `tap-unread`.
 fn parse_evidence(alloc: Global, example: &Example<'_>) -> Result<Evidence> {
-    let line = example.first()?;
+    let line = example.first_line()?;
     match line.keyword {
         "file" => convert_error(read_claim(alloc, &unescape(alloc, line.text)?)).map(Evidence::Atf),
         "tap" => convert_error(read_tap(alloc, &unescape(alloc, line.text)?)).map(Evidence::Tap),
@@ -112,10 +112,10 @@ fn parse_evidence(alloc: Global, example: &Example<'_>) -> Result<Evidence> {
 
 /// Returns the verdict of the case in an example, by its evidence and its body's outcome, and by
 /// its cleanup if the case has one.
-fn judge_body(alloc: Global, example: &Example<'_>) -> Result<Verdict> {
-    let body = parse_outcome(require_part(example.text("body"), "no body")?)?;
+fn judge_case(alloc: Global, example: &Example<'_>) -> Result<Verdict> {
+    let body = parse_outcome(require_part(example.find_text("body"), "no body")?)?;
     let verdict = body_verdict(parse_evidence(alloc, example)?, body);
-    match example.text("cleanup") {
+    match example.find_text("cleanup") {
         None => Ok(verdict),
         Some("refused") => Ok(with_cleanup(verdict, CleanupEnd::Refused)),
         Some(ending) => Ok(with_cleanup(verdict, CleanupEnd::Ended(parse_outcome(ending)?))),
@@ -132,9 +132,9 @@ fn judge_body(alloc: Global, example: &Example<'_>) -> Result<Verdict> {
 /// - `InvalidExample`: a line is missing or invalid.
 /// - `NoMemory`: an allocation failed.
 pub fn push_output(out: &mut ExampleOutput, example: &Example<'_>) -> Result<()> {
-    let verdict = match example.text("refused") {
+    let verdict = match example.find_text("refused") {
         Some(refused) => refused_verdict(parse_refusal(refused)?),
-        None => judge_body(out.alloc, example)?,
+        None => judge_case(out.alloc, example)?,
     };
     push_kind(out, &verdict);
     push_reason(out, &verdict)

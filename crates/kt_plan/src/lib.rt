@@ -11,6 +11,6 @@ mod world;
 pub use cases::collecting::select_cases;
 pub use cases::{Candidate, CaseSelection, CommandSelection};
 pub use options::Settings;
-pub use plan::planning::prepare;
+pub use plan::planning::prepare_plan;
 pub use selection_error::SelectionError;
 pub use world::World;

@@ -6,7 +6,7 @@ pub mod JunitSteps
 pub mod Layouts
 pub mod LineSteps
 pub mod Outlines
-pub mod OwnDetails
+pub mod InlineDetails
 pub mod Outputs
 pub mod Runs
 pub mod TextSteps

@@ -11,7 +11,7 @@ pub struct EntryOutputs {
 
 /// An interface to the properties and the outputs of entries, which a report reads one entry at a
 /// time.
-pub trait Details {
+pub trait DetailSource {
     ghost use Rattle.std.specs.Prelude.{Result};
     ghost use Rattle.kt_base.specs.declared.entry.Entry.{Entry};
     ghost use Rattle.kt_report.specs.Details.{with_outputs_read, with_pairs_read};
@@ -34,7 +34,7 @@ pub trait Details {
     /// # Errors
     ///
     /// - `Fault`: the read fails.
-    fn pairs(&mut self, entry: &Entry) -> Result<Option<Variables>, Self::Fault>
+    fn properties(&mut self, entry: &Entry) -> Result<Option<Variables>, Self::Fault>
         ensures { reads_pairs self.old entry.now (with_pairs_read entry.now result) self.new };
 
     /// Reads the outputs of `entry`. Returns `None` if `entry` itself contains them.
@@ -46,11 +46,11 @@ pub trait Details {
         ensures { reads_outputs self.old entry.now (with_outputs_read entry.now result) self.new };
 }
 
-/// A `Details` that reads nothing, for entries that contain their properties and outputs.
+/// A `DetailSource` that reads nothing, for entries that contain their properties and outputs.
 #[derive(Drop)]
-pub struct OwnDetails;
+pub struct InlineDetails;
 
-impl Details for OwnDetails {
+impl DetailSource for InlineDetails {
     ghost use Rattle.kt_report.specs.Details.{reads_nothing};
 
     // No read fails.
@@ -60,7 +60,7 @@ impl Details for OwnDetails {
 
     ghost reads_outputs = { reads_nothing };
 
-    fn pairs(&mut self, _entry: &Entry) -> Result<Option<Variables>, OutputFault> {
+    fn properties(&mut self, _entry: &Entry) -> Result<Option<Variables>, OutputFault> {
         Ok(None)
     }
 

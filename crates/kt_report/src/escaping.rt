@@ -155,7 +155,7 @@ fn escape_outputs(alloc: Global, body: &Bytes, cleanup: &Bytes) -> Result<Text, 
 /// # Errors
 ///
 /// - `NoMemory`: an allocation fails.
-pub fn case_texts(
+pub fn create_case_texts(
     alloc: Global,
     entry: &Entry,
     body: &Output,

@@ -2,11 +2,11 @@ ghost use Rattle.std.specs.Prelude.{◌≡◌, ◌++◌, false, is_err, flat_map
 ghost use Rattle.kt_report.specs.Common.{utf8, Emits, with_outputs, result_element, output_element, element, case_bytes, heading, ending, junit_bytes, junit_layout, WritesEntry, WritesOverDetails};
 
 use crate::case_texts::CaseTexts;
-use crate::details::OwnDetails;
-use crate::escaping::case_texts;
+use crate::details::InlineDetails;
+use crate::escaping::create_case_texts;
 use crate::moments::write_seconds;
 use crate::summary::decimal_count;
-use crate::{Details, ReportFault, WriteReportError};
+use crate::{DetailSource, ReportFault, WriteReportError};
 use kt_base::{Decimal, Entry, Kind, Output, OutputFault, Run, Text, emit, emit_all};
 use std::alloc::Global;
 use std::io::Write;
@@ -104,7 +104,7 @@ fn write_heading<W: Write>(run: &Run, out: &mut W) -> Result<(), OutputFault>
 ///
 /// `body` is the output of the case's body, and `cleanup` is that of its cleanup. The outputs in
 /// `entry` itself are not written.
-fn write_with_details<W: Write>(
+fn write_full_entry<W: Write>(
     alloc: Global,
     entry: &Entry,
     body: &Output,
@@ -114,7 +114,7 @@ fn write_with_details<W: Write>(
     ensures { Emits (W.contents out.old) (W.contents out.new) (is_err result)
         (case_bytes (with_outputs entry.now body.now cleanup.now)) }
 {
-    let texts = case_texts(alloc, entry, body, cleanup)?;
+    let texts = create_case_texts(alloc, entry, body, cleanup)?;
     write_case_element(&texts, entry.verdict.kind(), entry.millis, out)?;
     Ok(())
 }
@@ -123,7 +123,7 @@ fn write_with_details<W: Write>(
 /// reads.
 ///
 /// If `details` returns `None`, the outputs in `entry` are written.
-fn write_case<D: Details, W: Write>(
+fn write_case<D: DetailSource, W: Write>(
     alloc: Global,
     entry: &Entry,
     details: &mut D,
@@ -133,8 +133,8 @@ fn write_case<D: Details, W: Write>(
         details.new case_bytes entry.now result }
 {
     let written = match details.outputs(entry) {
-        Ok(Some(read)) => write_with_details(alloc, entry, &read.body, &read.cleanup, out),
-        Ok(None) => write_with_details(alloc, entry, &entry.body, &entry.cleanup, out),
+        Ok(Some(read)) => write_full_entry(alloc, entry, &read.body, &read.cleanup, out),
+        Ok(None) => write_full_entry(alloc, entry, &entry.body, &entry.cleanup, out),
         Err(fault) => return Err(WriteReportError::Details(fault)),
     };
     match written {
@@ -154,7 +154,7 @@ fn write_case<D: Details, W: Write>(
 ///
 /// - `Details`: reading the outputs of an entry fails. The cases before this entry were written.
 /// - `Report`: an allocation or a write fails. A proper prefix of the report was written.
-pub fn write_junit_report<D: Details, W: Write>(
+pub fn write_junit_report<D: DetailSource, W: Write>(
     alloc: Global,
     run: &Run,
     details: &mut D,
@@ -183,7 +183,7 @@ pub fn junit<W: Write>(alloc: Global, run: &Run, out: &mut W) -> Result<(), Repo
     ensures { Emits (W.contents out.old) (W.contents out.new) (is_err result)
         (junit_bytes run.now) }
 {
-    match write_junit_report(alloc, run, &mut OwnDetails, out) {
+    match write_junit_report(alloc, run, &mut InlineDetails, out) {
         Ok(()) => Ok(()),
         Err(WriteReportError::Details(fault)) => Err(ReportFault::Output(fault)),
         Err(WriteReportError::Report(fault)) => Err(fault),

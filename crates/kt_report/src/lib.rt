@@ -14,7 +14,7 @@ mod summary;
 mod text_report;
 mod write_report_error;
 
-pub use details::{Details, EntryOutputs};
+pub use details::{DetailSource, EntryOutputs};
 pub use entry_line::line;
 pub use junit_report::{junit, write_junit_report};
 pub use report_fault::ReportFault;

@@ -7,7 +7,7 @@ use kt_base::{Decimal, LATEST_MOMENT_MILLIS, OutputFault, emit, emit_all};
 use std::io::Write;
 
 /// Returns the last decimal digit of `n`, in ASCII.
-fn digit(n: u64) -> u8
+fn last_digit(n: u64) -> u8
     ensures { result ≡ digit n }
 {
     b'0' + (n % 10) as u8
@@ -17,21 +17,21 @@ fn digit(n: u64) -> u8
 pub fn two_digits(n: u64) -> [u8; 2]
     ensures { result ≡ two_digits n }
 {
-    [digit(n / 10), digit(n)]
+    [last_digit(n / 10), last_digit(n)]
 }
 
 /// Returns the last three decimal digits of `n`, in ASCII.
 pub fn three_digits(n: u64) -> [u8; 3]
     ensures { result ≡ three_digits n }
 {
-    [digit(n / 100), digit(n / 10), digit(n)]
+    [last_digit(n / 100), last_digit(n / 10), last_digit(n)]
 }
 
 /// Returns the last four decimal digits of `n`, in ASCII.
 pub fn four_digits(n: u64) -> [u8; 4]
     ensures { result ≡ four_digits n }
 {
-    [digit(n / 1000), digit(n / 100), digit(n / 10), digit(n)]
+    [last_digit(n / 1000), last_digit(n / 100), last_digit(n / 10), last_digit(n)]
 }
 
 /// Writes a duration of `millis` milliseconds as a number of seconds, with three digits after the
@@ -72,7 +72,7 @@ fn add_days_to_epoch(days: u64) -> Date
 ///
 /// `moment` is in milliseconds since 1970 in UTC. For a timestamp after the year 9999, the date is
 /// the last day of that year.
-pub fn date_of(moment: u64) -> Date
+pub fn civil_date(moment: u64) -> Date
     ensures { IsDateOf moment result }
 {
     add_days_to_epoch(printable_moment(moment) / MILLIS_PER_DAY)

@@ -1,7 +1,7 @@
 ghost use Rattle.std.specs.Prelude.{◌≡◌, flat_map, map, is_err, true};
 ghost use Rattle.kt_report.specs.Common.{Emits, printable_byte, pair_bytes, entry_bytes, with_properties, WritesEntry, reads_if_verbose};
 
-use crate::{Details, WriteReportError, line};
+use crate::{DetailSource, WriteReportError, line};
 use kt_base::{Entry, OutputFault, Variable, Variables, emit, emit_all};
 use std::io::Write;
 
@@ -48,7 +48,7 @@ fn write_properties<W: Write>(pairs: &[Variable], out: &mut W) -> Result<(), Out
 /// Writes the line of `entry`, followed by the lines of the properties `pairs`.
 ///
 /// The properties in `entry` itself are not written.
-fn write_with_details<W: Write>(
+fn write_full_entry<W: Write>(
     entry: &Entry,
     pairs: &Variables,
     out: &mut W,
@@ -61,7 +61,7 @@ fn write_with_details<W: Write>(
 }
 
 /// Writes the line of `entry`, followed by the lines of the properties that `details` reads.
-fn write_verbose_entry<D: Details, W: Write>(
+fn write_verbose_entry<D: DetailSource, W: Write>(
     entry: &Entry,
     details: &mut D,
     out: &mut W,
@@ -69,9 +69,9 @@ fn write_verbose_entry<D: Details, W: Write>(
     ensures { WritesEntry D.reads_pairs details.old (W.contents out.old) (W.contents out.new)
         details.new (entry_bytes true) entry.now result }
 {
-    let written = match details.pairs(entry) {
-        Ok(Some(pairs)) => write_with_details(entry, &pairs, out),
-        Ok(None) => write_with_details(entry, &entry.meta, out),
+    let written = match details.properties(entry) {
+        Ok(Some(pairs)) => write_full_entry(entry, &pairs, out),
+        Ok(None) => write_full_entry(entry, &entry.meta, out),
         Err(fault) => return Err(WriteReportError::Details(fault)),
     };
     match written {
@@ -89,7 +89,7 @@ fn write_verbose_entry<D: Details, W: Write>(
 ///
 /// - `Details`: the read fails. Nothing was written.
 /// - `Report`: a write fails. A proper prefix of the lines was written.
-pub fn write_entry<D: Details, W: Write>(
+pub fn write_entry<D: DetailSource, W: Write>(
     verbose: bool,
     entry: &Entry,
     details: &mut D,

@@ -2,7 +2,7 @@ ghost use Rattle.std.specs.Prelude.{◌≡◌, ◌∷◌, [], None, length, is_e
 ghost use Rattle.kt_report.specs.Common.{list_any, Emits, is_same_kind, entries_of, chosen_entries, entries_by_section, title, title_line_after, order, reads_if_verbose, WritesEntries};
 
 use crate::pairs::write_entry;
-use crate::{Details, WriteReportError};
+use crate::{DetailSource, WriteReportError};
 use kt_base::{Entry, Kind, OutputFault, emit_all};
 use std::io::Write;
 
@@ -38,7 +38,7 @@ fn is_chosen(kinds: &[Kind], kind: Kind) -> bool
 }
 
 /// Returns the number of `entries` whose verdict is of the kind `kind`.
-pub fn count(kind: Kind, entries: &[Entry]) -> usize
+pub fn count_kind(kind: Kind, entries: &[Entry]) -> usize
     ensures { result ≡ length (entries_of kind entries.now) }
 {
     let mut found = 0;
@@ -51,7 +51,7 @@ pub fn count(kind: Kind, entries: &[Entry]) -> usize
 }
 
 /// Returns the title of the section of `kind` in the text report.
-fn title(kind: Kind) -> &'static [u8]
+fn section_title(kind: Kind) -> &'static [u8]
     ensures { result.now ≡ title kind }
 {
     match kind {
@@ -74,7 +74,7 @@ fn write_title<W: Write>(before: Option<Kind>, kind: Kind, out: &mut W) -> Resul
 {
     match before {
         Some(before) if is_same_kind(before, kind) => Ok(()),
-        _ => emit_all(&[b"===> ", title(kind), b"\n"], out),
+        _ => emit_all(&[b"===> ", section_title(kind), b"\n"], out),
     }
 }
 
@@ -83,7 +83,7 @@ fn write_title<W: Write>(before: Option<Kind>, kind: Kind, out: &mut W) -> Resul
 /// If `verbose` is `true`, the properties that `details` reads follow the line of the entry.
 /// `before` is the kind of the preceding entry, if any. If the kind of the entry differs from
 /// `before`, the title of its section precedes the line.
-fn write_titled_entry<D: Details, W: Write>(
+fn write_titled_entry<D: DetailSource, W: Write>(
     verbose: bool,
     before: Option<Kind>,
     entry: &Entry,
@@ -106,7 +106,7 @@ fn write_titled_entry<D: Details, W: Write>(
 /// the properties that `details` reads follow the line of each entry. `before` is the kind of the
 /// preceding entry, if any. Returns the kind of the last written entry, or `before` if nothing is
 /// written.
-fn write_section<D: Details, W: Write>(
+fn write_section<D: DetailSource, W: Write>(
     verbose: bool,
     kinds: &[Kind],
     entries: &[Entry],
@@ -144,7 +144,7 @@ fn write_section<D: Details, W: Write>(
 /// - `Details`: reading the properties of an entry fails. The entries before this entry and the
 ///   title of its section were written.
 /// - `Report`: a write fails. A proper prefix of the sections was written.
-pub fn write_sections<D: Details, W: Write>(
+pub fn write_sections<D: DetailSource, W: Write>(
     verbose: bool,
     kinds: &[Kind],
     entries: &[Entry],

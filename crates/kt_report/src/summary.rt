@@ -2,7 +2,7 @@ ghost use Rattle.std.specs.Prelude.{◌≡◌, sum_by, is_err};
 ghost use Rattle.kt_report.specs.Common.{Emits, kind_count_bytes, unfinished_bytes, summary, summary_title_bytes, totals_bytes};
 
 use crate::moments::{write_moment, write_seconds};
-use crate::sections::count;
+use crate::sections::count_kind;
 use jiff::civil::Date;
 use kt_base::{Decimal, Entry, Kind, OutputFault, Run, emit, emit_all};
 use std::io::Write;
@@ -22,7 +22,7 @@ fn total_millis(entries: &[Entry]) -> u128
 pub fn decimal_count(kind: Kind, entries: &[Entry]) -> Decimal
     ensures { result ≡ kind_count_bytes kind entries.now }
 {
-    Decimal::new(count(kind, entries) as u64)
+    Decimal::new(count_kind(kind, entries) as u64)
 }
 
 /// Writes `, unfinished`, unless the run is finished. `finished` is `true` for a finished run.

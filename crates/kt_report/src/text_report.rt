@@ -1,11 +1,11 @@
 ghost use Rattle.std.specs.Prelude.{is_err, ◌≡◌, Bool, false, List};
 ghost use Rattle.kt_report.specs.Common.{Date, Emits, IsDateOf, text_bytes, text_layout, entries_by_section, reads_if_verbose, WritesOverDetails, Entry, Output, Kind, Run, heading, case_bytes, with_outputs, ChangesHiddenParts, with_entries};
 
-use crate::details::OwnDetails;
-use crate::moments::date_of;
+use crate::details::InlineDetails;
+use crate::moments::civil_date;
 use crate::sections::write_sections;
 use crate::summary::write_summary;
-use crate::{Details, WriteReportError};
+use crate::{DetailSource, WriteReportError};
 use kt_base::{Kind, OutputFault, Run};
 use std::io::Write;
 
@@ -24,7 +24,7 @@ use std::io::Write;
 /// - `Details`: reading the properties of an entry fails. The entries before this entry and the
 ///   title of its section were written.
 /// - `Report`: a write fails. A proper prefix of the report was written.
-pub fn write_text_report<D: Details, W: Write>(
+pub fn write_text_report<D: DetailSource, W: Write>(
     run: &Run,
     kinds: &[Kind],
     verbose: bool,
@@ -37,7 +37,7 @@ pub fn write_text_report<D: Details, W: Write>(
         (entries_by_section kinds.now run.now.entries) details.old (W.contents out.old)
         (W.contents out.new) details.new result }
 {
-    let date = date_of(run.started);
+    let date = civil_date(run.started);
     write_sections(verbose, kinds, run.entries.as_slice(), details, out)?;
     write_summary(date, run, out)?;
     Ok(())
@@ -61,7 +61,7 @@ pub fn text<W: Write>(
         × Emits (W.contents out.old) (W.contents out.new) (is_err result)
         (text_bytes date kinds.now verbose run.now) }
 {
-    match write_text_report(run, kinds, verbose, &mut OwnDetails, out) {
+    match write_text_report(run, kinds, verbose, &mut InlineDetails, out) {
         Ok(()) => Ok(()),
         Err(WriteReportError::Details(fault)) => Err(fault),
         Err(WriteReportError::Report(fault)) => Err(fault),

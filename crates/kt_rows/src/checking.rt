@@ -66,7 +66,7 @@ fn check_example(
 /// Prints `fault`, the error of an example or of parsing the file `file`, to standard error, with
 /// the file and the line.
 fn print_fault<R: Eprint>(rt: &R, file: &str, line: u64, fault: ExampleFault) -> io::Result<()> {
-    let text = fault.text();
+    let text = fault.message();
     eprintln!(rt; "{file}:{line}: {text}")
 }
 

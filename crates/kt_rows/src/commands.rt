@@ -107,10 +107,10 @@ fn run_example(
 ) -> Result<CommandsRun<FailingStore>> {
     let alloc = scene.alloc;
     let mut commands_run = CommandsRun::new(alloc, create_host(alloc, example)?);
-    commands_run.stdout.at_most = example.number("takes", 4096)? as usize;
+    commands_run.stdout.at_most = example.find_number("takes", 4096)? as usize;
     commands_run.stdout.failing_write = failing_write;
-    commands_run.stdout.flush_fails = example.text("flush").is_some();
-    commands_run.stderr.failing_write = example.number("error", 0)?;
+    commands_run.stdout.flush_fails = example.find_text("flush").is_some();
+    commands_run.stderr.failing_write = example.find_number("error", 0)?;
     commands_run.execute_lines(example.lines.as_slice(), scene)?;
     Ok(commands_run)
 }
@@ -135,7 +135,7 @@ fn push_result_and_state(
     commands_run: &mut CommandsRun<FailingStore>,
 ) -> Result<()> {
     commands_run.push_result(out)?;
-    for word in example.text("show").unwrap_or("").split_whitespace() {
+    for word in example.find_text("show").unwrap_or("").split_whitespace() {
         out.push_separator("\n");
         match word {
             "system" => push_calls(out, "calls", commands_run.log.as_str()?)?,
@@ -177,7 +177,7 @@ fn find_violation(
 /// Appends the output without a failed write. If `find_violation` returns a message for another
 /// execution, appends the number of the write, this message and the output of that execution, and
 /// stops.
-fn push_each_failing(out: &mut ExampleOutput, example: &Example<'_>, scene: &Scene) -> Result<()> {
+fn push_each_failed_write(out: &mut ExampleOutput, example: &Example<'_>, scene: &Scene) -> Result<()> {
     let mut whole = run_example(example, scene, 0)?;
     push_result_and_state(out, example, &mut whole)?;
     for failing_write in 1..MAX_TRIALS {
@@ -203,9 +203,9 @@ fn execute_commands(
     shows_calls: bool,
 ) -> Result<()> {
     let scene = parse_scene(out.alloc, example)?;
-    let writes = example.text("writes").unwrap_or("0");
+    let writes = example.find_text("writes").unwrap_or("0");
     if writes == "each" {
-        return push_each_failing(out, example, &scene);
+        return push_each_failed_write(out, example, &scene);
     }
     let mut commands_run = run_example(example, &scene, parse_number(writes)?)?;
     match commands_run.host.calls.as_str()? {
@@ -218,7 +218,7 @@ fn execute_commands(
 
 /// Parses `text` as `HERE KYUAFILE`, and appends the absolute path of the Kyuafile's directory.
 /// HERE is the working directory.
-fn push_source(out: &mut ExampleOutput, text: &str) -> Result<()> {
+fn push_kyuafile_directory(out: &mut ExampleOutput, text: &str) -> Result<()> {
     let (here, kyuafile) = split_once_or_fail(text, " ", "a directory and a Kyuafile are due")?;
     let kyuafile = Text::from_str(out.alloc, kyuafile)?;
     out.push_text(kyuafile_directory(out.alloc, here, &kyuafile));
@@ -234,13 +234,13 @@ fn push_source(out: &mut ExampleOutput, text: &str) -> Result<()> {
 /// - `InvalidExample`: a line is missing or invalid.
 /// - `NoMemory`: an allocation outside the command failed.
 pub fn push_output(out: &mut ExampleOutput, example: &Example<'_>) -> Result<()> {
-    if let Some(disk) = example.text("disk") {
+    if let Some(disk) = example.find_text("disk") {
         return disk_tests::push_output(out, example, disk);
     }
-    let first = example.first()?;
+    let first = example.first_line()?;
     match first.keyword {
         "piece" => push_pieces(out, example),
-        "source" => push_source(out, first.text),
+        "source" => push_kyuafile_directory(out, first.text),
         _ => execute_commands(out, example, false),
     }
 }

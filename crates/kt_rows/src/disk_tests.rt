@@ -65,7 +65,7 @@ struct BaselineRun {
 
 impl BaselineRun {
     /// Returns the number of the store call `finish`, the last call of the execution.
-    fn finish_number(&self) -> usize {
+    fn finish_call_number(&self) -> usize {
         self.remaining_runs
             .len()
             .saturating_sub(self.initial_runs.len())
@@ -79,9 +79,9 @@ impl BaselineRun {
             return Some(0);
         }
         if remaining_runs == whole {
-            return Some(self.finish_number());
+            return Some(self.finish_call_number());
         }
-        (1..self.finish_number()).find(|done| is_partial_run(
+        (1..self.finish_call_number()).find(|done| is_partial_run(
             remaining_runs,
             whole,
             before.len(),
@@ -99,7 +99,7 @@ impl BaselineRun {
         let memory = page.strip_suffix(NO_MEMORY_LINE);
         let front = match memory.or(page.strip_suffix(STORE_FAILED_LINE)) {
             _ if page == whole && cut.status == self.test_result.status => {
-                return Ok(self.finish_number().saturating_add(1));
+                return Ok(self.finish_call_number().saturating_add(1));
             }
             Some(front) if cut.status == 2 => front,
             Some(_) => return Err("and then the exit is another one"),
@@ -117,7 +117,7 @@ impl BaselineRun {
                     .lines()
                     .count()
                     .saturating_add(2)
-                    .min(self.finish_number()),
+                    .min(self.finish_call_number()),
             )
         }
     }
@@ -129,7 +129,7 @@ impl BaselineRun {
     /// must be those before or after the call. If the runs or the output are wrong, if an
     /// allocation failed, or if no call stopped the execution, appends a text that begins with a
     /// comma.
-    fn push_stop(&self, out: &mut ExampleOutput, cut: &CrashRun) {
+    fn push_stopping_call(&self, out: &mut ExampleOutput, cut: &CrashRun) {
         let stop = match &cut.test_result {
             None => Ok(0),
             Some(test_result) => self.find_stopping_call(test_result),
@@ -142,8 +142,8 @@ impl BaselineRun {
             (Ok(stop), Some(done)) if stop == done || stop == done.saturating_add(1) => match stop {
                 0 => write!(out, " attach {}", cut.schema),
                 1 => out.push(" begin"),
-                _ if stop < self.finish_number() => write!(out, " put {}", stop.saturating_sub(1)),
-                _ if stop == self.finish_number() => out.push(" finish"),
+                _ if stop < self.finish_call_number() => write!(out, " put {}", stop.saturating_sub(1)),
+                _ if stop == self.finish_call_number() => out.push(" finish"),
                 _ => out.push(", then not"),
             },
             _ => out.push(OTHER_RUNS_TEXT),
@@ -252,7 +252,7 @@ impl DiskTrial<'_> {
     /// execution that no call stopped, in which an allocation failed, or whose output or runs are
     /// wrong. If the output or the runs of an execution are wrong, appends its result and runs, and
     /// those of the execution without a failure.
-    fn push_stops(self, out: &mut ExampleOutput, whole: &BaselineRun) -> Result<()> {
+    fn push_stopping_calls(self, out: &mut ExampleOutput, whole: &BaselineRun) -> Result<()> {
         out.push("stopped in");
         let mut last = String::new(self.scene.alloc);
         for calls in 0..MAX_TRIALS {
@@ -260,7 +260,7 @@ impl DiskTrial<'_> {
                 continue;
             };
             let mut stop = ExampleOutput::new(self.scene.alloc);
-            whole.push_stop(&mut stop, &cut);
+            whole.push_stopping_call(&mut stop, &cut);
             let stop = stop.into_string()?;
             if stop.as_str() != last.as_str() {
                 out.push(stop.as_str());
@@ -293,7 +293,7 @@ impl DiskTrial<'_> {
     fn push_outcome(self, out: &mut ExampleOutput, is_sound: bool) -> Result<()> {
         let whole = self.run_baseline()?;
         if !is_sound {
-            return self.push_stops(out, &whole);
+            return self.push_stopping_calls(out, &whole);
         }
         let (page, status) = (whole.test_result.stdout.as_str(), whole.test_result.status);
         write!(out, "{page}exit {status}");
@@ -317,7 +317,7 @@ impl DatabaseOperation for DiskTrial<'_> {
             return Err(ExampleFault::InvalidExample("a transaction is open"));
         }
         match Results::attach(self.scene.alloc, conn) {
-            Ok(results) => match RunsFile::of(results) {
+            Ok(results) => match RunsFile::from_results(results) {
                 Ok(file) => {
                     let (test_result, file) = self.execute_test(file)?;
                     Ok((Some(test_result), file.into_store()))
@@ -348,8 +348,8 @@ pub fn push_output(out: &mut ExampleOutput, example: &Example<'_>, disk: &str) -
         example,
         scene: &scene,
         log_fails: disk == "log",
-        is_schema_1: example.text("old").is_some(),
-        frames: example.number("frames", 1000)? as usize,
+        is_schema_1: example.find_text("old").is_some(),
+        frames: example.find_number("frames", 1000)? as usize,
     };
     trial.push_outcome(out, disk == "sound")
 }

@@ -74,9 +74,9 @@ impl ResultStore for FailingStore {
         self.runs.outline(run)
     }
 
-    fn pairs(&mut self, run: u64, position: u32) -> Result<Variables, StoreFault> {
+    fn properties(&mut self, run: u64, position: u32) -> Result<Variables, StoreFault> {
         self.failing_calls.count_call()?;
-        self.runs.pairs(run, position)
+        self.runs.properties(run, position)
     }
 
     fn outputs(&mut self, run: u64, position: u32) -> Result<CaseOutputs, StoreFault> {

@@ -136,11 +136,11 @@ pub fn push_pieces(out: &mut ExampleOutput, example: &Example<'_>) -> Result<()>
             push_or_fail(&mut pieces, unescape(out.alloc, line.text))?;
         }
     }
-    if example.text("unflushed").is_none() {
+    if example.find_text("unflushed").is_none() {
         return push_printed_text(out, &pieces, true);
     }
     let mut page = ScriptedWriter::new(out.alloc);
-    let mut lines = LineOutput::new(&mut page, example.text("held").is_none());
+    let mut lines = LineOutput::new(&mut page, example.find_text("held").is_none());
     print_pieces(&pieces, &mut lines, false);
     out.push_bytes(page.written_bytes()?);
     Ok(())

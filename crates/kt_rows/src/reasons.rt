@@ -43,8 +43,8 @@ fn push_number(out: &mut ExampleOutput, text: &str) -> Result<()> {
 /// `failed`. The line `taking N` limits each write to N bytes, which are 1 by default. The line
 /// `failing WRITE` makes writes fail from write number WRITE on.
 fn push_send_output(out: &mut ExampleOutput, example: &Example<'_>, bytes: &[u8]) -> Result<()> {
-    let at_most = example.number("taking", 1)? as usize;
-    let failing = example.number("failing", 0)?;
+    let at_most = example.find_number("taking", 1)? as usize;
+    let failing = example.find_number("failing", 0)?;
     let mut page = create_writer(out.alloc, at_most, failing, WriteFault::Broken);
     let (count, failed) = write_until_failure(bytes, &mut page);
     page.written_bytes()?;
@@ -85,7 +85,7 @@ fn push_bytes_output(
 /// - `InvalidExample`: a line is missing or invalid.
 /// - `NoMemory`: an allocation failed.
 pub fn push_output(out: &mut ExampleOutput, example: &Example<'_>) -> Result<()> {
-    let ExampleLine { keyword, text } = example.first()?;
+    let ExampleLine { keyword, text } = example.first_line()?;
     match keyword {
         "kind" => push_kind(out, text),
         "number" => push_number(out, text),

@@ -20,7 +20,7 @@ pub struct ScriptedFiles<'a> {
 
 /// Returns a copy of the first `READ_LIMIT_BYTES` bytes of `bytes`, or of all bytes if they are
 /// fewer.
-fn copy_front(alloc: Global, bytes: &[u8]) -> Result<Bytes, FileFault>
+fn copy_first_bytes(alloc: Global, bytes: &[u8]) -> Result<Bytes, FileFault>
     ensures { IfOk result (λ bytes. length bytes ≤ read_limit) }
 {
     let count = bytes.len().min(READ_LIMIT_BYTES);
@@ -45,7 +45,7 @@ impl HostFiles for ScriptedFiles<'_> {
         }
         match self.scene.find_bytes(path) {
             None => Err(FileFault::Missing),
-            Some(bytes) => copy_front(self.scene.alloc, bytes),
+            Some(bytes) => copy_first_bytes(self.scene.alloc, bytes),
         }
     }
 

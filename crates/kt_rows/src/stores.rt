@@ -13,7 +13,7 @@ use std::alloc::Global;
 
 /// A database with a results store, and the way in which the store is used.
 #[derive(Drop)]
-enum Store<S: Alter + Drop> {
+enum OpenStore<S: Alter + Drop> {
     /// The results tables of the database aren't attached.
     Detached(Connection<S>),
     /// The results tables are read and written by SQL.
@@ -24,17 +24,17 @@ enum Store<S: Alter + Drop> {
 
 /// Detaches the results tables of a database, and returns its connection. A store that is used
 /// through its trees can't be detached.
-fn detach_store<S: Alter + Drop>(store: Store<S>) -> Result<Connection<S>> {
+fn detach_store<S: Alter + Drop>(store: OpenStore<S>) -> Result<Connection<S>> {
     match store {
-        Store::Detached(connection) => Ok(connection),
-        Store::Attached(results) => Ok(results.detach()),
-        Store::Trees(_file) => Err(ExampleFault::InvalidExample("the tables are taken twice")),
+        OpenStore::Detached(connection) => Ok(connection),
+        OpenStore::Attached(results) => Ok(results.detach()),
+        OpenStore::Trees(_file) => Err(ExampleFault::InvalidExample("the tables are taken twice")),
     }
 }
 
 /// Converts a store that is used by SQL into a store that is used through its trees.
 fn into_runs_file<S: Alter + Drop>(results: Results<S>) -> Result<RunsFile<S>> {
-    match RunsFile::of(results) {
+    match RunsFile::from_results(results) {
         Ok(file) => Ok(file),
         Err(_) => Err(ExampleFault::InvalidExample("its trees can't be read")),
     }
@@ -46,7 +46,7 @@ fn attach<S: Alter + Drop>(
     out: &mut ExampleOutput,
     connection: Connection<S>,
     uses_trees: bool,
-) -> Result<Store<S>> {
+) -> Result<OpenStore<S>> {
     if !connection.is_autocommit() {
         return Err(ExampleFault::InvalidExample("a transaction is open"));
     }
@@ -54,13 +54,13 @@ fn attach<S: Alter + Drop>(
         Ok(results) => {
             out.push("attached");
             if uses_trees {
-                return Ok(Store::Trees(into_runs_file(results)?));
+                return Ok(OpenStore::Trees(into_runs_file(results)?));
             }
-            Ok(Store::Attached(results))
+            Ok(OpenStore::Attached(results))
         }
         Err((fault, connection)) => {
             out.push_name(&fault);
-            Ok(Store::Detached(connection))
+            Ok(OpenStore::Detached(connection))
         }
     }
 }
@@ -96,13 +96,13 @@ fn execute_by_sql<S: Alter + Drop>(
     mut results: Results<S>,
     line: &ExampleLine<'_>,
     content: &[ExampleLine<'_>],
-) -> Result<Store<S>> {
+) -> Result<OpenStore<S>> {
     if line.keyword == "do" {
         let file = into_runs_file(results)?;
-        return Ok(Store::Trees(execute_call(out, file, line, content)?));
+        return Ok(OpenStore::Trees(execute_call(out, file, line, content)?));
     }
     push_call(out, &mut results, line, content)?;
-    Ok(Store::Attached(results))
+    Ok(OpenStore::Attached(results))
 }
 
 /// Executes the line `line` of an example over a database, and appends its output. `content` are
@@ -110,11 +110,11 @@ fn execute_by_sql<S: Alter + Drop>(
 /// used through its trees.
 fn execute_store_line<S: Alter + Drop>(
     out: &mut ExampleOutput,
-    store: Store<S>,
+    store: OpenStore<S>,
     uses_trees: bool,
     line: &ExampleLine<'_>,
     content: &[ExampleLine<'_>],
-) -> Result<Store<S>> {
+) -> Result<OpenStore<S>> {
     out.push_separator("\n");
     match line.keyword {
         "attach" => attach(out, detach_store(store)?, uses_trees),
@@ -124,12 +124,12 @@ fn execute_store_line<S: Alter + Drop>(
                 return Err(ExampleFault::InvalidExample("the statement fails"));
             }
             out.push("done");
-            Ok(Store::Detached(connection))
+            Ok(OpenStore::Detached(connection))
         }
         _ => match store {
-            Store::Detached(_) => Err(ExampleFault::InvalidExample("no tables were taken")),
-            Store::Attached(results) => execute_by_sql(out, results, line, content),
-            Store::Trees(file) => Ok(Store::Trees(execute_call(out, file, line, content)?)),
+            OpenStore::Detached(_) => Err(ExampleFault::InvalidExample("no tables were taken")),
+            OpenStore::Attached(results) => execute_by_sql(out, results, line, content),
+            OpenStore::Trees(file) => Ok(OpenStore::Trees(execute_call(out, file, line, content)?)),
         },
     }
 }
@@ -142,7 +142,7 @@ fn execute_on_database(
     uses_trees: bool,
 ) -> Result<String> {
     let mut out = ExampleOutput::new(alloc);
-    let mut store = Store::Detached(Connection::open_in_memory(alloc)?);
+    let mut store = OpenStore::Detached(Connection::open_in_memory(alloc)?);
     for (place, line) in lines.iter().enumerate() {
         if !is_entry_line(line) {
             store = execute_store_line(

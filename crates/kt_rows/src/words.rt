@@ -100,9 +100,9 @@ fn push_fault(out: &mut ExampleOutput, fault: &CommandFault) {
 
 /// Returns the arguments of the line `line WORDS`, and then N times the argument of `times N WORD`.
 fn parse_arguments(alloc: Global, example: &Example<'_>) -> Result<Vec<String>> {
-    let line = require_part(example.text("line"), "the row has no command line")?;
+    let line = require_part(example.find_text("line"), "the row has no command line")?;
     let mut arguments = split_command_line(alloc, line)?;
-    let times = example.text("times").unwrap_or("0 ");
+    let times = example.find_text("times").unwrap_or("0 ");
     let (count, argument) = split_once_or_fail(times, " ", "a number and a word are due")?;
     for _ in 0..parse_number(count)? {
         push_or_fail(

@@ -15,7 +15,7 @@ impl Access {
     ///
     /// With a page size of 1,024 bytes, 1,100 pages can contain an output of 1 MiB. A reader needs
     /// fewer pages, since most pages are read once.
-    pub fn pages(self) -> usize {
+    pub fn max_cached_pages(self) -> usize {
         match self {
             Access::Record => 1_100,
             Access::Read => 64,

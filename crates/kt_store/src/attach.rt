@@ -29,7 +29,7 @@ pub const CREATE_PROPS: &str =
 /// Theorem: while a connection is open, the rows that it shows and the rows of its last commit obey
 /// their schemas.
 // No effect: the call states the fact for the prover.
-pub fn lives<S: Alter>(conn: &Connection<S>)
+pub fn theorem_of_valid_contents<S: Alter>(conn: &Connection<S>)
     ensures { IsLive (state S.Store conn.now) }
 {
     let _ = conn.schema();
@@ -156,7 +156,7 @@ pub(crate) fn migrate<S: Alter>(conn: &mut Connection<S>) -> Result<(), StoreFau
     ensures earlier { WasClean S.Store conn.old conn.new }
     ensures failed { IfErr result IsDatabaseFault }
 {
-    lives(conn);
+    theorem_of_valid_contents(conn);
     let raises = [
         CREATE_PROPS,
         "UPDATE meta SET value = 2 WHERE name = 'schema'",
@@ -166,7 +166,7 @@ pub(crate) fn migrate<S: Alter>(conn: &mut Connection<S>) -> Result<(), StoreFau
 
 /// Checks the tables of a database of schema 1 or 2, and migrates schema 1 to schema 2. Fails with
 /// `UnknownSchema` if the schema number is missing or neither 1 nor 2.
-pub(crate) fn take<S: Alter>(conn: &mut Connection<S>) -> Result<(), StoreFault>
+pub(crate) fn adopt_tables<S: Alter>(conn: &mut Connection<S>) -> Result<(), StoreFault>
     ensures taken { (was : _) → IsNotBlank was → Describes was (state S.Store conn.old)
         → OnOk result (AttachSucceeds was (state S.Store conn.old) (state S.Store conn.new)) }
     ensures refused { (was : _) → IsNotBlank was → Describes was (state S.Store conn.old)
@@ -174,7 +174,7 @@ pub(crate) fn take<S: Alter>(conn: &mut Connection<S>) -> Result<(), StoreFault>
     ensures earlier { WasClean S.Store conn.old conn.new }
     ensures due { IfErr result (λ e. IsDatabaseFault e ⊎ (e ≡ StoreFault.UnknownSchema)) }
 {
-    lives(conn);
+    theorem_of_valid_contents(conn);
     if has_schema_1(conn)? {
         migrate(conn)?;
     }
@@ -190,10 +190,10 @@ pub(crate) fn create_or_adopt_tables<S: Alter>(conn: &mut Connection<S>) -> Resu
         → IfErr result (AttachFails was (state S.Store conn.old) (state S.Store conn.new)) }
     ensures due { IfErr result (λ e. IsDatabaseFault e ⊎ (e ≡ StoreFault.UnknownSchema)) }
 {
-    lives(conn);
+    theorem_of_valid_contents(conn);
     check_sql(conn, "SELECT 1")?;
     if is_blank(conn) {
         return create_tables(conn);
     }
-    take(conn)
+    adopt_tables(conn)
 }

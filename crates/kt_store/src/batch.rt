@@ -1,7 +1,7 @@
 ghost use Rattle.std.specs.Prelude.{OnOk, OnErr};
 ghost use Rattle.kt_store.specs.Common.{Commits, HasCleanDisk, MayCommit, Survives, RollsBack, state};
 
-use crate::statements::step;
+use crate::statements::execute_in_transaction;
 use crate::store_fault::{DATABASE_FAILURE, DatabaseError};
 use sqlite::{Alter, Connection, Transaction};
 
@@ -21,7 +21,7 @@ pub(crate) trait Batch {
 
     /// Executes the statements of the batch in order in the open transaction `tx`, without
     /// committing it. Fails with the error of the first statement that fails.
-    fn fill<S: Alter>(&self, tx: &mut Transaction<'_, S>) -> Result<(), DatabaseError>
+    fn execute_statements<S: Alter>(&self, tx: &mut Transaction<'_, S>) -> Result<(), DatabaseError>
         requires { is_ready self.now }
         ensures same_reference { tx.new.conn.ghost_name ≡ tx.old.conn.ghost_name }
         ensures runs { OnOk result (ExecutesAll S.Store (statements self.now)
@@ -44,9 +44,9 @@ impl Batch for SqlTexts<'_> {
 
     ghost is_ready = { λ t. AllByRecursion IsOurs (map (λ sql. sql.now) t.texts.now) };
 
-    fn fill<S: Alter>(&self, tx: &mut Transaction<'_, S>) -> Result<(), DatabaseError> {
+    fn execute_statements<S: Alter>(&self, tx: &mut Transaction<'_, S>) -> Result<(), DatabaseError> {
         for text in self.texts {
-            step(tx, text, &[])?;
+            execute_in_transaction(tx, text, &[])?;
         }
         Ok(())
     }
@@ -70,7 +70,7 @@ pub(crate) fn commit<S: Alter, B: Batch>(
         return Err(DATABASE_FAILURE);
     }
     let mut tx = conn.transaction();
-    batch.fill(&mut tx)?;
+    batch.execute_statements(&mut tx)?;
     tx.commit()?;
     Ok(())
 }

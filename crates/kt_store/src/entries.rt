@@ -2,19 +2,19 @@ ghost use Rattle.std.specs.Prelude.{◌≡◌, ◌⊎◌, ◌<◌, ◌≤◌, �
 ghost use Rattle.kt_store.specs.Common.{HoldsForRuns, AreWide, AreValidRuns, Entry as Stored, IsValidEntry, IsDatabaseFault, OnlyReadsRuns, entries_of, entry_at, pair_columns, pairs_of, run_at, whole_columns};
 
 use crate::StoreFault;
-use crate::heads::add;
-use crate::lookup::{key, look_up_run};
-use crate::outlines::{entry_from_row, pairs_from_rows};
+use crate::heads::push_item;
+use crate::lookup::{run_key, look_up_run};
+use crate::outlines::{entry_from_row, properties_from_rows};
 use crate::statements::{get_column, query};
 use crate::store_fault::DatabaseError;
-use crate::value::int;
+use crate::value::int_value;
 use kt_base::Entry;
 use sqlite::{Alter, Connection, Row};
 use std::alloc::Global;
 
 /// Reads the rows of the entries of run `run` from the table `entries`, ordered by position.
 /// Returns no rows if there is no such run.
-pub(crate) fn entry_rows<S: Alter>(
+pub(crate) fn read_entry_rows<S: Alter>(
     conn: &mut Connection<S>,
     run: u32,
 ) -> Result<Vec<Row>, DatabaseError>
@@ -30,13 +30,13 @@ pub(crate) fn entry_rows<S: Alter>(
         conn,
         "SELECT position, program, case_name, kind, reason, started, millis, body_out, body_err, clean_out, clean_err FROM entries WHERE run = ?1 ORDER BY position",
         11,
-        &[int(u64::from(run))],
+        &[int_value(u64::from(run))],
     )
 }
 
 /// Reads the name and the value of each property of the entry at `position` of run `run`, in their
 /// recorded order. Returns no rows if there is no such entry.
-fn pair_rows<S: Alter>(
+fn read_property_rows<S: Alter>(
     conn: &mut Connection<S>,
     run: u32,
     position: u32,
@@ -51,7 +51,7 @@ fn pair_rows<S: Alter>(
         conn,
         "SELECT name, value FROM props WHERE run = ?1 AND position = ?2 ORDER BY place",
         2,
-        &[int(u64::from(run)), int(u64::from(position))],
+        &[int_value(u64::from(run)), int_value(u64::from(position))],
     )
 }
 
@@ -70,8 +70,8 @@ fn read_entry<S: Alter>(
     ensures looked { OnlyReadsRuns S.Store conn.old conn.new }
 {
     let position = get_column::<u32>(row, 0)?;
-    let pairs = pair_rows(conn, run, position)?;
-    let meta = pairs_from_rows(alloc, &pairs)?;
+    let pairs = read_property_rows(conn, run, position)?;
+    let meta = properties_from_rows(alloc, &pairs)?;
     entry_from_row(alloc, row, meta)
 }
 
@@ -92,7 +92,7 @@ fn read_entries<S: Alter>(
     let mut entries = Vec::new(alloc);
     for row in rows {
         let entry = read_entry(conn, alloc, run, row)?;
-        add(&mut entries, entry)?;
+        push_item(&mut entries, entry)?;
     }
     Ok(entries)
 }
@@ -112,7 +112,7 @@ pub(crate) fn read_all_entries<S: Alter>(
     ensures looked { OnlyReadsRuns S.Store conn.old conn.new }
 {
     look_up_run(conn, run)?;
-    let number = key(run);
-    let rows = entry_rows(conn, number)?;
+    let number = run_key(run);
+    let rows = read_entry_rows(conn, number)?;
     Ok(read_entries(conn, alloc, number, &rows)?)
 }

@@ -16,7 +16,7 @@ use std::alloc::Global;
 /// # Errors
 ///
 /// - `NoMemory`: the allocation failed.
-pub fn add<T: Drop>(items: &mut Vec<T>, item: T) -> Result<(), NoMemory>
+pub fn push_item<T: Drop>(items: &mut Vec<T>, item: T) -> Result<(), NoMemory>
     ensures added { OnOk result (items.new.items ≡ items.old.items ++ item ∷ []) }
 {
     items.push(item)?;
@@ -64,7 +64,7 @@ pub fn heads_from_rows(alloc: Global, rows: &[Row]) -> Result<Vec<RunHead>, Data
     for row in rows {
         let head = head_from_row(row)?;
         ensure_sound(head.number == heads.len() as u64 + 1)?;
-        add(&mut heads, head)?;
+        push_item(&mut heads, head)?;
     }
     Ok(heads)
 }

@@ -19,7 +19,7 @@ pub mod value;
 
 pub use access::Access;
 pub use crashes::theorem_of_crashes;
-pub use outlines::no_output;
+pub use outlines::empty_output;
 pub use result_store::{CaseOutputs, ResultStore, RunHead, StoreSpec};
 pub use results::Results;
 pub use store_fault::{AllocationFailure, DatabaseFailure, StoreFault};

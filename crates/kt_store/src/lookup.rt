@@ -4,7 +4,7 @@ ghost use Rattle.kt_store.specs.Common.{HoldsForRuns, greatest_run_number, IsDat
 use crate::StoreFault;
 use crate::statements::{get_column, has_rows, query};
 use crate::store_fault::DatabaseError;
-use crate::value::int;
+use crate::value::int_value;
 use sqlite::{Alter, Connection};
 
 /// The maximum number of runs in a store (this profile).
@@ -13,7 +13,7 @@ pub const MAX_RUNS: u32 = 1_000_000;
 /// Reads two columns of the run with the key `run` in the table `runs`: the number of selected
 /// cases, and the finished flag. The flag is 1 for a finished run, else 0. Returns `None` if there
 /// is no such run.
-pub(crate) fn find<S: Alter>(
+pub(crate) fn find_run_state<S: Alter>(
     conn: &mut Connection<S>,
     run: u32,
 ) -> Result<Option<(u64, u64)>, DatabaseError>
@@ -28,7 +28,7 @@ pub(crate) fn find<S: Alter>(
         conn,
         "SELECT total, finished FROM runs WHERE id = ?1",
         2,
-        &[int(u64::from(run))],
+        &[int_value(u64::from(run))],
     )?;
     let Some(row) = rows.first() else {
         return Ok(None);
@@ -40,7 +40,7 @@ pub(crate) fn find<S: Alter>(
 
 /// Returns the key of the run with number `run` in the tables: the number itself, or 0 for a number
 /// above 1,000,000. No run has the key 0. Allocates nothing.
-pub fn key(run: u64) -> u32
+pub fn run_key(run: u64) -> u32
     ensures low { result ≤ greatest_run_number }
     ensures same { run ≤ greatest_run_number → result ≡ run }
     ensures none { greatest_run_number < run → result ≡ 0 }
@@ -67,8 +67,8 @@ pub(crate) fn look_up_run<S: Alter>(
         IfErr result (λ e. IsDatabaseFault e ⊎ ((e ≡ StoreFault.NoRun)
         × (run_at runs run ≡ None)))) }
 {
-    let number = key(run);
-    let Some((total, finished)) = find(conn, number)? else {
+    let number = run_key(run);
+    let Some((total, finished)) = find_run_state(conn, number)? else {
         return Err(StoreFault::NoRun);
     };
     if u64::from(number) != run {
@@ -78,7 +78,7 @@ pub(crate) fn look_up_run<S: Alter>(
 }
 
 /// Returns `true` if the table `entries` has an entry at `position` for the run with the key `run`.
-pub(crate) fn there<S: Alter>(
+pub(crate) fn has_entry_at<S: Alter>(
     conn: &mut Connection<S>,
     run: u32,
     position: u32,
@@ -91,7 +91,7 @@ pub(crate) fn there<S: Alter>(
         conn,
         "SELECT position FROM entries WHERE run = ?1 AND position = ?2 ORDER BY position",
         1,
-        &[int(u64::from(run)), int(u64::from(position))],
+        &[int_value(u64::from(run)), int_value(u64::from(position))],
     )?;
     Ok(has_rows(&rows))
 }

@@ -6,9 +6,9 @@ ghost use Rattle.kt_base.specs.declared.entry.Output.{Output as Pair};
 ghost use Rattle.kt_base.specs.declared.variable.Variable.{Variable as StoredPair};
 ghost use Rattle.sqlite.specs.Order.{Row as Values};
 
-use crate::heads::add;
+use crate::heads::push_item;
 use crate::statements::get_column;
-use crate::store_fault::{DatabaseError, present};
+use crate::store_fault::{DatabaseError, require_present};
 use crate::value::kind_from_code;
 use kt_base::{Bytes, Entry, Output, Text, Variable, Variables, Verdict};
 use sqlite::Row;
@@ -42,7 +42,7 @@ fn property_from_row(row: &Row) -> Result<Variable, DatabaseError>
 ///
 /// - `NoMemory`: an allocation failed.
 /// - `Failed`: a column isn't a text.
-pub fn pairs_from_rows(alloc: Global, rows: &[Row]) -> Result<Variables, DatabaseError>
+pub fn properties_from_rows(alloc: Global, rows: &[Row]) -> Result<Variables, DatabaseError>
     requires { AreWide 2 rows.now }
     ensures { (vs : List StoredPair) → AllByRecursion IsEncodableProperty vs
         → rows.now ≡ map pair_columns vs
@@ -56,7 +56,7 @@ pub fn pairs_from_rows(alloc: Global, rows: &[Row]) -> Result<Variables, Databas
 }
 
 /// Returns an output whose standard output and standard error are empty. Allocates nothing.
-pub fn no_output(alloc: Global) -> Output
+pub fn empty_output(alloc: Global) -> Output
     ensures { result ≡ no_output }
 {
     Output {
@@ -95,7 +95,7 @@ fn entry_outline_from_row(alloc: Global, row: &Row) -> Result<Entry, DatabaseErr
 {
     let position = get_column::<u32>(row, 0)?;
     let code = get_column::<u64>(row, 3)?;
-    let kind = present(kind_from_code(code))?;
+    let kind = require_present(kind_from_code(code))?;
     let started = get_column::<u64>(row, 5)?;
     let millis = get_column::<u64>(row, 6)?;
     let program = get_text(row, 1)?;
@@ -108,8 +108,8 @@ fn entry_outline_from_row(alloc: Global, row: &Row) -> Result<Entry, DatabaseErr
         verdict: Verdict::from_kind(kind, reason),
         started,
         millis,
-        body: no_output(alloc),
-        cleanup: no_output(alloc),
+        body: empty_output(alloc),
+        cleanup: empty_output(alloc),
         meta: Variables::new(alloc),
     })
 }
@@ -132,7 +132,7 @@ pub fn outline_from_rows(alloc: Global, rows: &[Row]) -> Result<Vec<Entry>, Data
     let mut entries = Vec::new(alloc);
     for row in rows {
         let entry = entry_outline_from_row(alloc, row)?;
-        add(&mut entries, entry)?;
+        push_item(&mut entries, entry)?;
     }
     Ok(entries)
 }

@@ -3,10 +3,10 @@ ghost use Rattle.kt_store.specs.Common.{HoldsForRuns, greatest_run_number, IsSto
 
 use crate::StoreFault;
 use crate::batch::{Batch, commit};
-use crate::lookup::{key, look_up_run, there};
-use crate::statements::step;
+use crate::lookup::{run_key, look_up_run, has_entry_at};
+use crate::statements::execute_in_transaction;
 use crate::store_fault::DatabaseError;
-use crate::value::{blob, code, int, text};
+use crate::value::{blob_value, kind_code, int_value, text_value};
 use kt_base::{Entry, NoMemory, Text, Variable};
 use sqlite::{Alter, Connection, Transaction};
 use std::alloc::Global;
@@ -16,7 +16,7 @@ use std::alloc::Global;
 /// # Errors
 ///
 /// - `NoMemory`: the allocation failed.
-pub fn reason_of(alloc: Global, entry: &Entry) -> Result<Text, NoMemory>
+pub fn copy_reason_text(alloc: Global, entry: &Entry) -> Result<Text, NoMemory>
     ensures text { IfOk result (λ t. t ≡ entry.now.verdict.reason) }
     ensures passed { OnOk result (HasNoReasonIfPassed entry.now) }
 {
@@ -40,15 +40,15 @@ fn insert_property<S: Alter>(
         tx.old.conn.now tx.new.conn.now) }
     ensures uncommitted { CommitsNothingYet S.Store tx.old.conn.now tx.new.conn.now }
 {
-    step(
+    execute_in_transaction(
         tx,
         "INSERT INTO props (run, position, place, name, value) VALUES (?1, ?2, ?3, ?4, ?5)",
         &[
-            int(u64::from(run)),
-            int(u64::from(position)),
-            int(place),
-            text(&pair.name),
-            text(&pair.value),
+            int_value(u64::from(run)),
+            int_value(u64::from(position)),
+            int_value(place),
+            text_value(&pair.name),
+            text_value(&pair.value),
         ],
     )
 }
@@ -76,7 +76,7 @@ fn insert_properties<S: Alter>(
 
 /// Inserts an entry and its properties into a run, inside a transaction. `run` is the run's key in
 /// the tables, and `reason` is the text of the verdict's reason.
-pub(crate) fn fill<S: Alter>(
+pub(crate) fn insert_entry_rows<S: Alter>(
     tx: &mut Transaction<'_, S>,
     run: u32,
     entry: &Entry,
@@ -89,22 +89,22 @@ pub(crate) fn fill<S: Alter>(
         tx.old.conn.now tx.new.conn.now) }
     ensures uncommitted { CommitsNothingYet S.Store tx.old.conn.now tx.new.conn.now }
 {
-    step(
+    execute_in_transaction(
         tx,
         "INSERT INTO entries (run, position, program, case_name, kind, reason, started, millis, body_out, body_err, clean_out, clean_err) VALUES (?1, ?2, ?3, ?4, ?5, ?6, ?7, ?8, ?9, ?10, ?11, ?12)",
         &[
-            int(u64::from(run)),
-            int(u64::from(entry.position)),
-            text(&entry.program),
-            text(&entry.case_name),
-            int(code(entry.verdict.kind())),
-            text(reason),
-            int(entry.started),
-            int(entry.millis),
-            blob(&entry.body.out),
-            blob(&entry.body.err),
-            blob(&entry.cleanup.out),
-            blob(&entry.cleanup.err),
+            int_value(u64::from(run)),
+            int_value(u64::from(entry.position)),
+            text_value(&entry.program),
+            text_value(&entry.case_name),
+            int_value(kind_code(entry.verdict.kind())),
+            text_value(reason),
+            int_value(entry.started),
+            int_value(entry.millis),
+            blob_value(&entry.body.out),
+            blob_value(&entry.body.err),
+            blob_value(&entry.cleanup.out),
+            blob_value(&entry.cleanup.err),
         ],
     )?;
     insert_properties(tx, run, entry.position, entry.meta.as_slice())
@@ -129,8 +129,8 @@ impl Batch for EntryInsert<'_> {
 
     ghost is_ready = { λ n. (n.reason.now ≡ n.entry.now.verdict.reason) × IsStorable n.entry.now };
 
-    fn fill<S: Alter>(&self, tx: &mut Transaction<'_, S>) -> Result<(), DatabaseError> {
-        fill(tx, self.run, self.entry, self.reason)
+    fn execute_statements<S: Alter>(&self, tx: &mut Transaction<'_, S>) -> Result<(), DatabaseError> {
+        insert_entry_rows(tx, self.run, self.entry, self.reason)
     }
 }
 
@@ -157,7 +157,7 @@ pub(crate) fn add_entry<S: Alter>(
 /// Checks that the run with the number `run` accepts `entry`: the run exists, it isn't finished,
 /// and the entry's position is valid and free. Fails with the first of `NoRun`, `RunClosed`,
 /// `BadPosition` and `RepeatedPosition` that applies.
-pub(crate) fn check<S: Alter>(
+pub(crate) fn check_can_put<S: Alter>(
     conn: &mut Connection<S>,
     run: u64,
     entry: &Entry,
@@ -177,7 +177,7 @@ pub(crate) fn check<S: Alter>(
     if u64::from(entry.position) >= total {
         return Err(StoreFault::BadPosition);
     }
-    if there(conn, key(run), entry.position)? {
+    if has_entry_at(conn, run_key(run), entry.position)? {
         return Err(StoreFault::RepeatedPosition);
     }
     Ok(())

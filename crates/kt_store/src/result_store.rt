@@ -138,7 +138,7 @@ pub trait ResultStore: StoreSpec {
     ///
     /// - `NoMemory`: memory ran out.
     /// - `Store`: the database failed.
-    fn pairs(&mut self, run: u64, position: u32) -> Result<Variables, StoreFault>
+    fn properties(&mut self, run: u64, position: u32) -> Result<Variables, StoreFault>
         ensures { Serves Self.StoreSpec (Pairs run position result) self.old self.new };
 
     /// Returns the outputs of the body and the cleanup of the entry at `position` of the run with

@@ -1,9 +1,9 @@
 use crate::attach::create_or_adopt_tables;
 use crate::entries::read_all_entries;
 use crate::heads::{read_heads, select_head};
-use crate::lookup::key;
-use crate::put::{add_entry, check, reason_of};
-use crate::run_rows::{self, add_run, is_full, mark_finished};
+use crate::lookup::run_key;
+use crate::put::{add_entry, check_can_put, copy_reason_text};
+use crate::run_rows::{self, add_run, is_store_full, mark_finished};
 use crate::{RunHead, StoreFault};
 use kt_base::Entry;
 use sqlite::{Alter, Connection};
@@ -97,7 +97,7 @@ impl<S: Alter> Results<S> {
         requires { IsMoment moment }
         ensures { Serves (results S.Store) (Began total moment result) self.old self.new }
     {
-        if is_full(&mut self.conn)? {
+        if is_store_full(&mut self.conn)? {
             return Err(StoreFault::StoreFull);
         }
         Ok(add_run(&mut self.conn, total, moment)?)
@@ -112,9 +112,9 @@ impl<S: Alter> Results<S> {
         requires { IsStorable entry.now }
         ensures { Serves (results S.Store) (Put run entry.now result) self.old self.new }
     {
-        let reason = reason_of(self.alloc, entry)?;
-        check(&mut self.conn, run, entry)?;
-        Ok(add_entry(&mut self.conn, key(run), entry, &reason)?)
+        let reason = copy_reason_text(self.alloc, entry)?;
+        check_can_put(&mut self.conn, run, entry)?;
+        Ok(add_entry(&mut self.conn, run_key(run), entry, &reason)?)
     }
 
     /// Marks the run with the number `run` as finished. Entries can't be added to a finished run.
@@ -125,8 +125,8 @@ impl<S: Alter> Results<S> {
     pub fn finish(&mut self, run: u64) -> Result<(), StoreFault>
         ensures { Serves (results S.Store) (Finished run result) self.old self.new }
     {
-        run_rows::check(&mut self.conn, run)?;
-        Ok(mark_finished(&mut self.conn, key(run))?)
+        run_rows::check_can_finish(&mut self.conn, run)?;
+        Ok(mark_finished(&mut self.conn, run_key(run))?)
     }
 
     /// Returns the heads of all runs, ordered by number. A head is a run without its entries.

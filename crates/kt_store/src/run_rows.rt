@@ -2,21 +2,21 @@ ghost use Rattle.std.specs.Prelude.{◌≡◌, ◌<◌, ◌≤◌, ◌++◌, suc
 ghost use Rattle.kt_store.specs.Common.{HoldsForRuns, greatest_run_number, IsMoment, HasCleanDisk, state, IsDatabaseFault, KeepsRuns, OnlyReadsRuns, Changes, MayChange, new_run, StandsFor, IsComplete, finish, finish_refusal};
 
 use crate::StoreFault;
-use crate::entries::entry_rows;
-use crate::lookup::{MAX_RUNS, find, key, look_up_run};
+use crate::entries::read_entry_rows;
+use crate::lookup::{MAX_RUNS, find_run_state, run_key, look_up_run};
 use crate::statements::execute;
 use crate::store_fault::DatabaseError;
-use crate::value::int;
+use crate::value::int_value;
 use sqlite::{Alter, Connection};
 
 /// Returns `true` if the store has 1,000,000 runs, the maximum (this profile).
-pub(crate) fn is_full<S: Alter>(conn: &mut Connection<S>) -> Result<bool, DatabaseError>
+pub(crate) fn is_store_full<S: Alter>(conn: &mut Connection<S>) -> Result<bool, DatabaseError>
     ensures full { HoldsForRuns S.Store conn.old conn.new (λ runs.
         IfOk result (λ full. (full ≡ true → greatest_run_number ≤ length runs) × (full ≡ false
         → length runs < greatest_run_number))) }
     ensures looked { OnlyReadsRuns S.Store conn.old conn.new }
 {
-    Ok(find(conn, MAX_RUNS)?.is_some())
+    Ok(find_run_state(conn, MAX_RUNS)?.is_some())
 }
 
 /// Inserts an unfinished run of `total` cases with the next number, and returns this number.
@@ -42,7 +42,7 @@ pub(crate) fn add_run<S: Alter>(
     execute(
         conn,
         "INSERT INTO runs (started, total, finished) VALUES (?1, ?2, 0)",
-        &[int(moment), int(u64::from(total))],
+        &[int_value(moment), int_value(u64::from(total))],
     )?;
     Ok(conn.last_insert_rowid().unsigned_abs())
 }
@@ -50,7 +50,7 @@ pub(crate) fn add_run<S: Alter>(
 /// Checks that the run with the number `run` can be finished: it exists, is unfinished, and has an
 /// entry for each selected case. Fails with the first of `NoRun`, `RunClosed` and `Incomplete` that
 /// applies.
-pub(crate) fn check<S: Alter>(conn: &mut Connection<S>, run: u64) -> Result<(), StoreFault>
+pub(crate) fn check_can_finish<S: Alter>(conn: &mut Connection<S>, run: u64) -> Result<(), StoreFault>
     ensures small { OnOk result (run ≤ greatest_run_number) }
     ensures looked { OnlyReadsRuns S.Store conn.old conn.new }
     ensures refused { HoldsForRuns S.Store conn.old conn.new (λ runs.
@@ -62,7 +62,7 @@ pub(crate) fn check<S: Alter>(conn: &mut Connection<S>, run: u64) -> Result<(), 
     if finished {
         return Err(StoreFault::RunClosed);
     }
-    let rows = entry_rows(conn, key(run))?;
+    let rows = read_entry_rows(conn, run_key(run))?;
     let count = rows.as_slice().len() as u64;
     if count < total {
         return Err(StoreFault::Incomplete);
@@ -83,6 +83,6 @@ pub(crate) fn mark_finished<S: Alter>(
     execute(
         conn,
         "UPDATE runs SET finished = 1 WHERE id = ?1",
-        &[int(u64::from(run))],
+        &[int_value(u64::from(run))],
     )
 }

@@ -111,7 +111,7 @@ pub(crate) fn execute<S: Alter>(
 
 /// Executes the statement `sql` in the open transaction `tx`, without committing it. `params` are
 /// the values of the statement's parameters.
-pub(crate) fn step<S: Alter>(
+pub(crate) fn execute_in_transaction<S: Alter>(
     tx: &mut Transaction<'_, S>,
     sql: &str,
     params: &[ValueRef<'_>],

@@ -178,7 +178,7 @@ impl From<WriteError> for DatabaseError {
 
 /// Converts `error`, an error of opening the results file and its log, to a `DatabaseError`. The
 /// result states whether memory ran out, and whether another process uses the file.
-pub fn unopened(error: &OpenError) -> DatabaseError
+pub fn convert_open_error(error: &OpenError) -> DatabaseError
     ensures short { IsAllocationFailure result → IsOutOfMemory error.now }
 {
     let is_short = match error {
@@ -216,7 +216,7 @@ pub fn ensure_sound(is_sound: bool) -> Result<(), DatabaseError>
 /// # Errors
 ///
 /// - `Failed`: `found` is `None`.
-pub fn present<T>(found: Option<T>) -> Result<T, DatabaseError>
+pub fn require_present<T>(found: Option<T>) -> Result<T, DatabaseError>
     ensures there { IfOk result (λ it. found ≡ Some it) }
     ensures damaged { OnErr result (found ≡ None) }
 {

@@ -7,7 +7,7 @@ use kt_base::{Bytes, Kind, Text};
 use sqlite_value::value::ValueRef;
 
 /// Converts a number below 2^63 to an SQL integer. Allocates nothing.
-pub fn int<'a>(n: u64) -> ValueRef<'a>
+pub fn int_value<'a>(n: u64) -> ValueRef<'a>
     requires { n < 2 ^ 63 }
     ensures { owned result ≡ Int (pos n) }
 {
@@ -15,7 +15,7 @@ pub fn int<'a>(n: u64) -> ValueRef<'a>
 }
 
 /// Converts a text to an SQL text in UTF-8. Allocates nothing.
-pub fn text(text: &Text) -> ValueRef<'_>
+pub fn text_value(text: &Text) -> ValueRef<'_>
     ensures value { owned result ≡ Words (utf8 text.entry.now) }
     ensures spelled { IsEncodable text.entry.now }
 {
@@ -23,7 +23,7 @@ pub fn text(text: &Text) -> ValueRef<'_>
 }
 
 /// Converts bytes to an SQL blob. Allocates nothing.
-pub fn blob(bytes: &Bytes) -> ValueRef<'_>
+pub fn blob_value(bytes: &Bytes) -> ValueRef<'_>
     ensures { owned result ≡ Blob bytes.entry.now }
 {
     ValueRef::Blob(bytes.as_slice())
@@ -31,7 +31,7 @@ pub fn blob(bytes: &Bytes) -> ValueRef<'_>
 
 /// Returns the number, 0 to 4, that represents the verdict kind `kind` in the tables
 /// (docs/formats/store.md). Allocates nothing.
-pub fn code(kind: Kind) -> u64
+pub fn kind_code(kind: Kind) -> u64
     ensures value { result ≡ kind_code kind }
     ensures low { result < 5 }
 {

@@ -5,10 +5,10 @@ ghost use Rattle.kt_args.specs.declared.command.Command.TheVariants as command;
 use crate::Exit;
 use crate::commands::recorder::Printer;
 use crate::messages::{print_selection_error, write_memory_error, write_run_fault, write_warnings};
-use crate::output::exit::{FAILURE, exit_after};
+use crate::output::exit::{FAILURE, exit_after_write};
 use kt_args::{CaseOptions, FilterRule};
 use kt_base::{Items, OutputFault};
-use kt_plan::{World, prepare, select_cases};
+use kt_plan::{World, prepare_plan, select_cases};
 use kt_sched::{Job, Launcher, RunFault, Totals, run_cases};
 use std::alloc::Global;
 use std::io::Write;
@@ -59,15 +59,15 @@ pub fn debug<W: World, O: Write>(
     };
     let cases = picked.chosen.cases.as_slice();
     let Some((_first, _others)) = cases.split_first() else {
-        return exit_after(write_warnings(options, &picked.chosen, out), 1);
+        return exit_after_write(write_warnings(options, &picked.chosen, out), 1);
     };
-    let plan = match prepare(alloc, &picked.settings.config, &cases[..1], world) {
+    let plan = match prepare_plan(alloc, &picked.settings.config, &cases[..1], world) {
         Ok(plan) => plan,
-        Err(refusal) => return exit_after(write_memory_error(refusal, out), FAILURE),
+        Err(refusal) => return exit_after_write(write_memory_error(refusal, out), FAILURE),
     };
     let (answer, written) = print_cases(alloc, plan, world, out);
     match answer {
-        Ok(totals) => exit_after(written, if totals.bad == 0 { 0 } else { 1 }),
-        Err(fault) => exit_after(write_run_fault(written, fault, out), FAILURE),
+        Ok(totals) => exit_after_write(written, if totals.bad == 0 { 0 } else { 1 }),
+        Err(fault) => exit_after_write(write_run_fault(written, fault, out), FAILURE),
     }
 }

@@ -4,7 +4,7 @@ ghost use Rattle.kt_args.specs.declared.command.Command.TheVariants as command;
 
 use crate::Exit;
 use crate::messages::{print_selection_error, write_warnings};
-use crate::output::exit::{exit_after, status_of};
+use crate::output::exit::{exit_after_write, exit_status};
 use kt_args::{CaseOptions, FilterRule};
 use kt_base::{OutputFault, emit_all};
 use kt_plan::{CaseSelection, World, select_cases};
@@ -46,7 +46,7 @@ pub fn list<W: World, O: Write>(
     match select_cases(alloc, FilterRule::AnyFilters, options, world) {
         Ok(picked) => {
             let written = write_listing(options, &picked.chosen, out);
-            exit_after(written, status_of(0, &picked.chosen))
+            exit_after_write(written, exit_status(0, &picked.chosen))
         }
         Err(fault) => print_selection_error(fault, out),
     }

@@ -23,7 +23,7 @@ pub struct Recorder<'a, R, O> {
 }
 
 /// Converts a fault of the results store to the fault that a `Sink` returns to the scheduler.
-pub fn sink_fault(fault: StoreFault) -> SinkFault
+pub fn convert_store_fault(fault: StoreFault) -> SinkFault
     ensures { result ≡ sink_fault_of fault }
 {
     match fault {
@@ -46,7 +46,7 @@ impl<R: ResultStore, O: Write> Sink for Recorder<'_, R, O> {
     fn put(&mut self, entry: Entry) -> Result<(), SinkFault> {
         // An entry whose line is printed must be recorded, so the put comes first.
         if let Err(fault) = self.results.put(self.number, &entry) {
-            return Err(sink_fault(fault));
+            return Err(convert_store_fault(fault));
         }
         if self.written.is_err() {
             return Ok(());

@@ -5,7 +5,7 @@ use crate::Exit;
 use crate::commands::report_error::ReportError;
 use crate::commands::stored_details::StoredDetails;
 use crate::messages::{write_memory_error, write_store_error};
-use crate::output::exit::{FAILURE, exit_after};
+use crate::output::exit::{FAILURE, exit_after_write};
 use kt_args::Command;
 use kt_base::{Decimal, Items, Kind, OutputFault, Run, emit, emit_all};
 use kt_report::{ReportFault, WriteReportError, text, write_junit_report, write_text_report};
@@ -17,7 +17,7 @@ use std::io::Write;
 /// `None`.
 ///
 /// The error is `NoRuns` if the store has no runs, `Refused` if it can't be read, else `NoRun`.
-fn find_missing_cause<R: ResultStore>(number: Option<u64>, results: &mut R) -> ReportError
+fn missing_run_error<R: ResultStore>(number: Option<u64>, results: &mut R) -> ReportError
     ensures { IsMissing R.StoreSpec number results.old results.new result }
 {
     let Some(wanted) = number else {
@@ -41,7 +41,7 @@ fn read_run<R: ResultStore>(number: Option<u64>, results: &mut R) -> Result<Run,
         Err(fault) => return Err(ReportError::Refused(fault)),
     };
     let Some(head) = found else {
-        return Err(find_missing_cause(number, results));
+        return Err(missing_run_error(number, results));
     };
     match results.outline(head.number) {
         Ok(entries) => Ok(Run {
@@ -112,14 +112,14 @@ pub fn report<R: ResultStore, O: Write>(
 {
     let run = match read_run(number, results) {
         Ok(run) => run,
-        Err(why) => return exit_after(write_report_error(why, out), FAILURE),
+        Err(why) => return exit_after_write(write_report_error(why, out), FAILURE),
     };
     if !verbose {
-        return exit_after(text(&run, kinds, false, out), 0);
+        return exit_after_write(text(&run, kinds, false, out), 0);
     }
     match write_text(&run, kinds, results, out) {
         Ok(()) => Exit { status: 0 },
-        Err(WriteReportError::Details(fault)) => exit_after(write_store_error(fault, out), FAILURE),
+        Err(WriteReportError::Details(fault)) => exit_after_write(write_store_error(fault, out), FAILURE),
         Err(WriteReportError::Report(_)) => Exit { status: FAILURE },
     }
 }
@@ -160,14 +160,14 @@ pub fn report_junit<R: ResultStore, O: Write>(
 {
     let run = match read_run(number, results) {
         Ok(run) => run,
-        Err(why) => return exit_after(write_report_error(why, out), FAILURE),
+        Err(why) => return exit_after_write(write_report_error(why, out), FAILURE),
     };
     match write_junit(alloc, &run, results, out) {
         Ok(()) => Exit { status: 0 },
-        Err(WriteReportError::Details(fault)) => exit_after(write_store_error(fault, out), FAILURE),
+        Err(WriteReportError::Details(fault)) => exit_after_write(write_store_error(fault, out), FAILURE),
         Err(WriteReportError::Report(ReportFault::Output(_))) => Exit { status: FAILURE },
         Err(WriteReportError::Report(ReportFault::NoMemory(refusal))) => {
-            exit_after(write_memory_error(refusal, out), FAILURE)
+            exit_after_write(write_memory_error(refusal, out), FAILURE)
         }
     }
 }

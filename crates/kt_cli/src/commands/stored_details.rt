@@ -1,8 +1,8 @@
 use kt_base::{Entry, Variables};
-use kt_report::{Details, EntryOutputs};
+use kt_report::{DetailSource, EntryOutputs};
 use kt_store::{ResultStore, StoreFault};
 
-/// A `Details` that reads the properties and the outputs of a run's entries from a results store.
+/// A `DetailSource` that reads the properties and the outputs of a run's entries from a results store.
 #[derive(Drop)]
 pub struct StoredDetails<'a, R> {
     /// The results store from which the properties and outputs are read.
@@ -11,7 +11,7 @@ pub struct StoredDetails<'a, R> {
     pub number: u64,
 }
 
-impl<R: ResultStore> Details for StoredDetails<'_, R> {
+impl<R: ResultStore> DetailSource for StoredDetails<'_, R> {
     ghost use Rattle.std.specs.Prelude.{◌≡◌};
     ghost use Rattle.kt_cli.specs.Common.{ReadsEntry, outputs_reading, pairs_reading};
 
@@ -25,8 +25,8 @@ impl<R: ResultStore> Details for StoredDetails<'_, R> {
         × (t.number ≡ s.number)
         × ReadsEntry R.StoreSpec outputs_reading s.number e s.results.now answer t.results.now };
 
-    fn pairs(&mut self, entry: &Entry) -> Result<Option<Variables>, StoreFault> {
-        let pairs = self.results.pairs(self.number, entry.position)?;
+    fn properties(&mut self, entry: &Entry) -> Result<Option<Variables>, StoreFault> {
+        let pairs = self.results.properties(self.number, entry.position)?;
         Ok(Some(pairs))
     }
 

@@ -3,14 +3,14 @@ ghost use Rattle.kt_cli.specs.Common.{Emits, utf8, IsIdle, IsMoment, IsPlan, IsW
 ghost use Rattle.kt_args.specs.declared.command.Command.TheVariants as command;
 
 use crate::Exit;
-use crate::commands::recorder::{Recorder, sink_fault};
+use crate::commands::recorder::{Recorder, convert_store_fault};
 use crate::messages::{
     print_selection_error, write_memory_error, write_run_fault, write_store_error, write_warnings,
 };
-use crate::output::exit::{FAILURE, exit_after, status_of};
+use crate::output::exit::{FAILURE, exit_after_write, exit_status};
 use kt_args::{CaseOptions, FilterRule};
 use kt_base::{Decimal, Items, OutputFault, Text, emit_all};
-use kt_plan::{CaseSelection, CommandSelection, World, prepare, select_cases};
+use kt_plan::{CaseSelection, CommandSelection, World, prepare_plan, select_cases};
 use kt_sched::{Job, Launcher, RunFault, Totals, run_cases};
 use kt_store::ResultStore;
 use std::alloc::Global;
@@ -88,7 +88,7 @@ fn write_totals<O: Write>(good: u64, total: u64, bad: u64, out: &mut O) -> Resul
 
 /// Writes the totals of a run, and a warning for each filter in `options` that selects no case. If
 /// `written`, the result of the earlier writes, is an error, writes nothing and returns this error.
-fn write_ending<O: Write>(
+fn write_totals_and_warnings<O: Write>(
     written: Result<(), OutputFault>,
     totals: Totals,
     options: &CaseOptions,
@@ -141,7 +141,7 @@ fn run_plan<L: Launcher, R: ResultStore, O: Write>(
     let total = plan.len() as u32;
     let number = match results.begin(total, moment) {
         Ok(number) => number,
-        Err(fault) => return exit_after(write_store_error(fault, out), FAILURE),
+        Err(fault) => return exit_after_write(write_store_error(fault, out), FAILURE),
     };
     let width = picked.settings.config.parallelism();
     let numbered = NumberedPlan {
@@ -151,15 +151,15 @@ fn run_plan<L: Launcher, R: ResultStore, O: Write>(
     };
     let (answer, written) = record_cases(alloc, numbered, launcher, results, out);
     match answer {
-        Err(fault) => exit_after(write_run_fault(written, fault, out), FAILURE),
+        Err(fault) => exit_after_write(write_run_fault(written, fault, out), FAILURE),
         Ok(totals) => match results.finish(number) {
             Err(fault) => {
-                let fault = RunFault::SinkFailed(sink_fault(fault));
-                exit_after(write_run_fault(written, fault, out), FAILURE)
+                let fault = RunFault::SinkFailed(convert_store_fault(fault));
+                exit_after_write(write_run_fault(written, fault, out), FAILURE)
             }
             Ok(()) => {
-                let all = write_ending(written, totals, options, &picked.chosen, out);
-                exit_after(all, status_of(totals.bad, &picked.chosen))
+                let all = write_totals_and_warnings(written, totals, options, &picked.chosen, out);
+                exit_after_write(all, exit_status(totals.bad, &picked.chosen))
             }
         },
     }
@@ -191,9 +191,9 @@ pub fn test<W: World, R: ResultStore, O: Write>(
         Err(fault) => return print_selection_error(fault, out),
     };
     let cases = picked.chosen.cases.as_slice();
-    let plan = match prepare(alloc, &picked.settings.config, cases, world) {
+    let plan = match prepare_plan(alloc, &picked.settings.config, cases, world) {
         Ok(plan) => plan,
-        Err(refusal) => return exit_after(write_memory_error(refusal, out), FAILURE),
+        Err(refusal) => return exit_after_write(write_memory_error(refusal, out), FAILURE),
     };
     let moment = world.now();
     let planned = PlannedRun {

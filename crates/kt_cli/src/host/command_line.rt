@@ -5,7 +5,7 @@ ghost use Rattle.kt_cli.specs.Common.{RunsArguments, Command, IsCommandOfArgs, l
 
 use crate::host::performing::run_command;
 use crate::{HostHandles, LineOutput, ResultsHost};
-use kt_args::read_words;
+use kt_args::read_process_args;
 use kt_os::{HostFiles, Os};
 use std::env::Args;
 use std::io;
@@ -17,7 +17,7 @@ use std::io::Write;
 /// output: `test` writes it line by line, and other commands write it in blocks of 64 KiB. Wrong
 /// arguments are reported on `errors`, the standard error. `platform` opens and closes the results
 /// file. `outside` has the handles of the host, and is returned in its state after the command.
-pub fn run_args<M: HostFiles + Drop, O: Os + Drop, P: ResultsHost, W: Write, E: Write>(
+pub fn run_process_args<M: HostFiles + Drop, O: Os + Drop, P: ResultsHost, W: Write, E: Write>(
     outside: HostHandles<M, O>,
     platform: &mut P,
     words: io::Result<Args>,
@@ -33,7 +33,7 @@ pub fn run_args<M: HostFiles + Drop, O: Os + Drop, P: ResultsHost, W: Write, E: 
         (record { out = line_state W.contents out.new; errors = E.contents errors.new })
         result.0 }
 {
-    let command = read_words(outside.alloc, words);
+    let command = read_process_args(outside.alloc, words);
     let by_line = match &command {
         Ok(command) => command.adds_run(),
         Err(_) => false,

@@ -69,7 +69,7 @@ fn create_driver<O: Os + Drop>(
 ///
 /// - `NoWorkDirectory`: `options.work` is not absolute, or no root directory can be created in it.
 /// - `NoMemory`: an allocation fails.
-pub fn first_world<M: HostFiles + Drop, O: Os + Drop>(
+pub fn create_world<M: HostFiles + Drop, O: Os + Drop>(
     outside: HostHandles<M, O>,
     around: ProcessEnv,
     options: &CaseOptions,

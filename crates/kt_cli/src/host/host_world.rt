@@ -122,7 +122,7 @@ impl<M: HostFiles + Drop, O: Os + Drop> World for HostWorld<M, O> {
 
 /// Converts `fault`, a fault of the host's files, to the fault that a world returns for the read of
 /// a Kyuafile or the configuration file.
-fn read_fault(fault: FileFault) -> ReadFault
+fn convert_file_fault(fault: FileFault) -> ReadFault
     ensures { file_fault result ≡ fault }
 {
     match fault {
@@ -141,6 +141,6 @@ fn read_and_peek<M: HostFiles>(machine: &mut M, path: &str) -> Result<Bytes, Rea
 {
     match machine.read_start(path) {
         Ok(bytes) => Ok(bytes),
-        Err(fault) => Err(read_fault(fault)),
+        Err(fault) => Err(convert_file_fault(fault)),
     }
 }

@@ -2,7 +2,7 @@ ghost use Rattle.std.specs.Prelude.{◌≡◌, Some};
 ghost use Rattle.kt_cli.specs.Common.{access_of, given_bytes, line_state, RunsArguments, ExecutesInFile, ExecutesOnHost, program, command_state, state, RejectsArguments};
 
 use crate::commands::reporting::execute_report;
-use crate::host::host_execution::first_world;
+use crate::host::host_execution::create_world;
 use crate::messages::print_close_fault;
 use crate::no_store::NoStore;
 use crate::{
@@ -21,7 +21,7 @@ use std::io::Write;
 /// `list`, `test` and `debug` also get the working directory and the environment of the process,
 /// and a root directory for work directories, which is removed at the end. `outside` has the
 /// handles of the host, and is returned in its state after the command.
-fn perform_over<M: HostFiles + Drop, O: Os + Drop, P: ResultsHost, S: ResultStore, W: Write>(
+fn execute_over_store<M: HostFiles + Drop, O: Os + Drop, P: ResultsHost, S: ResultStore, W: Write>(
     outside: HostHandles<M, O>,
     platform: &mut P,
     command: &Command,
@@ -34,7 +34,7 @@ fn perform_over<M: HostFiles + Drop, O: Os + Drop, P: ResultsHost, S: ResultStor
         (command_state (state platform.new result.1) results.new (W.contents out.new))
         result.0.status }
 {
-    let Some(options) = command.cases() else {
+    let Some(options) = command.case_options() else {
         return (
             execute_report(outside.alloc, command, results, out),
             outside,
@@ -45,7 +45,7 @@ fn perform_over<M: HostFiles + Drop, O: Os + Drop, P: ResultsHost, S: ResultStor
         Err(fault) => return (print_driver_fault(DriverFault::from(fault), out), outside),
     };
     let alloc = outside.alloc;
-    let mut world = match first_world(outside, around, options) {
+    let mut world = match create_world(outside, around, options) {
         Ok(world) => world,
         Err((fault, outside)) => return (print_driver_fault(fault, out), outside),
     };
@@ -64,7 +64,7 @@ fn perform_over<M: HostFiles + Drop, O: Os + Drop, P: ResultsHost, S: ResultStor
 /// `Read`.
 ///
 /// Only `test` and the reports have a results file.
-fn access_of(command: &Command) -> Access
+fn command_access(command: &Command) -> Access
     ensures { result ≡ access_of command.now }
 {
     if command.adds_run() {
@@ -78,7 +78,7 @@ fn access_of(command: &Command) -> Access
 /// status, which is 2 if the open or the close fails.
 ///
 /// `outside` has the handles of the host, and is returned in its state after the command.
-fn perform_in_file<M: HostFiles + Drop, O: Os + Drop, P: ResultsHost, W: Write>(
+fn execute_in_file<M: HostFiles + Drop, O: Os + Drop, P: ResultsHost, W: Write>(
     outside: HostHandles<M, O>,
     platform: &mut P,
     command: &Command,
@@ -91,11 +91,11 @@ fn perform_in_file<M: HostFiles + Drop, O: Os + Drop, P: ResultsHost, W: Write>(
         (command_state (state platform.new result.1) tt (W.contents out.new)) result.0.status
         (Some file.now) }
 {
-    let mut results = match platform.open(file, access_of(command)) {
+    let mut results = match platform.open(file, command_access(command)) {
         Ok(results) => results,
         Err(fault) => return (print_store_fault(fault, out), outside),
     };
-    let (exit, outside) = perform_over(outside, platform, command, &mut results, out);
+    let (exit, outside) = execute_over_store(outside, platform, command, &mut results, out);
     // The results are closed even after a failed command.
     let closed = platform.close(results);
     (print_close_fault(exit, closed, out), outside)
@@ -106,7 +106,7 @@ fn perform_in_file<M: HostFiles + Drop, O: Os + Drop, P: ResultsHost, W: Write>(
 ///
 /// `errors` is standard error. An out-of-memory message is printed to `out`, standard output, like
 /// the messages of commands.
-fn reject<W: Write, E: Write>(fault: &CommandFault, out: &mut LineOutput<W>, errors: &mut E) -> Exit
+fn reject_arguments<W: Write, E: Write>(fault: &CommandFault, out: &mut LineOutput<W>, errors: &mut E) -> Exit
     ensures { RejectsArguments fault.now
         (record { out = line_state W.contents out.old; errors = E.contents errors.old })
         (record { out = line_state W.contents out.new; errors = E.contents errors.new })
@@ -143,11 +143,11 @@ pub fn run_command<M: HostFiles + Drop, O: Os + Drop, P: ResultsHost, W: Write, 
 {
     let command = match command {
         Ok(command) => command,
-        Err(fault) => return (reject(&fault, out, errors), outside),
+        Err(fault) => return (reject_arguments(&fault, out, errors), outside),
     };
-    let (exit, outside) = match command.results() {
-        Some(file) => perform_in_file(outside, platform, &command, file, out),
-        None => perform_over(outside, platform, &command, &mut NoStore, out),
+    let (exit, outside) = match command.results_file() {
+        Some(file) => execute_in_file(outside, platform, &command, file, out),
+        None => execute_over_store(outside, platform, &command, &mut NoStore, out),
     };
     (out.finish(exit), outside)
 }

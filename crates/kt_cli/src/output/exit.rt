@@ -16,7 +16,7 @@ pub struct Exit {
 }
 
 /// Returns the exit status `due`, or 2 if `written`, the result of writing the output, is an error.
-pub fn exit_after(written: Result<(), OutputFault>, due: u8) -> Exit
+pub fn exit_after_write(written: Result<(), OutputFault>, due: u8) -> Exit
     ensures { result.status ≡ (if is_err written then 2 else due) }
 {
     Exit {
@@ -28,7 +28,7 @@ pub fn exit_after(written: Result<(), OutputFault>, due: u8) -> Exit
 ///
 /// `bad` is the number of cases that failed or are broken. The status is 0 if `bad` is 0 and every
 /// filter selects a case, else 1.
-pub fn status_of(bad: u64, chosen: &CaseSelection) -> u8
+pub fn exit_status(bad: u64, chosen: &CaseSelection) -> u8
     ensures { result ≡ exit_of bad chosen.now.unmatched }
 {
     let unmatched = chosen.unmatched.as_slice();

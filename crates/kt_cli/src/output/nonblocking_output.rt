@@ -5,17 +5,17 @@ use std::alloc::Global;
 use std::io;
 use std::io::{ErrorKind, Write};
 
-/// The maximum number of times that one `step` or write offers held bytes to the inner writer.
+/// The maximum number of times that one `try_flush` or write offers held bytes to the inner writer.
 const MAX_OFFERS: usize = 16;
 
 /// The maximum number of bytes that a `NonblockingOutput` holds in memory before the first call of
-/// `step`: 1 MiB.
+/// `try_flush`: 1 MiB.
 const MAX_HELD_BYTES: usize = 1_048_576;
 
 /// A writer that does not wait for its reader.
 ///
 /// Bytes that the reader does not take yet are held in memory, in order. Each later write and step
-/// offers them to the inner writer again. If more than 1 MiB is held and `step` was never called,
+/// offers them to the inner writer again. If more than 1 MiB is held and `try_flush` was never called,
 /// the inner writer stores the bytes by `spool_bytes`. A flush writes all held and stored bytes,
 /// and waits for the reader. So does a write whose bytes can't be held because the allocation
 /// fails. After a failed write each later write and flush fails, and nothing more is written.
@@ -25,7 +25,7 @@ pub struct NonblockingOutput<W> {
     out: W,
     /// The bytes in memory that the reader did not take yet.
     held: Backlog,
-    /// The maximum number of bytes in `held`: 1 MiB before the first call of `step`, and no limit
+    /// The maximum number of bytes in `held`: 1 MiB before the first call of `try_flush`, and no limit
     /// afterwards.
     most: usize,
     /// Whether a write of the inner writer has failed.
@@ -57,7 +57,7 @@ impl<W: NonblockingWriter> NonblockingOutput<W> {
 
     /// Offers the held bytes to the inner writer once, and returns `true` if the writer took at
     /// least one of them. An error of the writer is recorded in `failed`.
-    fn offer_held(&mut self) -> bool
+    fn offer_held_bytes(&mut self) -> bool
         ensures bytes { Keeps (accepted_bytes W.contents self.old) (accepted_bytes W.contents
             self.new) }
         ensures few { length (unsent_bytes self.new) ≤ length (unsent_bytes self.old) }
@@ -76,13 +76,13 @@ impl<W: NonblockingWriter> NonblockingOutput<W> {
 
     /// Offers the held bytes to the inner writer, in order, at most 16 times and as long as the
     /// writer takes some of them.
-    fn offer_all(&mut self)
+    fn offer_repeatedly(&mut self)
         ensures bytes { Keeps (accepted_bytes W.contents self.old) (accepted_bytes W.contents
             self.new) }
         ensures few { length (unsent_bytes self.new) ≤ length (unsent_bytes self.old) }
     {
         for _ in 0..MAX_OFFERS {
-            if self.failed || self.held.is_empty() || !self.offer_held() {
+            if self.failed || self.held.is_empty() || !self.offer_held_bytes() {
                 return;
             }
         }
@@ -93,13 +93,13 @@ impl<W: NonblockingWriter> NonblockingOutput<W> {
     ///
     /// After the first step, held bytes are never spooled: they stay in memory until they are
     /// written.
-    pub fn step(&mut self)
+    pub fn try_flush(&mut self)
         ensures bytes { Keeps (accepted_bytes W.contents self.old) (accepted_bytes W.contents
             self.new) }
         ensures few { length (unsent_bytes self.new) ≤ length (unsent_bytes self.old) }
     {
         self.most = usize::MAX;
-        self.offer_all();
+        self.offer_repeatedly();
     }
 
     /// Moves all held bytes to the spool of the inner writer if they are more than the limit
@@ -120,7 +120,7 @@ impl<W: NonblockingWriter> NonblockingOutput<W> {
     }
 
     /// Writes all held bytes, waits for the reader, and returns `true` if a write failed.
-    fn write_held(&mut self) -> bool
+    fn write_held_bytes(&mut self) -> bool
         ensures bytes { Keeps (accepted_bytes W.contents self.old) (accepted_bytes W.contents
             self.new) }
         ensures all { result ≡ false → unsent_bytes self.new ≡ [] }
@@ -151,7 +151,7 @@ impl<W: NonblockingWriter> NonblockingOutput<W> {
     ///
     /// If the allocation fails, this writes all held bytes, and then some of `buf`. Fails if one of
     /// these writes fails.
-    fn hold(&mut self, buf: &[u8]) -> io::Result<usize>
+    fn hold_bytes(&mut self, buf: &[u8]) -> io::Result<usize>
         ensures bound { WritesAtMost result buf.now }
         ensures bytes { WriteAppends (accepted_bytes W.contents self.old)
             (accepted_bytes W.contents self.new) result buf.now }
@@ -162,15 +162,15 @@ impl<W: NonblockingWriter> NonblockingOutput<W> {
             self.spool_excess();
             return Ok(buf.len());
         }
-        if self.write_held() {
+        if self.write_held_bytes() {
             return Err(broken_pipe_error());
         }
         self.write_through(buf)
     }
 
-    /// Offers `buf` to the inner writer, and calls `hold` if the writer takes none of the bytes. No
+    /// Offers `buf` to the inner writer, and calls `hold_bytes` if the writer takes none of the bytes. No
     /// bytes may be held before. Returns the number of bytes that were taken or held. Fails if the
-    /// offer or `hold` fails.
+    /// offer or `hold_bytes` fails.
     fn offer_or_hold(&mut self, buf: &[u8]) -> io::Result<usize>
         requires { unsent_bytes self.old ≡ [] }
         ensures bound { WritesAtMost result buf.now }
@@ -180,7 +180,7 @@ impl<W: NonblockingWriter> NonblockingOutput<W> {
             ≤ length (unsent_bytes self.old) + length buf.now }
     {
         match self.out.try_write(buf) {
-            Ok(0) => self.hold(buf),
+            Ok(0) => self.hold_bytes(buf),
             Ok(count) => Ok(count),
             Err(fault) => {
                 self.failed = true;
@@ -204,12 +204,12 @@ impl<W: NonblockingWriter> Write for NonblockingOutput<W> {
         ensures few { length (unsent_bytes self.new)
             ≤ length (unsent_bytes self.old) + length buf.now }
     {
-        self.offer_all();
+        self.offer_repeatedly();
         if self.failed {
             return Err(broken_pipe_error());
         }
         if !self.held.is_empty() {
-            return self.hold(buf);
+            return self.hold_bytes(buf);
         }
         self.offer_or_hold(buf)
     }
@@ -220,7 +220,7 @@ impl<W: NonblockingWriter> Write for NonblockingOutput<W> {
             self.new) }
         ensures all { OnOk result (unsent_bytes self.new ≡ []) }
     {
-        if self.failed || self.write_held() {
+        if self.failed || self.write_held_bytes() {
             return Err(broken_pipe_error());
         }
         self.out.flush()

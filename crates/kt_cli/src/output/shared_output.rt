@@ -45,7 +45,7 @@ impl<W: NonblockingWriter> Write for SharedOutput<'_, W> {
 impl<W: NonblockingWriter> Background for SharedOutput<'_, W> {
     fn advance(&self) {
         if let Ok(mut held) = self.held.try_borrow_mut() {
-            held.step();
+            held.try_flush();
         }
     }
 }

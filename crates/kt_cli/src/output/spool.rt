@@ -50,7 +50,7 @@ fn byte_count(answer: isize) -> io::Result<usize>
 
 /// Writes the template of a spool's path, for mkstemp(3), to `path`, and returns the length of the
 /// template in bytes.
-fn write_template<R: Env>(rt: &R, path: &mut [u8; MAX_PATH_BYTES]) -> usize
+fn write_path_template<R: Env>(rt: &R, path: &mut [u8; MAX_PATH_BYTES]) -> usize
     ensures { result ≤ 4095 }
 {
     let length = match rt.var("TMPDIR", &mut path[..MAX_DIRECTORY_BYTES]) {
@@ -73,7 +73,7 @@ impl Spool {
     /// - an `io::Error`: the file can't be created.
     pub fn create<R: Env>(rt: &R) -> io::Result<Spool> {
         let mut room = [0u8; MAX_PATH_BYTES];
-        let length = write_template(rt, &mut room);
+        let length = write_path_template(rt, &mut room);
         let path = &mut room[..length];
         let fd = os::create_temp(path);
         if fd < 0 {

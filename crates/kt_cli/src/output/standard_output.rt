@@ -61,7 +61,7 @@ fn is_pipe<R: Files>(rt: &R) -> bool {
 
 /// Opens standard output a second time, to write to it, in non-blocking mode. Returns `None` if a
 /// call fails.
-fn open_again<R: Files<File = File>>(rt: &R) -> Option<File> {
+fn reopen_output<R: Files<File = File>>(rt: &R) -> Option<File> {
     let opened = OpenOptions::new().write(true).open(rt, PATH);
     let again = opened.ok()?;
     if os::set_nonblocking(again.as_raw_fd(), true) == 0 {
@@ -80,7 +80,7 @@ fn open_pipe<R: Files<File = File>>(rt: &R) -> Option<File> {
     // Opening a pipe without a reader would wait for one, so this is a reader meanwhile.
     let reader = OpenOptions::new().read(true).open(rt, PATH);
     let _reader = reader.ok()?;
-    open_again(rt)
+    reopen_output(rt)
 }
 
 /// Opens standard output a second time if it is a terminal. Returns `None` if it is not a terminal,
@@ -89,7 +89,7 @@ fn open_terminal<R: Files<File = File>>(rt: &R) -> Option<File> {
     if libc::isatty(libc::STDOUT_FILENO) != 1 {
         return None;
     }
-    open_again(rt)
+    reopen_output(rt)
 }
 
 impl<'a, R: Files<File = File>> StandardOutput<'a, R> {

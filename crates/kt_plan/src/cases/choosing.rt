@@ -76,7 +76,7 @@ fn retain_selected(
 ///
 /// - `TooManyCases`: `found` has more than 100,000 cases.
 /// - `NoMemory`: an allocation fails.
-pub fn choose(
+pub fn select_candidates(
     alloc: Global,
     filters: &[Filter],
     found: Items<Candidate>,

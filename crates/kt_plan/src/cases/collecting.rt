@@ -3,7 +3,7 @@ ghost use Rattle.kt_plan.specs.Common.{IsIdle, IsNoMemory, item_limit, CollectsB
 ghost use Rattle.kt_base.specs.declared.no_memory.NoMemory.{NoMemory as OutOfMemory};
 ghost use Rattle.kt_plan.specs.declared.selection_error.SelectionError.TheVariants as stop;
 
-use crate::cases::choosing::choose;
+use crate::cases::choosing::select_candidates;
 use crate::cases::offering::list_all_cases;
 use crate::options::configuring::read_settings;
 use crate::{CaseSelection, CommandSelection, SelectionError, Settings, World};
@@ -114,7 +114,7 @@ pub fn load_and_select<W: World>(
         Err(fault) => return Err(tree_error(fault)),
     };
     let found = list_all_cases(alloc, settings, programs.as_slice(), world)?;
-    choose(alloc, settings.filters.as_slice(), found)
+    select_candidates(alloc, settings.filters.as_slice(), found)
 }
 
 /// Selects the test cases of a command with the options `options`.

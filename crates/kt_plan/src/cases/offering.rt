@@ -1,7 +1,7 @@
 ghost use Rattle.std.specs.Prelude.{◌≡◌, ◌++◌, ◌∷◌, [], OnOk, MatchResult, ◌↔◌, IsTrue};
 ghost use Rattle.kt_plan.specs.Common.{IsIdle, LeadsByCalls, candidates_of, ListsAllCases, IsAllListsPrefix, ListsProgramCases, IsSelectable, Contains, Filter, MayMatch};
 
-use crate::options::configuring::variables_for;
+use crate::options::configuring::copy_suite_variables;
 use crate::{Candidate, Settings, World};
 use kt_atflist::{CaseDef, cases};
 use kt_base::{Interface, Items, NoMemory, Text};
@@ -33,7 +33,7 @@ fn list_program_cases<W: World>(
             if !is_selectable(settings.filters.as_slice(), program) {
                 return Ok(Items::new(alloc));
             }
-            let variables = variables_for(alloc, &settings.config, &program.suite)?;
+            let variables = copy_suite_variables(alloc, &settings.config, &program.suite)?;
             let listing = Some(world.list(program, &variables));
             let found = cases(alloc, Interface::Atf, &program.props, &listing)?;
             Ok(found)

@@ -11,7 +11,7 @@ use std::alloc::Global;
 ///
 /// The inner result is the error of the command if the argument is not a filter. The outer result
 /// is an error if an allocation fails.
-fn filter_of(alloc: Global, word: &Text) -> Result<Result<Filter, SelectionError>, NoMemory>
+fn parse_filter(alloc: Global, word: &Text) -> Result<Result<Filter, SelectionError>, NoMemory>
     ensures { IfOk result (λ outcome. outcome ≡ filter_of word.now) }
 {
     match Filter::parse(alloc, word) {
@@ -33,7 +33,7 @@ fn parse_filters(
 {
     let mut filters = Items::new(alloc);
     for word in words {
-        match filter_of(alloc, word)? {
+        match parse_filter(alloc, word)? {
             Ok(filter) => filters.push(filter)?,
             Err(fault) => return Ok(Err(fault)),
         }
@@ -43,7 +43,7 @@ fn parse_filters(
 
 /// Returns the index of the filter that `fault` is about, in the command's list of filters. Returns
 /// 0 if `fault` has no index.
-fn position_of(fault: FilterFault) -> usize
+fn fault_position(fault: FilterFault) -> usize
     ensures { result ≡ position_in fault }
 {
     match fault {
@@ -63,7 +63,7 @@ fn find_overlap(words: &[Text], filters: &[Filter]) -> Result<Option<SelectionEr
     match check_disjoint(filters) {
         Ok(()) => Ok(None),
         Err(fault) => {
-            let word = words[position_of(fault)].copy()?;
+            let word = words[fault_position(fault)].copy()?;
             Ok(Some(SelectionError::Filter(word, fault)))
         }
     }

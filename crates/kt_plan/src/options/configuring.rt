@@ -15,7 +15,7 @@ use std::alloc::Global;
 /// # Errors
 ///
 /// - `NoMemory`: an allocation fails.
-pub fn variables_for(alloc: Global, config: &Config, suite: &Text) -> Result<Variables, NoMemory>
+pub fn copy_suite_variables(alloc: Global, config: &Config, suite: &Text) -> Result<Variables, NoMemory>
     ensures { IfOk result (λ variables. variables ≡ variables_for config.now suite.now) }
 {
     match config.suite_vars(suite) {
@@ -28,7 +28,7 @@ pub fn variables_for(alloc: Global, config: &Config, suite: &Text) -> Result<Var
 ///
 /// Returns `None` on success. If the configuration rejects the variable, returns the error of the
 /// command, with the name. Fails if an allocation fails.
-fn set(config: &mut Config, name: Text, value: &Text) -> Result<Option<SelectionError>, NoMemory>
+fn set_config_variable(config: &mut Config, name: Text, value: &Text) -> Result<Option<SelectionError>, NoMemory>
     ensures { IfOk result (λ stop. AppendsDefinition config.old (config_or_error config.new stop)
         (with_selection_error (SelectionError.Variable name) (definition_named name value.now))) }
 {
@@ -52,7 +52,7 @@ fn set_argument(config: &mut Config, word: &Text) -> Result<Option<SelectionErro
     let (name, value) = word.split_at_first('=')?;
     match value {
         None => Ok(Some(SelectionError::Variable(name, ConfigFault::BadValue))),
-        Some(value) => set(config, name, &value),
+        Some(value) => set_config_variable(config, name, &value),
     }
 }
 

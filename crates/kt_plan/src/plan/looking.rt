@@ -62,7 +62,7 @@ fn probe_needs<W: World>(
 /// files and programs.
 ///
 /// Returns no kinds if the program's list of cases has an error. Allocates nothing.
-fn needs_to_check(candidate: &Candidate) -> &'static [Need]
+fn need_kinds(candidate: &Candidate) -> &'static [Need]
     ensures { needs_of_kinds result.now (candidate_meta candidate.now)
         ≡ case_needs candidate.now.case.fault (candidate_meta candidate.now) }
 {
@@ -90,7 +90,7 @@ fn probe_case_needs<W: World>(
         answers)) }
 {
     let props = &candidate.case.props;
-    for need in needs_to_check(candidate) {
+    for need in need_kinds(candidate) {
         probe_needs(*need, props.required_objects(*need), world, host)?;
     }
     Ok(())
@@ -128,7 +128,7 @@ fn probe_all_needs<W: World>(
 /// # Errors
 ///
 /// - `NoMemory`: an allocation fails.
-pub fn survey<W: World>(alloc: Global, cases: &[Candidate], world: &mut W) -> Result<Host, NoMemory>
+pub fn probe_host<W: World>(alloc: Global, cases: &[Candidate], world: &mut W) -> Result<Host, NoMemory>
     requires { IsIdle (W.running world.old) (W.pending world.old) }
     ensures surveyed { LeadsByCalls W.replies world.old world.new (λ answers. MatchResult result
         (Surveys cases.now answers) (λ _. IsSurveyPrefix cases.now answers)) }

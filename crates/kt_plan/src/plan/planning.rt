@@ -2,7 +2,7 @@ ghost use Rattle.std.specs.Prelude.{◌≡◌, ◌≤◌, ◌&&◌, length, IfOk
 ghost use Rattle.kt_plan.specs.Common.{Values, candidate_meta, first_reason, rows, variables_for, IsPlan, item_limit, is_atf, ArePlanned, DecidesVerdict, IsJobOf, IsIdle, LeadsByCalls, Surveys, IsSurveyPrefix};
 ghost use Rattle.kt_metadata.specs.declared.host.Host.{Host as Surveyed};
 
-use crate::plan::looking::survey;
+use crate::plan::looking::probe_host;
 use crate::plan::shared_variables::SharedVariables;
 use crate::{Candidate, World};
 use kt_base::{Interface, Items, NoMemory, Reason, Text, Variables, Verdict};
@@ -43,7 +43,7 @@ fn declares_cleanup(interface: Interface, meta: &Meta) -> bool
 /// The case is broken if its program's list of cases has an error. Otherwise, it is skipped if a
 /// requirement is not met. `meta` are the effective properties of the case. Its requirements are
 /// compared with the values in `config` and `host`.
-fn decided(
+fn decide_verdict(
     alloc: Global,
     candidate: &Candidate,
     meta: &Meta,
@@ -126,7 +126,7 @@ fn plan_job(
     ensures { IfOk result (λ job. IsJobOf config.now host.now position candidate.now job) }
 {
     let meta = candidate.case.props.effective()?;
-    let decided = decided(alloc, candidate, &meta, config, host)?;
+    let decided = decide_verdict(alloc, candidate, &meta, config, host)?;
     build_job(position, candidate, vars, &meta, decided)
 }
 
@@ -153,9 +153,9 @@ pub fn make_plan(
 {
     let mut plan = Items::new(alloc);
     let mut position: u32 = 0;
-    let mut shared = SharedVariables::of(alloc, config, &Text::new(alloc))?;
+    let mut shared = SharedVariables::for_suite(alloc, config, &Text::new(alloc))?;
     for candidate in cases {
-        shared = shared.next(alloc, config, &candidate.suite)?;
+        shared = shared.for_next_case(alloc, config, &candidate.suite)?;
         let vars = shared.variables.copy()?;
         plan.push(plan_job(alloc, config, host, position, candidate, vars)?)?;
         position += 1;
@@ -172,7 +172,7 @@ pub fn make_plan(
 /// # Errors
 ///
 /// - `NoMemory`: an allocation fails.
-pub fn prepare<W: World>(
+pub fn prepare_plan<W: World>(
     alloc: Global,
     config: &Config,
     cases: &[Candidate],
@@ -186,7 +186,7 @@ pub fn prepare<W: World>(
     ensures plan { IfOk result (λ plan. IsPlan plan × (length plan ≡ length cases.now)) }
     ensures idle { IsIdle (W.running world.new) (W.pending world.new) }
 {
-    let host = survey(alloc, cases, world)?;
+    let host = probe_host(alloc, cases, world)?;
     let plan = make_plan(alloc, config, &host, cases)?;
     Ok(plan)
 }

@@ -1,4 +1,4 @@
-use crate::options::configuring::variables_for;
+use crate::options::configuring::copy_suite_variables;
 use kt_base::{NoMemory, Text, Variables};
 use kt_config::Config;
 use std::alloc::Global;
@@ -22,12 +22,12 @@ impl SharedVariables {
     /// # Errors
     ///
     /// - `NoMemory`: an allocation fails.
-    pub fn of(alloc: Global, config: &Config, suite: &Text) -> Result<SharedVariables, NoMemory>
+    pub fn for_suite(alloc: Global, config: &Config, suite: &Text) -> Result<SharedVariables, NoMemory>
         ensures suite { IfOk result (λ shared. shared.suite ≡ suite.now) }
         ensures variables { IfOk result (λ shared.
             shared.variables ≡ variables_for config.now suite.now) }
     {
-        let variables = variables_for(alloc, config, suite)?;
+        let variables = copy_suite_variables(alloc, config, suite)?;
         Ok(SharedVariables {
             suite: suite.copy()?,
             variables: variables.into_shared()?,
@@ -42,7 +42,7 @@ impl SharedVariables {
     /// # Errors
     ///
     /// - `NoMemory`: an allocation fails.
-    pub fn next(
+    pub fn for_next_case(
         self,
         alloc: Global,
         config: &Config,
@@ -56,7 +56,7 @@ impl SharedVariables {
         if self.suite.is_equal_to(suite.as_str()) {
             return Ok(self);
         }
-        let other = SharedVariables::of(alloc, config, suite)?;
+        let other = SharedVariables::for_suite(alloc, config, suite)?;
         Ok(other)
     }
 }

@@ -8,5 +8,5 @@ pub returns : goal.returns
 returns g c = record {
   failed = is_err c.write_error_line.result;
   shows = shows_as (ap (λ (words : List ℕ). utf8 (fault_line words)) (ap chars c.message.ensures ∙ chars-driver c.args.fault)) c.write_error_line.ensures;
-  exits = c.exit_after.ensures;
+  exits = c.exit_after_write.ensures;
 }

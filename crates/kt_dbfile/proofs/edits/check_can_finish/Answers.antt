@@ -18,7 +18,7 @@ counted : (g : Over) (c : In_ok-count_run_entries g) (runs : List Run) → HasRu
 counted g c runs has clean =
     let it = c.in_ok-row.ensures.found runs has (c.count_run_entries.ensures.looks.0.clean clean) in
     let many = c.in_ok-count_run_entries.ensures.count runs (still_has g.S.Store _ _ c.find_run_row.ensures.looks.0 runs has) clean in
-    (it.0, it.1, it.2, c.in_ok-head.ensures.head it.0 it.2, it.3, rw (c.key.ensures.same c.in_ok-row.ensures.small) at many)
+    (it.0, it.1, it.2, c.in_ok-head.ensures.head it.0 it.2, it.3, rw (c.run_key.ensures.same c.in_ok-row.ensures.small) at many)
 
 pub returns-then-branch-from-clause-refused : goal.returns-then-branch-from-clause-refused
 returns-then-branch-from-clause-refused g c runs has clean =

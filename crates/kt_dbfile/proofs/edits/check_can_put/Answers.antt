@@ -22,7 +22,7 @@ looked : (g : Over) (c : In_ok-has_entry_at g) (runs : List Run) → HasRuns (g.
 looked g c runs has clean =
     let it = c.in_ok-head.ensures.found runs has (c.has_entry_at.ensures.looks.0.clean clean) in
     let is = c.in_ok-has_entry_at.ensures.found runs (still_has g.S.Store _ _ c.find_run_head.ensures.looks.0 runs has) clean in
-    (it.0, it.1, it.2, it.3, rw (c.key.ensures.same c.in_ok-head.ensures.small) at is)
+    (it.0, it.1, it.2, it.3, rw (c.run_key.ensures.same c.in_ok-head.ensures.small) at is)
 
 pub returns-then-branch-clause-refused : goal.returns-then-branch-clause-refused
 returns-then-branch-clause-refused g c runs has clean =

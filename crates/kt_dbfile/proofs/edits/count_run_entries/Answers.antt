@@ -5,7 +5,7 @@ use Rattle.kt_dbfile.proofs.edits.count_run_entries.Goals as goal
 pub returns-clause-count : goal.returns-clause-count
 returns-clause-count g c runs has clean =
     let sound = (c.in_ok-count.ensures.looks.1 clean).0 in
-    let first = c.count_under_key.ensures.looks.0.clean clean in
+    let first = c.count_rows_by_key.ensures.looks.0.clean clean in
     let keeps = has first sound in
     let n = c.args.run in
     let es = entries_of (run_at runs n) in

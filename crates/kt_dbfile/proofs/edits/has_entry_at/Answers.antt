@@ -7,7 +7,7 @@ use Rattle.kt_dbfile.proofs.edits.has_entry_at.Goals as goal
 pub returns-clause-found : goal.returns-clause-found
 returns-clause-found g c runs has clean =
     let sound = (c.in_ok-count.ensures.looks.1 clean).0 in
-    let first = c.count_under_key.ensures.looks.0.clean clean in
+    let first = c.count_rows_by_key.ensures.looks.0.clean clean in
     let keeps = has first sound in
     let n = c.args.run in
     let p = c.args.position in

@@ -19,7 +19,7 @@ returns g c = record {
       let r = taken.0 in
       let keeps = has was through.0 in
       let done : c.in_ok-done.done ≡ finished_run_row r = c.in_ok-done.ensures r taken.2 in
-      let id = to_z_pos w64 c.key.result (omega (arith, c.key.ensures.low)) ∙ ap pos (c.key.ensures.same c.in_ok-row.ensures.small) in
+      let id = to_z_pos w64 c.run_key.result (omega (arith, c.run_key.ensures.low)) ∙ ap pos (c.run_key.ensures.same c.in_ok-row.ensures.small) in
       let ids = ap (λ (z : ℤ). z ∷ []) (id ∙ ap pos (sym (number_is c.args.run runs r keeps.3.valid.numbered taken.1))) in
       finished_by c.args.schema.now runs (g.S.Store.view c.args.store.now).trees (g.S.Store.view c.put_rows.new.store).trees (c.requires.sound was through.0) (c.in_ok-put_rows.ensures.obeys clean).sound keeps c.args.run r taken.1 taken.4 _ _ _ trees done ids (rw c.from_ref.ensures.value at (c.in_ok-put_rows.ensures.puts clean));
 }

@@ -18,6 +18,6 @@ returns g c = record {
       let keeps = has was through.0 in
       let sound = c.requires.sound was through.0 in
       let puts = subst (λ (t : Trees). PutsRows c.args.schema.now 1 [] Chosen 0 (new_run_row c.args.total c.args.moment ∷ []) t (g.S.Store.view c.put_rows.new.store).trees) trees
-      (rw (c.from_ref.ensures.value, c.in_ok-row.ensures, c.int.ensures, c.int-2.ensures, c.from.ensures, c.int-3.ensures) at (c.in_ok-put_rows.ensures.puts clean)) in
+      (rw (c.from_ref.ensures.value, c.in_ok-row.ensures, c.int_value.ensures, c.int_value-2.ensures, c.from.ensures, c.int_value-3.ensures) at (c.in_ok-put_rows.ensures.puts clean)) in
       run_made c.args.schema.now runs (g.S.Store.view c.args.store.now).trees _ sound (c.in_ok-put_rows.ensures.obeys clean).sound keeps c.args.total c.args.moment (c.in_ok-number.ensures.number runs has early).1 (omega arith) puts;
 }

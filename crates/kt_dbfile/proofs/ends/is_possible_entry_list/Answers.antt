@@ -5,7 +5,7 @@ use Rattle.kt_dbfile.proofs.ends.is_possible_entry_list.Goals as goal
 pub returns-then-entries-total : goal.returns-then-entries-total
 returns-then-entries-total c r sound head are =
     let total : r.total ≡ length c.args.entries.now = sym (ap length are ∙ length-map r.entries outline_entry ∙ sound.whole (sym (ap (λ (h : RunHead). h.finished) head) ∙ c.if-head.true)) in
-    c.are_contiguous.ensures
+    c.has_contiguous_positions.ensures
     (subst (IsAscending (λ (a b : Entry). a.position < b.position)) (sym are) (ascending-map (λ (a b : Entry). a.position < b.position) outline_entry r.entries sound.ordered))
     (subst (AllByRecursion (λ (e : Entry). e.position < length c.args.entries.now)) (sym are) (all_map (λ (e : Entry). e.position < length c.args.entries.now) outline_entry r.entries (subst (λ n. AllByRecursion (λ (e : Entry). e.position < n) r.entries) total sound.below)))
 

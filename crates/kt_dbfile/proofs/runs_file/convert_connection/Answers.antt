@@ -4,12 +4,12 @@ use Rattle.kt_dbfile.specs.Inner.Opening.{IsConvertedFrom}
 use Rattle.kt_dbfile.proofs.runs_file.convert_connection.Goals as goal
 
 pub wrap_store-requires-clause-sound : goal.wrap_store-requires-clause-sound
-wrap_store-requires-clause-sound g c opened = still_sound g.S.Store c.args.connection c.detach_store.result (g.met.S.Store.shut_if_dirty c.detach_store.result) c.lives.ensures c.detach_store.ensures.undone opened
+wrap_store-requires-clause-sound g c opened = still_sound g.S.Store c.args.connection c.detach_store.result (g.met.S.Store.shut_if_dirty c.detach_store.result) c.theorem_of_valid_contents.ensures c.detach_store.ensures.undone opened
 
 pub returns-in-Ok-clause-stands : goal.returns-in-Ok-clause-stands
 returns-in-Ok-clause-stands g c runs has =
     subst (λ s. HasCommitted (g.S.Store.view s) runs) (sym c.in-Ok.ensures.same)
-    (still_stands g.S.Store c.args.connection c.detach_store.result (g.met.S.Store.shut_if_dirty c.detach_store.result) c.lives.ensures c.detach_store.ensures.undone c.detach_store.ensures.from.earlier runs has)
+    (still_stands g.S.Store c.args.connection c.detach_store.result (g.met.S.Store.shut_if_dirty c.detach_store.result) c.theorem_of_valid_contents.ensures c.detach_store.ensures.undone c.detach_store.ensures.from.earlier runs has)
 
 pub returns-in-Ok-clause-value : goal.returns-in-Ok-clause-value
 returns-in-Ok-clause-value g c = subst (IsConvertedFrom g.S.Store c.args.connection) (sym c.in-Ok.ensures.same) c.detach_store.ensures.from

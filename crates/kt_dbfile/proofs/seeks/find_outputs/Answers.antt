@@ -10,7 +10,7 @@ returns-in-Some-clause-served g c = looked_serves g.S.Store _ _ c.find_row_by_ke
     let first = c.find_row_by_key.ensures.looks.clean clean in
     let sound = c.in_ok-row.ensures.sound clean in
     let keeps = has first sound in
-    let n = c.key-number.result in
+    let n = c.run_key-number.result in
     let es = filter (is_at c.args.position) (entries_of (run_at runs n)) in
     let there = rw (c.entry_table.ensures.tree, c.entry_table.ensures.index, c.in_ok-place.ensures, c.in-Some.is) at (c.in_ok-row.ensures.found clean) cs (map (entry_row n) es) (λ shaped up. place_of_entry runs _ keeps shaped up n c.args.position) in
     let it = row_there (run_at runs n) n c.args.position (drop 1 c.in-Some.row) there in
@@ -23,13 +23,13 @@ returns-clause-served g c = looked_serves g.S.Store _ _ c.find_row_by_key.ensure
     let first = c.find_row_by_key.ensures.looks.clean clean in
     let sound = c.in_ok-row.ensures.sound clean in
     let keeps = has first sound in
-    let n = c.key-number.result in
+    let n = c.run_key-number.result in
     let es = filter (is_at c.args.position) (entries_of (run_at runs n)) in
     let there = rw (c.entry_table.ensures.tree, c.entry_table.ensures.index, c.in_ok-place.ensures) at (c.in_ok-row.ensures.found clean) cs (map (entry_row n) es) (λ shaped up. place_of_entry runs _ keeps shaped up n c.args.position) in
     inr (
       refl,
       elim c.in_default.branch [
-        | in_default-via-in-Some+else-from-run w ↦ ap (λ o. entry_at o c.args.position) (past_run runs c.args.run n keeps.3.valid.few c.key-number.ensures.same (rw w.from.ensures at w.if-from-run.false))
-        | in_default-via-in_default w ↦ no_run (λ o. entry_at o c.args.position ≡ None) refl runs c.args.run n keeps.3.valid.few c.key-number.ensures.same (no_row (run_at runs n) n c.args.position (rw w.in_default.is at there))
+        | in_default-via-in-Some+else-from-run w ↦ ap (λ o. entry_at o c.args.position) (past_run runs c.args.run n keeps.3.valid.few c.run_key-number.ensures.same (rw w.from.ensures at w.if-from-run.false))
+        | in_default-via-in_default w ↦ no_run (λ o. entry_at o c.args.position ≡ None) refl runs c.args.run n keeps.3.valid.few c.run_key-number.ensures.same (no_row (run_at runs n) n c.args.position (rw w.in_default.is at there))
       ],
     ))

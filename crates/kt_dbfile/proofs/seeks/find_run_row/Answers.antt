@@ -11,15 +11,15 @@ returns-then-not-branch-clause-refused g c runs has clean =
     let sound = c.in_ok-get.ensures.sound clean in
     let keeps = has first sound in
     let are = rows_of_runs runs _ keeps in
-    let n = c.key-number.result in
-    let id = to_z_pos w64 n (omega (arith, c.key-number.ensures.low)) in
+    let n = c.run_key-number.result in
+    let id = to_z_pos w64 n (omega (arith, c.run_key-number.ensures.low)) in
     inr (
       refl,
       elim c.then-not-branch.branch [
         | then-not-branch-via-then-not-branch w ↦
             let none = subst (λ (id : ℤ). Finds ((g.S.Store.view c.args.store.now).trees 2) id c.get.new.row false) id (rw w.if-not-branch.true at (c.in_ok-get.ensures.ok clean)) in
-            no_run (λ o. o ≡ None) refl runs c.args.run n keeps.3.valid.few c.key-number.ensures.same (there_is_none runs n _ c.get.new.row keeps.3.valid.numbered are none)
-        | then-not-branch-via-else-not-branch+then-from-run w ↦ past_run runs c.args.run n keeps.3.valid.few c.key-number.ensures.same (rw w.from.ensures at w.if-from-run.true)
+            no_run (λ o. o ≡ None) refl runs c.args.run n keeps.3.valid.few c.run_key-number.ensures.same (there_is_none runs n _ c.get.new.row keeps.3.valid.numbered are none)
+        | then-not-branch-via-else-not-branch+then-from-run w ↦ past_run runs c.args.run n keeps.3.valid.few c.run_key-number.ensures.same (rw w.from.ensures at w.if-from-run.true)
       ],
     )
 
@@ -29,7 +29,7 @@ returns-clause-found g c runs has clean =
     let sound = c.in_ok-get.ensures.sound clean in
     let keeps = has first sound in
     let are = rows_of_runs runs _ keeps in
-    let n = c.key-number.result in
-    let one = subst (λ (id : ℤ). Finds ((g.S.Store.view c.args.store.now).trees 2) id c.get.new.row true) (to_z_pos w64 n (omega (arith, c.key-number.ensures.low))) (rw c.if-not-branch.false at (c.in_ok-get.ensures.ok clean)) in
+    let n = c.run_key-number.result in
+    let one = subst (λ (id : ℤ). Finds ((g.S.Store.view c.args.store.now).trees 2) id c.get.new.row true) (to_z_pos w64 n (omega (arith, c.run_key-number.ensures.low))) (rw c.if-not-branch.false at (c.in_ok-get.ensures.ok clean)) in
     let found = there_is runs n _ c.get.new.row keeps.3.valid.numbered are one in
     (found.0, ap (run_at runs) (sym (sym c.from.ensures ∙ c.if-from-run.false)) ∙ found.1, found.2, keeps.3.valid)

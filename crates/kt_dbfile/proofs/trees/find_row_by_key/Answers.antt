@@ -15,8 +15,8 @@ sought g c clean =
     let early : IsClean (g.S.Store.view c.seek.new.self) = c.read_next_row.ensures.looks.clean clean in
     let order = g.met.S.Store.ordered c.args.store.now (c.in_ok-seek.ensures.sound early) in
     let table = c.args.table.now in
-    let index = c.have_shapes.ensures.index (search rules) in (
-      λ cs mine has. has (subst (λ s. IsShaped s (old.trees table.tree)) (c.have_shapes.ensures.table (search rules)) (order table.tree)) (subst (λ s. IsShaped s (old.trees table.index)) index (order table.index)),
+    let index = c.has_expected_shapes.ensures.index (search rules) in (
+      λ cs mine has. has (subst (λ s. IsShaped s (old.trees table.tree)) (c.has_expected_shapes.ensures.table (search rules)) (order table.tree)) (subst (λ s. IsShaped s (old.trees table.index)) index (order table.index)),
       ap (λ (v : View). left_of v 0) (c.in_ok-seek.ensures.ok early) ∙ ap (λ (s : Shape). from_key (order_of s) c.args.key.now (old.trees table.index)) index,
     )
 

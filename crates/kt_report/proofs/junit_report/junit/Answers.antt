@@ -1,5 +1,5 @@
 use Rattle.kt_report.proofs.Common.{junit_layout}
-use Rattle.kt_report.proofs.OwnDetails.{all_written, junit_extends, none_fails, some_written}
+use Rattle.kt_report.proofs.InlineDetails.{all_written, junit_extends, none_fails, some_written}
 use Rattle.kt_report.proofs.junit_report.junit.Goals as goal
 
 pub returns-in-Ok : goal.returns-in-Ok

@@ -5,14 +5,14 @@ use Rattle.kt_report.proofs.pairs.write_entry.Goals as goal
 pub returns-then-verbose : goal.returns-then-verbose
 returns-then-verbose g c =
     let on : c.args.verbose ≡ true = search rules in
-    line_read g.D.Details.reads_pairs c.args.verbose on c.write_verbose_entry.ensures
+    line_read g.D.DetailSource.reads_pairs c.args.verbose on c.write_verbose_entry.ensures
 
 pub returns-in-Ok : goal.returns-in-Ok
 returns-in-Ok g c =
     let off : c.args.verbose ≡ false = search rules in
-    line_shown g.D.Details.reads_pairs c.args.verbose off c.in-Ok.ensures
+    line_shown g.D.DetailSource.reads_pairs c.args.verbose off c.in-Ok.ensures
 
 pub returns-in-Err : goal.returns-in-Err
 returns-in-Err g c =
     let off : c.args.verbose ≡ false = search rules in
-    line_cut g.D.Details.reads_pairs c.args.verbose off c.in-Err.fault c.in-Err.ensures
+    line_cut g.D.DetailSource.reads_pairs c.args.verbose off c.in-Err.fault c.in-Err.ensures

@@ -10,17 +10,17 @@ use Rattle.kt_report.proofs.sections.write_section.Goals as goal
 
 pub returns-then-not-is_chosen : goal.returns-then-not-is_chosen
 returns-then-not-is_chosen g c =
-    let reads = reads_if_verbose c.args.verbose g.D.Details.reads_pairs in
+    let reads = reads_if_verbose c.args.verbose g.D.DetailSource.reads_pairs in
     let v = c.args.verbose in
     let other : c.is_chosen.result ≡ false = search rules in
     entries_as reads v (none_chosen c.args.kinds.now c.args.kind c.args.entries.now _ c.is_chosen.ensures other) (entries_none reads v)
 
 pub loop-entry-init : goal.loop-entry-init
-loop-entry-init g c = entries_none (reads_if_verbose c.args.verbose g.D.Details.reads_pairs) c.args.verbose
+loop-entry-init g c = entries_none (reads_if_verbose c.args.verbose g.D.DetailSource.reads_pairs) c.args.verbose
 
 pub returns-in_err-last : goal.returns-in_err-last
 returns-in_err-last g c =
-    let reads = reads_if_verbose c.args.verbose g.D.Details.reads_pairs in
+    let reads = reads_if_verbose c.args.verbose g.D.DetailSource.reads_pairs in
     let v = c.args.verbose in
     let kind = c.args.kind in
     let chosen : c.is_chosen.result ≡ true = search rules in
@@ -32,7 +32,7 @@ returns-in_err-last g c =
 
 pub loop-entry-preserved : goal.loop-entry-preserved
 loop-entry-preserved g c =
-    let reads = reads_if_verbose c.args.verbose g.D.Details.reads_pairs in
+    let reads = reads_if_verbose c.args.verbose g.D.DetailSource.reads_pairs in
     let v = c.args.verbose in
     let kind = c.args.kind in
     let items = c.args.entries.now in
@@ -52,7 +52,7 @@ loop-entry-preserved g c =
 
 pub returns : goal.returns
 returns g c =
-    let reads = reads_if_verbose c.args.verbose g.D.Details.reads_pairs in
+    let reads = reads_if_verbose c.args.verbose g.D.DetailSource.reads_pairs in
     let v = c.args.verbose in
     let kind = c.args.kind in
     let chosen : c.is_chosen.result ≡ true = search rules in

@@ -9,5 +9,5 @@ use Rattle.kt_report.proofs.sections.write_section.Given as goal
 -- The first entries of the kind were written.
 abbrev pub invariant-loop-entry : goal.invariant-loop-entry
 invariant-loop-entry g l =
-    WritesEntries (reads_if_verbose l.verbose g.D.Details.reads_pairs) l.fn.details (g.W.Write.contents l.fn.out) (g.W.Write.contents l.out) l.details {E = OutputFault} l.verbose l.fn.before
+    WritesEntries (reads_if_verbose l.verbose g.D.DetailSource.reads_pairs) l.fn.details (g.W.Write.contents l.fn.out) (g.W.Write.contents l.out) l.details {E = OutputFault} l.verbose l.fn.before
     (flat_map (if_of single l.kind) (take l.entry-index l.entries)) (Ok l.last)

@@ -7,11 +7,11 @@ use Rattle.kt_report.specs.Inner.Steps.{WritesEntries}
 use Rattle.kt_report.proofs.sections.write_sections.Goals as goal
 
 pub loop-kind-init : goal.loop-kind-init
-loop-kind-init g c = entries_none (reads_if_verbose c.args.verbose g.D.Details.reads_pairs) c.args.verbose
+loop-kind-init g c = entries_none (reads_if_verbose c.args.verbose g.D.DetailSource.reads_pairs) c.args.verbose
 
 pub returns-in_err-last : goal.returns-in_err-last
 returns-in_err-last g c =
-    let reads = reads_if_verbose c.args.verbose g.D.Details.reads_pairs in
+    let reads = reads_if_verbose c.args.verbose g.D.DetailSource.reads_pairs in
     let v = c.args.verbose in
     let due = chosen_entries c.args.kinds.now c.args.entries.now in
     let items = c.section_order-kind-items in
@@ -21,12 +21,12 @@ returns-in_err-last g c =
 
 pub loop-kind-preserved : goal.loop-kind-preserved
 loop-kind-preserved g c =
-    item_next (reads_if_verbose c.args.verbose g.D.Details.reads_pairs) c.args.verbose (chosen_entries c.args.kinds.now c.args.entries.now)
+    item_next (reads_if_verbose c.args.verbose g.D.DetailSource.reads_pairs) c.args.verbose (chosen_entries c.args.kinds.now c.args.entries.now)
     c.section_order-kind-items.result.now c.loop-kind.kind-index _ c.loop-kind-test.true c.loop-kind.invariant c.in_ok-last.ensures
 
 pub returns : goal.returns
 returns g c =
-    let reads = reads_if_verbose c.args.verbose g.D.Details.reads_pairs in
+    let reads = reads_if_verbose c.args.verbose g.D.DetailSource.reads_pairs in
     let v = c.args.verbose in
     let due = chosen_entries c.args.kinds.now c.args.entries.now in
     let items = c.section_order-kind-items in

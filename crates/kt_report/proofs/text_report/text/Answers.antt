@@ -1,5 +1,5 @@
 use Rattle.kt_report.proofs.Common.{shows_as, text_layout}
-use Rattle.kt_report.proofs.OwnDetails.{all_written, none_fails, own_pairs, some_written, text_extends, text_is}
+use Rattle.kt_report.proofs.InlineDetails.{all_written, none_fails, own_pairs, some_written, text_extends, text_is}
 use Rattle.kt_report.proofs.text_report.text.Goals as goal
 
 pub returns-in-Ok : goal.returns-in-Ok

@@ -17,7 +17,7 @@ returns-in_err-commit-clause-refused g c runs has =
       crash,
       λ clean. failed,
       λ opened. either_left (state g.S.Store c.args.conn.now) (state g.S.Store c.commit.new.conn) runs crash
-          (leaves_held g.S.Store c.args.conn.now (λ db opened may. g.met.S.Store.settled c.args.conn.now.store db opened may) (λ db. IsSchema1Database db runs) c.lives.ensures has opened),
+          (leaves_held g.S.Store c.args.conn.now (λ db opened may. g.met.S.Store.settled c.args.conn.now.store db opened may) (λ db. IsSchema1Database db runs) c.theorem_of_valid_contents.ensures has opened),
     ))
 
 pub returns-clause-taken : goal.returns-clause-taken

@@ -14,8 +14,8 @@ there (Some r) p e is = is
 pub returns-in_err-entry-clause-looked : goal.returns-in_err-entry-clause-looked
 returns-in_err-entry-clause-looked g c = looked-then c.loop-row.invariant.0 c.read_entry.ensures.looked
 
-pub returns-in_err-add-clause-looked : goal.returns-in_err-add-clause-looked
-returns-in_err-add-clause-looked g c = looked-then c.loop-row.invariant.0 c.read_entry.ensures.looked
+pub returns-in_err-push_item-clause-looked : goal.returns-in_err-push_item-clause-looked
+returns-in_err-push_item-clause-looked g c = looked-then c.loop-row.invariant.0 c.read_entry.ensures.looked
 
 pub loop-row-preserved : goal.loop-row-preserved
 loop-row-preserved g c = (
@@ -25,7 +25,7 @@ loop-row-preserved g c = (
       let i = c.loop-row.row-index in
       let o = run_at runs c.args.run in
       let es = entries_of o in
-      let pushed : c.add.new.items.items ≡ c.loop-row.entries.items ++ c.in_ok-entry.entry ∷ [] = search rules in
+      let pushed : c.push_item.new.items.items ≡ c.loop-row.entries.items ++ c.in_ok-entry.entry ∷ [] = search rules in
       let low : i < length es = omega (arith, c.loop-row-test.true, ap length are, length-map es whole_columns) in
       let own = are_own es (up_of runs c.args.run valid) (sound_of runs c.args.run valid) in
       let it = one_more (IsOwn es) whole_columns (λ e. e) es i c.row-item.result own low (subst (λ l. c.row-item.result ≡ get_or l i c.row-item.result) are c.row-item.is) in

@@ -11,4 +11,4 @@ returns c e more sound is =
     let verdict : c.from_kind.result ≡ e.verdict = c.from_kind.ensures (λ passed. reason ∙ sound.passed (sym kind ∙ passed)) ∙ rw (kind, reason) refl in
     let started : c.in_ok-started.started ≡ e.started = let q : Int (pos c.in_ok-started.started) ≡ Int (pos e.started) = sym c.in_ok-started.ensures.value ∙ ap (λ l. column l 5) is in cc in
     let millis : c.in_ok-millis.millis ≡ e.millis = let q : Int (pos c.in_ok-millis.millis) ≡ Int (pos e.millis) = sym c.in_ok-millis.ensures.value ∙ ap (λ l. column l 6) is in cc in
-    rw (position, program, case_name, verdict, started, millis, c.no_output.ensures, c.no_output-2.ensures, c.new.ensures) refl
+    rw (position, program, case_name, verdict, started, millis, c.empty_output.ensures, c.empty_output-2.ensures, c.new.ensures) refl

@@ -13,7 +13,7 @@ crash : (g : Over) (c : After-execute g) → MayChange g.S.Store c.args.conn.now
 crash g c runs has room =
     survives_weaker (state g.S.Store c.args.conn.now) (state g.S.Store c.execute.new.conn) _ (IsSchema2Of (runs ++ new_run runs c.args.total c.args.moment ∷ []))
     (crash_begin g.S.Store c.args.conn.now c.execute.new.conn runs c.args.total c.args.moment has room (omega (arith, c.ranges.total.fits)) (λ k. omega (arith, k, c.execute.ensures.survives.clean)))
-    (rw (c.int.ensures, c.int-2.ensures, c.from.ensures) at c.execute.ensures.survives)
+    (rw (c.int_value.ensures, c.int_value-2.ensures, c.from.ensures) at c.execute.ensures.survives)
 
 -- after the INSERT, the tables represent the runs with the new run appended, and the last rowid is
 -- its number
@@ -21,7 +21,7 @@ begun : (g : Over) (c : In_ok-execute g) (runs : List Run) → StandsFor (state 
     → IsSettledWithRuns (state g.S.Store c.execute.new.conn) (runs ++ new_run runs c.args.total c.args.moment ∷ []) × ((state g.S.Store c.execute.new.conn).last_rowid ≡ pos (suc (length runs))) × IsTrue (state g.S.Store c.execute.new.conn).is_open × IsDatabase (state g.S.Store c.execute.new.conn).now
 begun g c runs has room clean =
     executed_begin g.S.Store c.args.conn.now c.execute.new.conn runs c.args.total c.args.moment has room (omega (arith, c.ranges.total.fits)) (λ k. omega (arith, k, c.execute.ensures.survives.clean)) clean
-    (rw (c.int.ensures, c.int-2.ensures, c.from.ensures) at (c.in_ok-execute.ensures.executed clean))
+    (rw (c.int_value.ensures, c.int_value-2.ensures, c.from.ensures) at (c.in_ok-execute.ensures.executed clean))
 
 pub returns-in_err-execute-clause-crash : goal.returns-in_err-execute-clause-crash
 returns-in_err-execute-clause-crash g c = crash g (goal.at.returns-in_err-execute-clause-crash g c).After-execute

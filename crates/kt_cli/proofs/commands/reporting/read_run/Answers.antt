@@ -11,8 +11,8 @@ returns-in-Err g c =
 
 pub returns-in_default : goal.returns-in_default
 returns-in_default g c =
-    reads_missing g.R.StoreSpec c.args.number _ _ _ c.find_missing_cause.result
-    (stored_call g.R.StoreSpec (Head c.args.number (Ok None)) _ _ (rw c.in_default.is at c.in-Ok.ensures.served)) c.find_missing_cause.ensures
+    reads_missing g.R.StoreSpec c.args.number _ _ _ c.missing_run_error.result
+    (stored_call g.R.StoreSpec (Head c.args.number (Ok None)) _ _ (rw c.in_default.is at c.in-Ok.ensures.served)) c.missing_run_error.ensures
 
 pub returns-in-Ok-outline : goal.returns-in-Ok-outline
 returns-in-Ok-outline g c =

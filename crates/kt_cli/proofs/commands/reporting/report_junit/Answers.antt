@@ -7,7 +7,7 @@ use Rattle.kt_cli.proofs.commands.reporting.report_junit.Goals as goal
 pub returns-in-Err : goal.returns-in-Err
 returns-in-Err g c =
     did_not_show g.R.StoreSpec c.args.number _ _ _ _ _ (JunitCompletes c.args.number) c.in-Err.why _ not_shown
-    c.in-Err.ensures c.write_report_error.ensures c.exit_after.ensures
+    c.in-Err.ensures c.write_report_error.ensures c.exit_after_write.ensures
 
 pub returns-in-Ok-write_junit : goal.returns-in-Ok-write_junit
 returns-in-Ok-write_junit g c =
@@ -16,7 +16,7 @@ returns-in-Ok-write_junit g c =
 pub returns-in-Err-Details : goal.returns-in-Err-Details
 returns-in-Err-Details g c =
     did_refuse g.R.StoreSpec c.args.number _ _ _ _ _ _ _ c.in-Ok.run' _ _ c.in-Err-Details.fault c.in-Ok.ensures.stored c.in-Ok.ensures.finds
-    (rw c.in-Err-Details.field-0-is at c.in-Err-Details.ensures) c.write_store_error.ensures c.exit_after-in-Err-Details.ensures
+    (rw c.in-Err-Details.field-0-is at c.in-Err-Details.ensures) c.write_store_error.ensures c.exit_after_write-in-Err-Details.ensures
 
 pub returns-in-Err-Report-Output : goal.returns-in-Err-Report-Output
 returns-in-Err-Report-Output g c =
@@ -26,4 +26,4 @@ returns-in-Err-Report-Output g c =
 pub returns : goal.returns
 returns g c =
     did_cut g.R.StoreSpec c.args.number _ _ _ _ _ _ _ c.in-Ok.run' _ _ _ c.in-Ok.ensures.stored c.in-Ok.ensures.finds
-    (rw c.in-Err-Report-NoMemory.field-0-is at c.in-Err-Report-NoMemory.ensures) c.write_memory_error.ensures c.exit_after-in-Err-Report-NoMemory.ensures
+    (rw c.in-Err-Report-NoMemory.field-0-is at c.in-Err-Report-NoMemory.ensures) c.write_memory_error.ensures c.exit_after_write-in-Err-Report-NoMemory.ensures

@@ -7,7 +7,7 @@ use Rattle.kt_cli.proofs.commands.testing.run_plan.Goals as goal
 pub returns-in-Err-clause-ran : goal.returns-in-Err-clause-ran
 returns-in-Err-clause-ran g c =
     ran_unbegun g.L.Launcher g.R.StoreSpec _ _ _ _ _ _ _ _ (search rules)
-    (stored_call g.R.StoreSpec (Began _ c.args.planned.moment (Err c.in-Err.fault)) _ _ c.in-Err.ensures) c.write_store_error.ensures c.exit_after.ensures
+    (stored_call g.R.StoreSpec (Began _ c.args.planned.moment (Err c.in-Err.fault)) _ _ c.in-Err.ensures) c.write_store_error.ensures c.exit_after_write.ensures
 
 pub returns-in-Err-answer-clause-ran : goal.returns-in-Err-answer-clause-ran
 returns-in-Err-answer-clause-ran g c =
@@ -15,7 +15,7 @@ returns-in-Err-answer-clause-ran g c =
     let r = rw (c.parallelism-width.ensures.value) at c.record_cases-answer.ensures.records in
     ran_failed g.L.Launcher g.R.StoreSpec _ _ _ _ _ _ _ _ _ _ _ _ (search rules)
     (stored_call g.R.StoreSpec (Began _ c.args.planned.moment (Ok c.in-Ok.number)) _ _ c.in-Ok.ensures)
-    _ r c.in-Err-answer.fault a c.write_run_fault.ensures c.exit_after-in-Err-answer.ensures
+    _ r c.in-Err-answer.fault a c.write_run_fault.ensures c.exit_after_write-in-Err-answer.ensures
 
 pub returns-in-Err-finish-clause-ran : goal.returns-in-Err-finish-clause-ran
 returns-in-Err-finish-clause-ran g c =
@@ -24,7 +24,7 @@ returns-in-Err-finish-clause-ran g c =
     ran_unfinished g.L.Launcher g.R.StoreSpec _ _ _ _ _ _ _ _ _ _ _ _ (search rules)
     (stored_call g.R.StoreSpec (Began _ c.args.planned.moment (Ok c.in-Ok.number)) _ _ c.in-Ok.ensures)
     _ r _ c.in-Ok-answer.totals a c.in-Err-finish.fault
-    (stored_call g.R.StoreSpec (Finished c.in-Ok.number (Err c.in-Err-finish.fault)) _ _ c.in-Err-finish.ensures) _ c.sink_fault.ensures c.write_run_fault-in-Err-finish.ensures c.exit_after-in-Err-finish.ensures
+    (stored_call g.R.StoreSpec (Finished c.in-Ok.number (Err c.in-Err-finish.fault)) _ _ c.in-Err-finish.ensures) _ c.convert_store_fault.ensures c.write_run_fault-in-Err-finish.ensures c.exit_after_write-in-Err-finish.ensures
 
 pub returns-in-Ok-finish-clause-ran : goal.returns-in-Ok-finish-clause-ran
 returns-in-Ok-finish-clause-ran g c =
@@ -33,4 +33,4 @@ returns-in-Ok-finish-clause-ran g c =
     ran_all g.L.Launcher g.R.StoreSpec _ _ _ _ _ _ _ _ _ _ _ _ (search rules)
     (stored_call g.R.StoreSpec (Began _ c.args.planned.moment (Ok c.in-Ok.number)) _ _ c.in-Ok.ensures)
     _ r _ c.in-Ok-answer.totals a _
-    (stored_call g.R.StoreSpec (Finished c.in-Ok.number (Ok tt)) _ _ c.in-Ok-finish.ensures) c.write_ending-all.ensures c.status_of.ensures c.exit_after-in-Ok-finish.ensures
+    (stored_call g.R.StoreSpec (Finished c.in-Ok.number (Ok tt)) _ _ c.in-Ok-finish.ensures) c.write_totals_and_warnings-all.ensures c.exit_status.ensures c.exit_after_write-in-Ok-finish.ensures

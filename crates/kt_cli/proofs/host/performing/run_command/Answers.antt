@@ -9,8 +9,8 @@ returns g c = rw c.in-Ok.is (
   given_bytes g.W.Write.contents c.match-results.out,
   c.match-results.outside.0.status,
   elim c.match-results.branch [
-    | in-Some w ↦ rw (← w.in-Some.ensures, w.platform-is, w.out-is, w.outside-is) w.perform_in_file.ensures
-    | in-None w ↦ rw (← w.in-None.ensures, w.platform-is, w.out-is, w.outside-is) (no_file w.perform_over.ensures)
+    | in-Some w ↦ rw (← w.in-Some.ensures, w.platform-is, w.out-is, w.outside-is) w.execute_in_file.ensures
+    | in-None w ↦ rw (← w.in-None.ensures, w.platform-is, w.out-is, w.outside-is) (no_file w.execute_over_store.ensures)
   ],
   c.finish.ensures,
   refl,

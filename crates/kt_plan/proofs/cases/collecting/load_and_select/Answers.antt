@@ -22,7 +22,7 @@ returns-in_err-found-clause-collected g c =
 
 pub returns-clause-collected : goal.returns-clause-collected
 returns-clause-collected g c =
-    all_chosen g.W.Tree.asks g.W.World.replies c.args.settings.now c.args.kyuafile.now c.args.world.now c.load_programs.new.tree c.in-Ok.programs c.list_all_cases.new.world c.in-Ok.ensures.loaded c.as_slice.result.now c.as_slice-2.result.now c.in_ok-found.found c.as_slice.ensures c.as_slice-2.ensures c.in_ok-found.ensures.offers c.choose.result c.choose.ensures.chosen c.choose.ensures.few c.choose.ensures.stopped
+    all_chosen g.W.Tree.asks g.W.World.replies c.args.settings.now c.args.kyuafile.now c.args.world.now c.load_programs.new.tree c.in-Ok.programs c.list_all_cases.new.world c.in-Ok.ensures.loaded c.as_slice.result.now c.as_slice-2.result.now c.in_ok-found.found c.as_slice.ensures c.as_slice-2.ensures c.in_ok-found.ensures.offers c.select_candidates.result c.select_candidates.ensures.chosen c.select_candidates.ensures.few c.select_candidates.ensures.stopped
 
 pub returns-clause-few : goal.returns-clause-few
-returns-clause-few g c = few_chosen c.as_slice-2.result.now c.in_ok-found.found c.choose.result c.choose.ensures.chosen c.choose.ensures.few
+returns-clause-few g c = few_chosen c.as_slice-2.result.now c.in_ok-found.found c.select_candidates.result c.select_candidates.ensures.chosen c.select_candidates.ensures.few

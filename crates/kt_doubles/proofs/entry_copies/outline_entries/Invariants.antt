@@ -1,7 +1,0 @@
-use Rattle.std.proofs.Common.{map, ◌≡◌, ◌++◌, drop}
-use Rattle.kt_doubles.proofs.Common.{outline_entry}
-use Rattle.kt_doubles.proofs.entry_copies.outline_entries.Given as goal
-
--- the copies of all entries are those made so far, followed by those of the remaining entries
-abbrev pub invariant-loop-entry : goal.invariant-loop-entry
-invariant-loop-entry l = map outline_entry l.entries ≡ l.entry_copies.items ++ map outline_entry (drop l.entry-index l.entries)
