@@ -19,8 +19,8 @@ pub use Rattle.kt_atflist.specs.Cases.{AreCases, list_case, listed, main_case, o
 pub use Rattle.kt_atflist.specs.Inner.Keys.{characters, name_of, names_of}
 pub use Rattle.kt_atflist.specs.Inner.Reading.{first_line_step, cases_with_block, later_line_step, property_line_step, result_after_step, case_name_in, initial_state, read_blocks, read_rest, read_lines, read_list, read_from_line_2, set_property, step_from}
 pub use Rattle.kt_atflist.specs.Listings.{IsParsedList, IsListingResult, list_failure_reason, fault_phrase, no_list, read, too_long, unreadable, unstarted}
-pub use Rattle.kt_atflist.specs.Read.{Read}
-pub use Rattle.kt_atflist.specs.Spelling.{IsFaultyLine, HasFirstFault, IsNextState, IsResult, IsFault, IsList, IsOutOfMemory, IsResultOrOutOfMemory, Outcome, IsBlockSequence, begins, ends, fault_at, first, first_line_causes, is_first_line_cause, is_later_line_cause, further, later_line_causes, gives, header, here, in_blocks, last_block, later, line, list, no_block, no_first, no_second, no_third, other_first, other_second}
+pub use Rattle.kt_atflist.specs.ReaderState.{ReaderState}
+pub use Rattle.kt_atflist.specs.CaseList.{IsFaultyLine, HasFirstFault, IsNextState, IsResult, IsFault, IsList, IsOutOfMemory, IsResultOrOutOfMemory, ParseResult, IsBlockSequence, begins, ends, fault_at, first, first_line_causes, is_first_line_cause, is_later_line_cause, further, later_line_causes, gives, header, here, in_blocks, last_block, later, line, list, no_block, no_first, no_second, no_third, other_first, other_second}
 pub use Rattle.kt_atflist.specs.declared.listing.CaseDef.{CaseDef}
 pub use Rattle.kt_atflist.specs.declared.list_fault.ListCause.TheVariants.{BadHeader, BadLine, BadValue, NoIdent, NotUtf8, RepeatedIdent, RepeatedKey, UnknownKey}
 pub use Rattle.kt_atflist.specs.declared.list_fault.ListFault.{ListFault}

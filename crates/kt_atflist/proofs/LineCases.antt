@@ -1,6 +1,6 @@
 -- A line has a next state or a fault.
 use Rattle.std.proofs.Common.{codes, bytes_eq, ◌≡◌, ℕ, Bool, true, false, List, [], ◌∷◌, ◌++◌, Option, Some, None, refl, ap, sym, subst, ◌∙◌}
-use Rattle.kt_atflist.proofs.Common.{find, is_empty, line_ident, is_case_name, line_key, line_value, is_listed, has_property, empty_case, with_property, is_valid_property, first_line_step, case_name_in, set_property, later_line_step, property_line_step, step_from, IsNextState, begins, gives, ends, is_first_line_cause, is_later_line_cause, first_line_causes, later_line_causes, IsFaultyLine, first, further, BadLine, NoIdent, RepeatedKey, RepeatedIdent, UnknownKey, BadValue, CaseDef, Read, ListStep, NextState, FaultyLine}
+use Rattle.kt_atflist.proofs.Common.{find, is_empty, line_ident, is_case_name, line_key, line_value, is_listed, has_property, empty_case, with_property, is_valid_property, first_line_step, case_name_in, set_property, later_line_step, property_line_step, step_from, IsNextState, begins, gives, ends, is_first_line_cause, is_later_line_cause, first_line_causes, later_line_causes, IsFaultyLine, first, further, BadLine, NoIdent, RepeatedKey, RepeatedIdent, UnknownKey, BadValue, CaseDef, ReaderState, ListStep, NextState, FaultyLine}
 use Rattle.kt_base.specs.Lossy.{lossy}
 use Rattle.kt_metadata.specs.ListKeys.{name_of_key}
 
@@ -118,7 +118,7 @@ led_by cases (Some block) line = further_led cases block line (is_empty line) (l
 -- ---- the specified next state is unique
 
 -- `step_from` of a valid line gives its specified next state.
-pub step_goes : (cases : List CaseDef) (block : Option CaseDef) (line : List ℕ) (next : Read) → IsNextState cases line block next → step_from cases block line ≡ NextState next
+pub step_goes : (cases : List CaseDef) (block : Option CaseDef) (line : List ℕ) (next : ReaderState) → IsNextState cases line block next → step_from cases block line ≡ NextState next
 step_goes cases None line next (begins name e f g) = ap (λ (o : Option (List ℕ)). first_line_step cases (case_name_in o)) e ∙ rw (f, g) refl
 step_goes cases (Some block) line next (gives _ value property e v k w p g h) =
     let s : property_line_step cases (set_property block (Some property) (lossy value)) ≡ NextState (record { cases = cases; block = Some (with_property block property (lossy value)) }) = rw (g, h) refl in

@@ -1,6 +1,6 @@
 -- A listing has at most one result, and a program at most one list of cases.
 use Rattle.std.proofs.Common.{Result, Ok, Err, ◌≡◌, ℕ, List, [], ◌∷◌, Option, Some, None, map, refl, ap, sym, ◌∙◌}
-use Rattle.kt_atflist.proofs.Common.{Interface, NoMemory, Phrase, Reason, Counted, Variable, overlaid_case, list_case, AreCases, tap, plain, listed, unlisted, fault_phrase, list_failure_reason, IsParsedList, no_list, IsListingResult, unstarted, unreadable, too_long, read, Outcome, CaseDef, ListFault, Listing}
+use Rattle.kt_atflist.proofs.Common.{Interface, NoMemory, Phrase, Reason, Counted, Variable, overlaid_case, list_case, AreCases, tap, plain, listed, unlisted, fault_phrase, list_failure_reason, IsParsedList, no_list, IsListingResult, unstarted, unreadable, too_long, read, ParseResult, CaseDef, ListFault, Listing}
 use Rattle.kt_atflist.specs.Listings.{listed as read_list, unlisted as unread}
 use Rattle.kt_atflist.proofs.Lists.{one_answer}
 
@@ -9,12 +9,12 @@ abbrev Found : Type 0
 Found = Result (List CaseDef) Reason
 
 -- `fault_in result other`: the fault in `result`, or the fault `other` if `result` has cases.
-abbrev fault_in : Outcome → ListFault → ListFault
+abbrev fault_in : ParseResult → ListFault → ListFault
 fault_in (Ok cases) other = other
 fault_in (Err fault) other = fault
 
 -- `cases_in result other`: the cases in `result`, or the cases `other` if `result` is a fault.
-abbrev cases_in : Outcome → List CaseDef → List CaseDef
+abbrev cases_in : ParseResult → List CaseDef → List CaseDef
 cases_in (Ok cases) other = cases
 cases_in (Err fault) other = other
 
@@ -29,10 +29,10 @@ same_fault text f g p q e h i =
     ap (λ (x : Phrase). Err (Counted x f.line 0)) same ∙ ap (λ (x : ListFault). Err (Counted q x.line 0)) e
 
 read_once : (text : List ℕ) (a b : Found) → IsParsedList text a → IsParsedList text b → a ≡ b
-read_once text a b (no_list f p d h) (no_list g q e i) = same_fault text f g p q (ap (λ (o : Outcome). fault_in o f) (one_answer text (Err f) (Err g) d e)) h i
+read_once text a b (no_list f p d h) (no_list g q e i) = same_fault text f g p q (ap (λ (o : ParseResult). fault_in o f) (one_answer text (Err f) (Err g) d e)) h i
 read_once text a b (no_list f p d h) (read_list cases s) = let z = one_answer text (Err f) (Ok cases) d s in absurd (cc)
 read_once text a b (read_list cases s) (no_list g q e i) = let z = one_answer text (Ok cases) (Err g) s e in absurd (cc)
-read_once text a b (read_list cases s) (read_list others t) = ap (λ (o : Outcome). Ok (cases_in o cases)) (one_answer text (Ok cases) (Ok others) s t)
+read_once text a b (read_list cases s) (read_list others t) = ap (λ (o : ParseResult). Ok (cases_in o cases)) (one_answer text (Ok cases) (Ok others) s t)
 
 -- `reason_in reason other`: the optional reason `reason`, or the reason `other` if it is absent.
 abbrev reason_in : Option Reason → Reason → Reason

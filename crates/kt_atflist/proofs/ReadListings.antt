@@ -1,6 +1,6 @@
 -- Results of the bytes of a listing.
 use Rattle.std.proofs.Common.{Result, Ok, Err, ◌≡◌, ◌⊎◌, ℕ, List, Some, None, ap, sym, subst, ◌∙◌, inl, inr}
-use Rattle.kt_atflist.proofs.Common.{Phrase, Reason, Fixed, Counted, list_failure_reason, fault_phrase, IsParsedList, no_list, IsListingResult, unstarted, unreadable, too_long, read, Outcome, IsOutOfMemory, fault_at, IsResult, Listing, NoMemory, ListFault, CaseDef}
+use Rattle.kt_atflist.proofs.Common.{Phrase, Reason, Fixed, Counted, list_failure_reason, fault_phrase, IsParsedList, no_list, IsListingResult, unstarted, unreadable, too_long, read, ParseResult, IsOutOfMemory, fault_at, IsResult, Listing, NoMemory, ListFault, CaseDef}
 use Rattle.kt_base.specs.declared.child.Outcome.{Outcome as Ending}
 use Rattle.kt_base.specs.declared.phrase.Phrase.TheVariants.{ListUnreadable, ListTooLong}
 use Rattle.kt_base.specs.declared.failed_start.Refused.{Refused}
@@ -17,7 +17,7 @@ pub cases_read : (slice text : List ℕ) (cases : List CaseDef) → slice ≡ te
 cases_read slice text cases e (inl (refusal, n)) = absurd (cc)
 cases_read slice text cases e (inr a) = listed cases (subst (λ (t : List ℕ). IsResult t (Ok cases)) e a)
 
-fault_in : Outcome → ListFault → ListFault
+fault_in : ParseResult → ListFault → ListFault
 fault_in (Ok cases) d = d
 fault_in (Err fault) d = fault
 
@@ -25,7 +25,7 @@ pub fault_read : (slice text : List ℕ) (fault : ListFault) (phrase : Phrase) �
     → Ok phrase ≡ fault_phrase fault.cause → IsParsedList text (Err (Counted phrase fault.line 0))
 unfolding fault_in
 fault_read slice text fault phrase e (inl (refusal, n)) p =
-    let same : fault ≡ fault_at (cause.NoMemory refusal) 0 = ap (λ (o : Outcome). fault_in o fault) n in
+    let same : fault ≡ fault_at (cause.NoMemory refusal) 0 = ap (λ (o : ParseResult). fault_in o fault) n in
     let z : ◌≡◌ {A = Result Phrase NoMemory} (Ok phrase) (Err refusal) = p ∙ ap (λ (f : ListFault). fault_phrase f.cause) same in
     absurd (cc)
 fault_read slice text fault phrase e (inr a) p = no_list fault phrase (subst (λ (t : List ℕ). IsResult t (Err fault)) e a) (sym p)

@@ -9,7 +9,7 @@ pub use Rattle.kt_atflist.specs.Cases.{AreCases, list_case, main_case, overlaid_
 pub use Rattle.kt_atflist.specs.Inner.Keys.{names_of}
 pub use Rattle.kt_atflist.specs.Inner.Reading.{begin_block, first_line_step, change_result, cases_with_block, cases_at_end, later_line_step, property_line_step, case_name_in, initial_state, read_blocks, read_rest, read_lines, read_from_line_2, set_key, set_from_line, set_property, step_of}
 pub use Rattle.kt_atflist.specs.Listings.{IsParsedList, IsListingResult, list_failure_reason, fault_phrase}
-pub use Rattle.kt_atflist.specs.Spelling.{IsResult, IsOutOfMemory, IsResultOrOutOfMemory}
+pub use Rattle.kt_atflist.specs.CaseList.{IsResult, IsOutOfMemory, IsResultOrOutOfMemory}
 pub use Rattle.kt_atflist.specs.declared.listing.CaseDef.{CaseDef}
 pub use Rattle.kt_atflist.specs.declared.list_fault.ListFault.{ListFault}
 pub use Rattle.kt_atflist.specs.declared.listing.Listing.{Listing}

@@ -4,5 +4,5 @@ pub mod Blocks
 pub mod Cases
 pub mod Inner
 pub mod Listings
-pub mod Read
-pub mod Spelling
+pub mod ReaderState
+pub mod CaseList

@@ -18,7 +18,7 @@ use Rattle.kt_atflist.specs.declared.list_fault.ListFault.{ListFault}
 use Rattle.kt_atflist.specs.declared.listing.CaseDef.{CaseDef}
 use Rattle.kt_atflist.specs.declared.listing.Listing.{Listing}
 use Rattle.kt_atflist.specs.declared.listing.Listing.TheVariants as listing
-use Rattle.kt_atflist.specs.Spelling.{IsListText, HasFault}
+use Rattle.kt_atflist.specs.CaseList.{IsListText, HasFault}
 
 -- `list_failure_reason outcome`: the reason why a program that ended with the outcome `outcome` did
 -- not list its cases, or nothing if it exited with 0.

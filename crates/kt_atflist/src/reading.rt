@@ -10,7 +10,7 @@ use std::marker::Model;
 
 /// A state of the reader of a list of test cases, between two lines of the list.
 ///
-/// In contracts, a `ListReader` is the record `Read`: the cases of the finished blocks, and the
+/// In contracts, a `ListReader` is the record `ReaderState`: the cases of the finished blocks, and the
 /// block that has begun, if any.
 #[derive(Drop)]
 pub struct ListReader {
@@ -25,9 +25,9 @@ pub struct ListReader {
 impl Model for ListReader {
     ghost use Rattle.std.specs.Prelude.{◌≡◌};
     ghost use Rattle.kt_atflist.specs.Inner.Keys.{names_of};
-    ghost use Rattle.kt_atflist.specs.Read.{Read};
+    ghost use Rattle.kt_atflist.specs.ReaderState.{ReaderState};
 
-    ghost Value = { Read };
+    ghost Value = { ReaderState };
 
     ghost view = { λ r. record { cases = r.cases; block = r.block } };
 

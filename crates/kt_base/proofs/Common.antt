@@ -16,8 +16,8 @@ pub use Rattle.std.specs.String.{string_bytes}
 pub use Rattle.kt_base.specs.Digits.{decimal_from, number_up_to}
 pub use Rattle.kt_base.specs.Inner.ReasonParts.{number_text}
 pub use Rattle.kt_base.specs.LastValues.{Replaces, is_named, last_values, value_of, pairs_without}
-pub use Rattle.kt_base.specs.Lossy.{decoded_character, front, further, lossy}
-unfoldable pub use Rattle.kt_base.specs.Lossy.{first, lossy_from}
+pub use Rattle.kt_base.specs.Lossy.{decoded_character, utf8_prefix, continuation_length, lossy}
+unfoldable pub use Rattle.kt_base.specs.Lossy.{leading_character, lossy_from}
 pub use Rattle.kt_base.specs.Phrases.{phrase_text}
 pub use Rattle.kt_base.specs.Emits.{AppendsText, Emits, joined, joined_after}
 pub use Rattle.kt_base.specs.Texts.{after, before, is_empty}

@@ -1,19 +1,19 @@
 -- Lossy decoding: the characters at the beginning of bytes, and a byte where no character begins.
 use Rattle.std.proofs.Common.{◌≡◌, ℕ, zero, suc, ◌+◌, ◌-◌, ◌<◌, ◌≤◌, Bool, true, false, List, [], ◌∷◌, ◌++◌, length, take, drop, get_or, Some, None, Option, refl, ap, ◌∙◌, sym, subst, append_assoc, length-append, take-append-drop, drop-cons, add-one, arith, nat_le, ◌==◌, encode_utf8, encode_utf8_all}
-use Rattle.kt_base.proofs.Common.{IsScalar, IsUtf8, IsValidUpTo, is_utf8, chars, append-nil, length-take-le, le-leb, leb-true, eqb-true, false_from_ne_true, and_parts, IsUtf8-from_is_utf8, is_utf8-from_IsUtf8, IsUtf8-encode, IsUtf8-append, chars-encodes, chars_from_encodes, encode_same, len_utf8_bounds, length-encode, front, first, decoded_character, further, lossy_from, lossy}
+use Rattle.kt_base.proofs.Common.{IsScalar, IsUtf8, IsValidUpTo, is_utf8, chars, append-nil, length-take-le, le-leb, leb-true, eqb-true, false_from_ne_true, and_parts, IsUtf8-from_is_utf8, is_utf8-from_IsUtf8, IsUtf8-encode, IsUtf8-append, chars-encodes, chars_from_encodes, encode_same, len_utf8_bounds, length-encode, utf8_prefix, leading_character, decoded_character, continuation_length, lossy_from, lossy}
 use Rattle.std.proofs.Math.Utf8.{scalars}
 use Rattle.std.proofs.Math.Seq.{drop-append_seam, take-append_seam, take-add}
 
--- `front bytes n` is nothing if `bytes` has fewer than `n` bytes, or if its first `n` bytes are not
+-- `utf8_prefix bytes n` is nothing if `bytes` has fewer than `n` bytes, or if its first `n` bytes are not
 -- UTF-8
-front_none : (n : ℕ) (bytes : List ℕ) → (n ≤ length bytes → IsUtf8 (take n bytes) → ⊥) → front bytes n ≡ None
+front_none : (n : ℕ) (bytes : List ℕ) → (n ≤ length bytes → IsUtf8 (take n bytes) → ⊥) → utf8_prefix bytes n ≡ None
 front_none n bytes bad = by_length (nat_le n (length bytes)) refl
   where
-    by_length : (b : Bool) → nat_le n (length bytes) ≡ b → front bytes n ≡ None
+    by_length : (b : Bool) → nat_le n (length bytes) ≡ b → utf8_prefix bytes n ≡ None
     by_length false e = rw e refl
     by_length true e = rw (e, false_from_ne_true (is_utf8 (take n bytes)) (λ u. bad (leb-true n (length bytes) e) (IsUtf8-from_is_utf8 (take n bytes) u))) refl
 
-front_some : (s rest : List ℕ) → IsUtf8 s → front (s ++ rest) (length s) ≡ Some s
+front_some : (s rest : List ℕ) → IsUtf8 s → utf8_prefix (s ++ rest) (length s) ≡ Some s
 front_some s rest u =
     let there : nat_le (length s) (length (s ++ rest)) ≡ true = le-leb _ _ (omega (arith, length-append s rest)) in
     rw (take-append_seam s rest, there, is_utf8-from_IsUtf8 s u) refl
@@ -37,9 +37,9 @@ no_less c n rest some less u = by_text u.0 u.1.1
         let z = ap length e ∙ long in
         omega (arith, z, same, less, length-append (encode_utf8 d) (encode_utf8_all ds))
 
--- `first` is the shortest prefix of 1 to 4 bytes that is UTF-8
-least : (k : ℕ) (bytes s : List ℕ) → front bytes k ≡ Some s → ((n : ℕ) → 0 < n → n < k → front bytes n ≡ None) → 0 < k → k ≤ 4 → first bytes ≡ Some s
-unfolding first
+-- `leading_character` is the shortest prefix of 1 to 4 bytes that is UTF-8
+least : (k : ℕ) (bytes s : List ℕ) → utf8_prefix bytes k ≡ Some s → ((n : ℕ) → 0 < n → n < k → utf8_prefix bytes n ≡ None) → 0 < k → k ≤ 4 → leading_character bytes ≡ Some s
+unfolding leading_character
 least zero bytes s at below some few = absurd (omega (arith, some))
 least (suc zero) bytes s at below some few = rw at refl
 least (suc (suc zero)) bytes s at below some few = rw (below 1 (omega arith) (omega arith), at) refl
@@ -47,7 +47,7 @@ least (suc (suc (suc zero))) bytes s at below some few = rw (below 1 (omega arit
 least (suc (suc (suc (suc zero)))) bytes s at below some few = rw (below 1 (omega arith) (omega arith), below 2 (omega arith) (omega arith), below 3 (omega arith) (omega arith), at) refl
 least (suc (suc (suc (suc (suc k))))) bytes s at below some few = absurd (omega (arith, few))
 
-first_character : (c : ℕ) (rest : List ℕ) → IsScalar c → first (encode_utf8 c ++ rest) ≡ Some (encode_utf8 c)
+first_character : (c : ℕ) (rest : List ℕ) → IsScalar c → leading_character (encode_utf8 c ++ rest) ≡ Some (encode_utf8 c)
 first_character c rest s =
     let bounds = len_utf8_bounds c in
     let width = length-encode c in
@@ -64,11 +64,11 @@ one_less : (n : ℕ) → suc n - 1 ≡ n
 one_less n = omega arith
 
 -- bytes that begin with a character's encoding decode to that character and the text of the rest
-past_first : (s rest : List ℕ) → 0 < length s → first (s ++ rest) ≡ Some s → lossy (s ++ rest) ≡ chars s ++ lossy rest
+past_first : (s rest : List ℕ) → 0 < length s → leading_character (s ++ rest) ≡ Some s → lossy (s ++ rest) ≡ chars s ++ lossy rest
 unfolding lossy_from
 past_first [] rest some is = absurd (omega (arith, some))
 past_first (b ∷ s) rest some is =
-    ap (λ (o : Option (List ℕ)). decoded_character o ++ lossy_from (further o) (s ++ rest)) is
+    ap (λ (o : Option (List ℕ)). decoded_character o ++ lossy_from (continuation_length o) (s ++ rest)) is
     ∙ ap (λ (n : ℕ). chars (b ∷ s) ++ lossy_from n (s ++ rest)) (one_less (length s))
     ∙ ap (λ (xs : List ℕ). chars (b ∷ s) ++ xs) (skips (length s) (s ++ rest) ∙ ap lossy (drop-append_seam s rest))
 
@@ -86,7 +86,7 @@ past_text (c ∷ cs) rest s =
 
 -- a byte where no character begins decodes to U+FFFD
 past_byte : (b : ℕ) (bytes : List ℕ) → ((n : ℕ) → 0 < n → n ≤ length (b ∷ bytes) → IsUtf8 (take n (b ∷ bytes)) → ⊥) → lossy (b ∷ bytes) ≡ 65533 ∷ lossy bytes
-unfolding lossy_from first
+unfolding lossy_from leading_character
 past_byte b bytes bad =
     rw (front_none 1 (b ∷ bytes) (bad 1 (omega arith)), front_none 2 (b ∷ bytes) (bad 2 (omega arith)), front_none 3 (b ∷ bytes) (bad 3 (omega arith)), front_none 4 (b ∷ bytes) (bad 4 (omega arith))) refl
 

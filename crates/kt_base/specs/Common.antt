@@ -8,7 +8,7 @@ pub use Rattle.kt_base.specs.Characters.{is_absolute, is_slash}
 pub use Rattle.kt_base.specs.Digits.{decimal_from, is_digit, number_up_to}
 pub use Rattle.kt_base.specs.Inner.Pairs.{shared_or_own}
 pub use Rattle.kt_base.specs.Inner.ReasonParts.{number_text, parts_text}
-pub use Rattle.kt_base.specs.Kinds.{good, word}
+pub use Rattle.kt_base.specs.Kinds.{good, kind_keyword}
 pub use Rattle.kt_base.specs.LastValues.{Replaces, last_values, value_of}
 pub use Rattle.kt_base.specs.Lines.{is_newline}
 pub use Rattle.kt_base.specs.Lossy.{lossy}
@@ -18,6 +18,6 @@ pub use Rattle.kt_base.specs.Emits.{Emits, joined}
 pub use Rattle.kt_base.specs.Texts.{after, before, is_empty}
 pub use Rattle.kt_base.specs.Utf8.{utf8}
 pub use Rattle.kt_base.specs.Verdicts.{broken, expected_failure, failed, passed, skipped}
-pub use Rattle.kt_base.specs.Words.{byte_keyword_row, named, keyword_row}
+pub use Rattle.kt_base.specs.Words.{byte_keyword_row, value_of_keyword, keyword_row}
 pub use Rattle.kt_base.specs.declared.variable.Variable.{Variable}
 pub use Rattle.kt_base.specs.declared.verdict.Kind.TheVariants.{Passed}

@@ -15,6 +15,6 @@ decimal_from v (c ∷ cs) = decimal_from (10 * v + (c - 48)) cs
 abbrev pub number_up_to : ℕ → ℕ → Option ℕ
 number_up_to greatest n = if nat_le n greatest then Some n else None
 
--- `fits n`: the number `n`, or nothing if `n` does not fit in 64 bits.
-abbrev pub fits : ℕ → Option ℕ
-fits n = if nat_lt n (2 ^ 64) then Some n else None
+-- `number_in_64_bits n`: the number `n`, or nothing if `n` does not fit in 64 bits.
+abbrev pub number_in_64_bits : ℕ → Option ℕ
+number_in_64_bits n = if nat_lt n (2 ^ 64) then Some n else None

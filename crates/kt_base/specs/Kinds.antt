@@ -11,10 +11,10 @@ good ExpectedFailure = true
 good Failed = false
 good Broken = false
 
--- `word kind`: the keyword of the kind `kind` in reports.
-abbrev pub word : Kind → List ℕ
-word Passed = codes "passed"
-word Skipped = codes "skipped"
-word ExpectedFailure = codes "expected_failure"
-word Failed = codes "failed"
-word Broken = codes "broken"
+-- `kind_keyword kind`: the keyword of the kind `kind` in reports.
+abbrev pub kind_keyword : Kind → List ℕ
+kind_keyword Passed = codes "passed"
+kind_keyword Skipped = codes "skipped"
+kind_keyword ExpectedFailure = codes "expected_failure"
+kind_keyword Failed = codes "failed"
+kind_keyword Broken = codes "broken"

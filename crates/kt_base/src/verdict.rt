@@ -65,7 +65,7 @@ pub enum Kind {
 
 impl Kind {
     ghost use Rattle.std.specs.Prelude.{◌≡◌};
-    ghost use Rattle.kt_base.specs.Common.{good, word};
+    ghost use Rattle.kt_base.specs.Common.{good, kind_keyword};
 
     /// Returns `true` if a verdict of this kind counts as a success.
     pub fn good(self) -> bool
@@ -76,7 +76,7 @@ impl Kind {
 
     /// Returns the keyword of the kind in reports, such as `expected_failure` (this profile).
     pub fn word(self) -> &'static str
-        ensures { result.now ≡ word self }
+        ensures { result.now ≡ kind_keyword self }
     {
         match self {
             Kind::Passed => "passed",

@@ -1,5 +1,5 @@
 ghost use Rattle.std.specs.Prelude.{◌≡◌, map};
-ghost use Rattle.kt_base.specs.Common.{byte_keyword_row, named, keyword_row};
+ghost use Rattle.kt_base.specs.Common.{byte_keyword_row, value_of_keyword, keyword_row};
 
 use crate::Text;
 
@@ -7,7 +7,7 @@ use crate::Text;
 ///
 /// Returns `None` if no row has the keyword.
 pub fn value_of_keyword<T: Copy>(word: &Text, table: &[(&str, T)]) -> Option<T>
-    ensures { result ≡ named (map keyword_row table.now) word.now }
+    ensures { result ≡ value_of_keyword (map keyword_row table.now) word.now }
 {
     for row in table {
         if word.is_equal_to(row.0) {
@@ -21,7 +21,7 @@ pub fn value_of_keyword<T: Copy>(word: &Text, table: &[(&str, T)]) -> Option<T>
 ///
 /// Returns `None` if no row has the keyword.
 pub fn value_of_keyword_bytes<T: Copy>(word: &[u8], table: &[(&str, T)]) -> Option<T>
-    ensures { result ≡ named (map byte_keyword_row table.now) word.now }
+    ensures { result ≡ value_of_keyword (map byte_keyword_row table.now) word.now }
 {
     for row in table {
         if word == row.0.as_bytes() {

@@ -1,6 +1,6 @@
 -- Lemmas on the number of cases at a position.
 use Rattle.std.proofs.Common.{◌≡◌, ◌≢◌, ℕ, zero, suc, ◌+◌, ◌<◌, ◌≤◌, ◌==◌, ◌&&◌, List, [], ◌∷◌, ◌++◌, slice_get, map, Bool, true, false, Option, Some, None, refl, arith, if◌then◌else◌, nat_lt, ap, remove}
-use Rattle.kt_child.proofs.Common.{nat_tests, Role, Body, Cleanup, CaseAttempt, is_same_role, count_at, one_if, occurrences, is_among, pending_with, launcher_child, launcher_child_at, is_last_child}
+use Rattle.kt_child.proofs.Common.{nat_tests, Role, Body, Cleanup, CaseAttempt, is_same_role, count_at, one_if, occurrences, is_among, pending_with, launcher_child, find_launcher_child, is_last_child}
 use Rattle.kt_sched.specs.Children.{Child as Shown}
 use Rattle.kt_base.proofs.Lists.{same_number}
 use Rattle.std.proofs.lemmas.Option.{same_Some}
@@ -29,12 +29,12 @@ count_step true Body s x y n h p q = absurd (cc (p))
 count_step true Cleanup s x y n h p q = absurd (cc (q))
 count_step false role s x y n h p q = omega (arith, h p q)
 
--- If no case has a child at a position in either role (`launcher_child_at`), no case has this
+-- If no case has a child at a position in either role (`find_launcher_child`), no case has this
 -- position.
-pub none_shown : (cases : List CaseAttempt) (i : ℕ) → launcher_child_at cases i Body ≡ None → launcher_child_at cases i Cleanup ≡ None → count_at i cases ≡ 0
+pub none_shown : (cases : List CaseAttempt) (i : ℕ) → find_launcher_child cases i Body ≡ None → find_launcher_child cases i Cleanup ≡ None → count_at i cases ≡ 0
 none_shown [] i p q = refl
 none_shown (c ∷ cases) i p q =
-    count_step (i == c.position) c.role (launcher_child c) (launcher_child_at cases i Body) (launcher_child_at cases i Cleanup) (count_at i cases) (none_shown cases i) p q
+    count_step (i == c.position) c.role (launcher_child c) (find_launcher_child cases i Body) (find_launcher_child cases i Cleanup) (count_at i cases) (none_shown cases i) p q
 
 -- A position has a case exactly if its count is above 0.
 pub among_counts : (cases : List CaseAttempt) (k : ℕ) → is_among cases k ≡ nat_lt 0 (count_at k cases)

@@ -1,6 +1,6 @@
 -- Lemmas on the children's cases, which no poll changes.
 use Rattle.std.proofs.Common.{◌≡◌, ℕ, zero, suc, List, [], ◌∷◌, ◌++◌, Some, map, slice_get, refl, sym, ◌∙◌, ap, drop, remove, take}
-use Rattle.kt_child.proofs.Common.{CaseAttempt, Outcome, Ended, RunningChild, ChildrenState, Call, FinishesChild, cases_of, PollsInTurns, child_after_running, children_after_running, last_turn, pending_with, whole_turn}
+use Rattle.kt_child.proofs.Common.{CaseAttempt, Outcome, Ended, RunningChild, ChildrenState, Call, FinishesChild, cases_of, PollsInRounds, child_after_running, children_after_running, last_round, pending_with, whole_round}
 use Rattle.std.specs.Option.{option_map}
 use Rattle.std.proofs.lemmas.List.{drop-map, map-append, take-map}
 use Rattle.std.proofs.lemmas.Option.{slice_get-map}
@@ -18,9 +18,9 @@ cases_turn (k ∷ ks) = ap (λ t. k.case ∷ t) (cases_turn ks)
 
 -- A wait doesn't change the cases of the children that it polls.
 pub cases_waited : (ks : List RunningChild) (calls : List Call) (place : ℕ) (outcome : Outcome) (after : List RunningChild)
-    → PollsInTurns ks calls place outcome after → cases_of after ≡ cases_of ks
-cases_waited _ _ _ _ _ (last_turn ks calls place outcome polled) = cases_below place ks
-cases_waited _ _ _ _ _ (whole_turn ks after turn more done place outcome all waited) = cases_waited (map child_after_running ks) more place outcome after waited ∙ cases_turn ks
+    → PollsInRounds ks calls place outcome after → cases_of after ≡ cases_of ks
+cases_waited _ _ _ _ _ (last_round ks calls place outcome polled) = cases_below place ks
+cases_waited _ _ _ _ _ (whole_round ks after turn more done place outcome all waited) = cases_waited (map child_after_running ks) more place outcome after waited ∙ cases_turn ks
 
 -- Removing the child at an index removes its case.
 pub cases_remove : (ks : List RunningChild) (i : ℕ) → cases_of (remove ks i) ≡ remove (cases_of ks) i
@@ -42,7 +42,7 @@ pub record Left (old : ChildrenState) (calls : List Call) (e : Ended) (new : Chi
   pub after : List RunningChild
   pub over : RunningChild
   pub asked : calls ≡ polls ++ rest
-  pub waited : PollsInTurns old.children polls place outcome after
+  pub waited : PollsInRounds old.children polls place outcome after
   pub there : slice_get after place ≡ Some over
   pub left : FinishesChild over.case rest outcome e
   pub children : new.children ≡ remove after place

@@ -13,10 +13,10 @@ pub use Rattle.kt_sched.specs.Children.{IsEvidence, pending_after_end, running_a
 pub use Rattle.kt_sched.specs.Trace.{End, Leads, NoEvent, Start, Then, Trace}
 pub use Rattle.kt_child.specs.Driving.Starting.{StartCall, StartsByPlan, SpawnsInRole, Started, MakesCalls, refusal_cause, spawn_calls, open_call, spawn_call, new_running_child, work_dir_call}
 pub use Rattle.kt_child.specs.Driving.DriverState.{PolledChild, DriverState, Ends, AddsResponse, FinishesByPolls, Starts, WaitsForEnd, children_after_start, polled_children, driver_state, driver_state_of}
-pub use Rattle.kt_child.specs.Driving.ChildrenState.{ChildrenState, cases_of, is_among, pending_with, launcher_child, launcher_child_at, launcher_child_in}
-pub use Rattle.kt_child.specs.Driving.JobPlan.{case_of, job_purpose, limit_of, spawn_plan_for, job_spawn_plan, want_of}
+pub use Rattle.kt_child.specs.Driving.ChildrenState.{ChildrenState, cases_of, is_among, pending_with, launcher_child, find_launcher_child, launcher_child_in}
+pub use Rattle.kt_child.specs.Driving.JobPlan.{case_of, job_purpose, child_timeout_seconds, spawn_plan_for, job_spawn_plan, want_of}
 pub use Rattle.kt_child.specs.Driving.DriverSteps.{DriverStarts, DriverWaits}
-pub use Rattle.kt_child.specs.Driving.Numbers.{AttemptsDiffer, HasUniqueNumbers, ListOf, Request, Serves, ServesAll, Wait, is_attempt, numbers, NumbersDiffer}
+pub use Rattle.kt_child.specs.Driving.Numbers.{AttemptsDiffer, HasUniqueNumbers, ListOf, Request, Serves, ServesAll, Wait, is_attempt, numbers, AttemptNumbersAreUnique}
 pub use Rattle.kt_child.specs.Driving.Roots.{FailsToCreateRoots, root_of}
 pub use Rattle.kt_child.specs.Driving.Runs.{Runs, RunsFrom}
 pub use Rattle.kt_child.specs.Ending.Ends.{FinishesChild, Removes, stderr_path, is_last_child, stdout_path}
@@ -26,7 +26,7 @@ pub use Rattle.kt_child.specs.Inner.Children.{IsChildrenState, IsRunningChild, H
 pub use Rattle.kt_child.specs.Planning.ChildPlan.{child_of, paths_of, test_variable, variable_argument}
 pub use Rattle.kt_child.specs.Polling.ChildOutcome.{ChildResponse, KillResponse, PollResponse, Yields, YieldsAfterKill, responses_so_far, running}
 pub use Rattle.kt_child.specs.Polling.Polls.{poll_calls, poll_responses, is_followed_by_kill, progress_after_poll, counts_after_running}
-pub use Rattle.kt_child.specs.Polling.Turns.{PollsAll, EndsAtPoll, PollsUntil, PollsInTurns, child_after_running, children_after_running, last_turn, whole_turn}
+pub use Rattle.kt_child.specs.Polling.Rounds.{PollsAll, EndsAtPoll, PollsUntil, PollsInRounds, child_after_running, children_after_running, last_round, whole_round}
 pub use Rattle.kt_os.specs.System.Calls.{Call, Kill, MakeDir, Now, Pause, Poll, ReadFile, RemoveTree, SetLimit}
 pub use Rattle.kt_child.specs.declared.driving.driver.Driver.{Driver}
 pub use Rattle.kt_child.specs.declared.ending.PartsResult.{PartsResult}

@@ -1,6 +1,6 @@
 -- The next attempt number never decreases, and no number occurs twice in a driver state.
 use Rattle.std.proofs.Common.{◌≡◌, ℕ, ◌==◌, ◌&&◌, ◌+◌, ◌-◌, ◌^◌, ◌<◌, ◌≤◌, List, [], ◌∷◌, ◌++◌, Bool, true, false, map, refl, sym, ◌∙◌, ap, subst, arith, inl, inr}
-use Rattle.kt_child.proofs.Common.{nat_tests, PolledChild, DriverState, Body, Cleanup, Call, CaseAttempt, Chain, Driver, End, Ended, Ends, AddsResponse, Job, NoEvent, Role, Runs, Start as Started, StartAnswer, Starts, Then, Trace, children_after_start, limit_of, one_if, AttemptsDiffer, HasUniqueNumbers, NumbersDiffer, numbers, occurrences, Request, Wait, ListOf, Serves, ServesAll, is_attempt}
+use Rattle.kt_child.proofs.Common.{nat_tests, PolledChild, DriverState, Body, Cleanup, Call, CaseAttempt, Chain, Driver, End, Ended, Ends, AddsResponse, Job, NoEvent, Role, Runs, Start as Started, StartAnswer, Starts, Then, Trace, children_after_start, child_timeout_seconds, one_if, AttemptsDiffer, HasUniqueNumbers, AttemptNumbersAreUnique, numbers, occurrences, Request, Wait, ListOf, Serves, ServesAll, is_attempt}
 use Rattle.kt_child.specs.Driving.Numbers.{Start}
 use Rattle.kt_sched.specs.declared.job.StartAnswer.TheVariants.{Started as StartedAt, Refused as RefusedFor}
 use Rattle.kt_child.specs.Driving.DriverState.{killed, later, paused, polled}
@@ -58,7 +58,7 @@ started_most : (n : ℕ) (alive : List PolledChild) (job : Job) (c : CaseAttempt
     → occurrences n (map runs_by (children_after_start alive job c answer)) ≤ occurrences n (map runs_by alive) + one_if (n == c.attempt)
 started_most n alive job c (RefusedFor cause) = omega arith
 started_most n alive job c (StartedAt moment) =
-    omega (arith, times_more runs_by n alive (record { case = c; limit = limit_of job c.role; heard = [] }))
+    omega (arith, times_more runs_by n alive (record { case = c; limit = child_timeout_seconds job c.role; responses = [] }))
 
 -- A number that occurs no more often than before, except the next one if used, stays unique.
 apart_still : (t : Bool) (n x y next after : ℕ) → next + one_if t ≤ after → y ≤ x + one_if (t && n == next)
@@ -68,11 +68,11 @@ apart_still t n x y next after le h (one, none) =
 
 -- If no number occurs more often, except the next one if used, `HasUniqueNumbers` stays true.
 fewer : (t : Bool) (old new : DriverState) → HasUniqueNumbers old → old.next + one_if t ≤ new.next
-    → ((n : ℕ) → occurrences n (map runs_by new.alive) + occurrences n (map owed_by new.owed)
-    ≤ occurrences n (map runs_by old.alive) + occurrences n (map owed_by old.owed) + one_if (t && n == old.next)) → HasUniqueNumbers new
+    → ((n : ℕ) → occurrences n (map runs_by new.running_children) + occurrences n (map owed_by new.pending_cleanups)
+    ≤ occurrences n (map runs_by old.running_children) + occurrences n (map owed_by old.pending_cleanups) + one_if (t && n == old.next)) → HasUniqueNumbers new
 fewer t old new apart le h n =
-    let x = times_join n (map runs_by old.alive) (map owed_by old.owed) in
-    let y = times_join n (map runs_by new.alive) (map owed_by new.owed) in
+    let x = times_join n (map runs_by old.running_children) (map owed_by old.pending_cleanups) in
+    let y = times_join n (map runs_by new.running_children) (map owed_by new.pending_cleanups) in
     apart_still t n (occurrences n (numbers old)) (occurrences n (numbers new)) old.next new.next le (omega (arith, h n, x, y)) (apart n)
 
 -- The attempt numbers in a driver state are different after an end.
@@ -81,11 +81,11 @@ ends_apart old new calls e s apart =
     fewer false old new apart (omega (arith, s.next)) (λ n.
     omega (
       arith,
-      ap (occurrences n) (calls_kept s.polls old.alive s.after s.follows.0),
+      ap (occurrences n) (calls_kept s.polls old.running_children s.after s.follows.0),
       times_less runs_by n s.after s.place s.over s.follows.1,
-      ap (λ t. occurrences n (map runs_by t)) s.alive,
-      times_owed owed_by n old.owed s.over.case,
-      ap (λ t. occurrences n (map owed_by t)) s.owed,
+      ap (λ t. occurrences n (map runs_by t)) s.running_children,
+      times_owed owed_by n old.pending_cleanups s.over.case,
+      ap (λ t. occurrences n (map owed_by t)) s.pending_cleanups,
     ))
 
 -- The attempt numbers in a driver state are different after a start.
@@ -96,9 +96,9 @@ starts_apart source root old new job Cleanup calls answer (inr (c, (place, was, 
     fewer false old new apart (omega (arith, next)) (λ n.
     omega (
       arith,
-      started_most n old.alive job c answer,
+      started_most n old.running_children job c answer,
       ap (λ t. occurrences n (map runs_by t)) alive,
-      times_less owed_by n old.owed place was at,
+      times_less owed_by n old.pending_cleanups place was at,
       ap (λ t. occurrences n (map owed_by t)) owed,
       ap (λ (t : CaseAttempt). one_if (n == t.attempt)) case,
     ))
@@ -106,7 +106,7 @@ starts_apart source root old new job Body calls answer (inr (c, ((lt, number, ne
     fewer true old new apart (omega (arith, next)) (λ n.
     omega (
       arith,
-      started_most n old.alive job c answer,
+      started_most n old.running_children job c answer,
       ap (λ t. occurrences n (map runs_by t)) alive,
       ap (λ t. occurrences n (map owed_by t)) owed,
       ap (λ (t : CaseAttempt). one_if (n == t.attempt)) case,
@@ -121,5 +121,5 @@ runs_apart plan source root old (Then T (End ended)) calls new (mid, before, ask
     ends_apart mid new asked ended s (runs_apart plan source root old T before mid runs apart)
 
 -- In each driver state of a run from an idle state, all attempt numbers are different.
-pub numbers_differ : NumbersDiffer
+pub numbers_differ : AttemptNumbersAreUnique
 numbers_differ plan source root next T calls b runs = runs_apart plan source root _ T calls b runs (λ n. (omega arith, λ le. refl))

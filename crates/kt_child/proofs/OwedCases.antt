@@ -1,6 +1,6 @@
 -- Lemmas on the cases with a pending cleanup.
 use Rattle.std.proofs.Common.{◌≡◌, ℕ, ◌≤◌, ◌==◌, ◌&&◌, List, [], ◌∷◌, ◌++◌, slice_get, Bool, true, false, Some, refl, ◌∙◌, ap, arith, if◌then◌else◌, remove}
-use Rattle.kt_child.proofs.Common.{nat_tests, Role, Body, Cleanup, CaseAttempt, is_same_role, has_declared_cleanup, count_at, is_among, pending_with, launcher_child, launcher_child_at, is_last_child}
+use Rattle.kt_child.proofs.Common.{nat_tests, Role, Body, Cleanup, CaseAttempt, is_same_role, has_declared_cleanup, count_at, is_among, pending_with, launcher_child, find_launcher_child, is_last_child}
 use Rattle.kt_child.proofs.CaseCounts.{among_counts, one_if_is, position, same_position, times_less, times_more}
 
 -- The positions of `cases` with `c` appended are those of `cases` and that of `c`.
@@ -9,9 +9,9 @@ among_append cases c k =
     grind (arith, nat_tests, among_counts (cases ++ c ∷ []) k, among_counts cases k, times_more position k cases c, one_if_is (k == c.position))
 
 -- After a body with a declared cleanup has ended, its case is pending; the others are unchanged.
-pub among_owed : (cases pending : List CaseAttempt) (c : CaseAttempt) (k : ℕ) → launcher_child_at cases c.position c.role ≡ Some (launcher_child c)
+pub among_owed : (cases pending : List CaseAttempt) (c : CaseAttempt) (k : ℕ) → find_launcher_child cases c.position c.role ≡ Some (launcher_child c)
     → is_among (pending_with c pending) k
-    ≡ (if k == c.position && (is_same_role c.role Body && has_declared_cleanup (launcher_child_at cases c.position Body)) then true else is_among pending k)
+    ≡ (if k == c.position && (is_same_role c.role Body && has_declared_cleanup (find_launcher_child cases c.position Body)) then true else is_among pending k)
 among_owed cases pending c k e =
     if_over (is_last_child c)
     ∙ owed (k == c.position) (is_same_role c.role Body) c.cleanup _ (is_among pending k) _ (declared c.role e) (among_append pending c k)
@@ -20,8 +20,8 @@ among_owed cases pending c k e =
     if_over true = refl
     if_over false = refl
 
-    declared : (r : Role) → launcher_child_at cases c.position r ≡ Some (launcher_child c) → is_same_role r Body ≡ true
-        → has_declared_cleanup (launcher_child_at cases c.position Body) ≡ c.cleanup
+    declared : (r : Role) → find_launcher_child cases c.position r ≡ Some (launcher_child c) → is_same_role r Body ≡ true
+        → has_declared_cleanup (find_launcher_child cases c.position Body) ≡ c.cleanup
     declared Body at is = ap has_declared_cleanup at
     declared Cleanup at is = absurd (cc)
 

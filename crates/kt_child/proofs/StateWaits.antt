@@ -1,6 +1,6 @@
 -- Lemmas on the state after a start, after a wait, and after a pending case was removed.
 use Rattle.std.proofs.Common.{◌≡◌, ℕ, suc, ◌+◌, ◌≤◌, List, ◌++◌, slice_get, take, drop, Bool, true, Some, refl, ◌∙◌, ap, subst, arith, ◌==◌, [], ◌∷◌, false, remove}
-use Rattle.kt_child.proofs.Common.{Job, Paths, StartAnswer, case_of, limit_of, new_running_child, state_after_start, All, All-append, All-take, All-drop, All-push, Role, Outcome, RunningChild, CaseAttempt, Ended, Chain, Call, IsChildrenState, IsRunningChild, count_at, count_in, one_if, PollsInTurns, IsEvidence, running_after_end, pending_after_end, ChildrenState, cases_of, is_among, pending_with, launcher_child, launcher_child_at, launcher_child_in, FinishesChild}
+use Rattle.kt_child.proofs.Common.{Job, Paths, StartAnswer, case_of, child_timeout_seconds, new_running_child, state_after_start, All, All-append, All-take, All-drop, All-push, Role, Outcome, RunningChild, CaseAttempt, Ended, Chain, Call, IsChildrenState, IsRunningChild, count_at, count_in, one_if, PollsInRounds, IsEvidence, running_after_end, pending_after_end, ChildrenState, cases_of, is_among, pending_with, launcher_child, find_launcher_child, launcher_child_in, FinishesChild}
 use Rattle.kt_sched.specs.Children.{Child as Shown, running_after_start}
 use Rattle.kt_sched.specs.declared.job.StartAnswer.TheVariants.{Started as StartedAt, Refused as RefusedFor}
 use Rattle.kt_child.proofs.CaseSteps.{Left, case_at, cases_remove, waited_cases}
@@ -39,11 +39,11 @@ state_started children children' pending pending' k b on free e f =
 
 -- The running children after a start are those that the scheduler's contract requires.
 pub shown_started : (b : ChildrenState) (job : Job) (role : Role) (number : ℕ) (paths : Paths) (answer : StartAnswer) → count_in job.position b ≡ 0 → (k : ℕ) (r : Role)
-    → launcher_child_in (state_after_start b (new_running_child (limit_of job role) (case_of job role number paths)) answer) k r ≡ running_after_start (launcher_child_in b) job role answer k r
+    → launcher_child_in (state_after_start b (new_running_child (child_timeout_seconds job role) (case_of job role number paths)) answer) k r ≡ running_after_start (launcher_child_in b) job role answer k r
 shown_started b job role number paths (RefusedFor cause) free k r = refl
 shown_started b job role number paths (StartedAt moment) free k r =
     let c = case_of job role number paths in
-    ap (λ t. launcher_child_at t k r) (cases_more b.children (new_running_child (limit_of job role) c)) ∙ shown_append (cases_of b.children) c k r (omega (arith, free))
+    ap (λ t. find_launcher_child t k r) (cases_more b.children (new_running_child (child_timeout_seconds job role) c)) ∙ shown_append (cases_of b.children) c k r (omega (arith, free))
 
 -- The invariant is true after a pending case was removed.
 pub state_taken : (children : List RunningChild) (pending pending' : List CaseAttempt) (p : ℕ) (c : CaseAttempt)
@@ -97,7 +97,7 @@ module _ (old new : ChildrenState) (calls : List Call) (e : Ended) (once : Once 
   pub waited_running : (k : ℕ) (r : Role) → launcher_child_in new k r ≡ running_after_end (launcher_child_in old) e k r
   waited_running k r =
       let at = waited_cases old new calls e w in
-      rw (w.left.8, w.left.9) (ap (λ t. launcher_child_at t k r) at.0 ∙ shown_remove (cases_of old.children) w.place w.over.case k r at.1 few)
+      rw (w.left.8, w.left.9) (ap (λ t. find_launcher_child t k r) at.0 ∙ shown_remove (cases_of old.children) w.place w.over.case k r at.1 few)
 
   -- The pending cleanups after a wait are those that the scheduler's contract requires.
   pub waited_pending : (k : ℕ) → is_among new.pending k ≡ pending_after_end (launcher_child_in old) (is_among old.pending) e k
@@ -106,13 +106,13 @@ module _ (old new : ChildrenState) (calls : List Call) (e : Ended) (once : Once 
 
 -- The polls and the calls after them are the calls of one wait.
 pub waited_all : {O : Type 0} (leads : O → Call → O → Type 0) (a b d : O) (old new : ChildrenState) (children after : List RunningChild) (place : ℕ) (outcome : Outcome) (k : RunningChild) (e : Ended)
-    → (calls : List Call) × Chain leads a calls b × PollsInTurns children calls place outcome after
+    → (calls : List Call) × Chain leads a calls b × PollsInRounds children calls place outcome after
     → (calls : List Call) × Chain leads b calls d × FinishesChild k.case calls outcome e
     → children ≡ old.children → slice_get after place ≡ Some k
     → new.children ≡ remove after place → new.pending ≡ pending_with k.case old.pending
     → (calls : List Call) × Chain leads a calls d × ((w : Left old calls e new) × (w.over ≡ k))
 waited_all leads a b d old new children after place outcome k e (xs, p, w) (ys, q, l) same at f g =
-    let P : List RunningChild → Type 0 = λ t. PollsInTurns t xs place outcome after in (
+    let P : List RunningChild → Type 0 = λ t. PollsInRounds t xs place outcome after in (
       xs ++ ys,
       chain_append leads a b d xs ys p q,
       (

@@ -26,22 +26,22 @@ set_next (suc i) (k ∷ s) d = ap (λ t. child_after_running k ∷ t) (set_next 
 abbrev pub OnePoll : {O : Type 0} → (O → Call → O → Type 0) → O → O → ChildProgress → Child → RunningChild → Type 0
 OnePoll leads now new turn name k =
     (answer : Result ChildState OsFault) × (done : Bool)
-    × Chain leads now (poll_calls name k.limit k.watch answer done) new
-    × (turn ≡ progress_after_poll k.limit k.watch answer done)
+    × Chain leads now (poll_calls name k.limit k.counts answer done) new
+    × (turn ≡ progress_after_poll k.limit k.counts answer done)
 
 -- A poll of one more child, after which it still runs, extends a turn.
 polled_snoc : (ks : List RunningChild) (k : RunningChild) (xs : List Call) (answer : Result ChildState OsFault) (done : Bool)
-    → PollsAll ks xs → StillRunning ≡ progress_after_poll k.limit k.watch answer done
-    → PollsAll (ks ++ k ∷ []) (xs ++ poll_calls (child_of k.case) k.limit k.watch answer done)
+    → PollsAll ks xs → StillRunning ≡ progress_after_poll k.limit k.counts answer done
+    → PollsAll (ks ++ k ∷ []) (xs ++ poll_calls (child_of k.case) k.limit k.counts answer done)
 polled_snoc [] k xs answer done h e =
-    let ys : List Call = poll_calls (child_of k.case) k.limit k.watch answer done in
+    let ys : List Call = poll_calls (child_of k.case) k.limit k.counts answer done in
     (answer, done, [], ap (λ t. t ++ ys) h ∙ sym (append-nil ys), sym e, refl)
 polled_snoc (j ∷ ks) k xs answer done (a, d, more, eq, went, rest) e =
-    let ys : List Call = poll_calls (child_of k.case) k.limit k.watch answer done in (
+    let ys : List Call = poll_calls (child_of k.case) k.limit k.counts answer done in (
       a,
       d,
       more ++ ys,
-      ap (λ t. t ++ ys) eq ∙ append_assoc (poll_calls (child_of j.case) j.limit j.watch a d) more ys,
+      ap (λ t. t ++ ys) eq ∙ append_assoc (poll_calls (child_of j.case) j.limit j.counts a d) more ys,
       went,
       polled_snoc ks k more answer done rest e,
     )
@@ -56,7 +56,7 @@ module _ (init children : List RunningChild) (i : ℕ) (d : RunningChild) (lt : 
   step_more leads start now new name n (calls, chain, polled) one =
       let k = get_or init i d in
       let o = rw (n, e, watched_at i init d) at one in
-      let ys = poll_calls (child_of k.case) k.limit k.watch o.0 o.1 in
+      let ys = poll_calls (child_of k.case) k.limit k.counts o.0 o.1 in
       let both = chain_append leads start now new calls ys chain o.2 in
       (calls ++ ys, both, rw (take_more init i d lt) (polled_snoc (take i init) k calls o.0 o.1 polled o.3))
 
@@ -69,8 +69,8 @@ module _ (init children : List RunningChild) (i : ℕ) (d : RunningChild) (lt : 
   step_over leads start now new name n outcome on (calls, chain, polled) one =
       let k = get_or init i d in
       let o = rw (n, e, watched_at i init d) at one in
-      let ys = poll_calls (child_of k.case) k.limit k.watch o.0 o.1 in
-      let yields = ends_so k.limit k.watch o.0 o.1 outcome (All-get_or IsRunningChild init i d lt on).0 (sym o.3) in
+      let ys = poll_calls (child_of k.case) k.limit k.counts o.0 o.1 in
+      let yields = ends_so k.limit k.counts o.0 o.1 outcome (All-get_or IsRunningChild init i d lt on).0 (sym o.3) in
       let both = chain_append leads start now new calls ys chain o.2 in
       (calls ++ ys, both, (calls, ys, refl, polled, rw (slice_get-get_or init i d lt) (o.0, o.1, refl, sym o.3, yields)))
 
@@ -79,8 +79,8 @@ module _ (init children : List RunningChild) (i : ℕ) (d : RunningChild) (lt : 
   same_at f = rw (e, watched_at i init d, watched_at i init f) (get_or_default init i d f lt)
 
   -- Storing the poll counts of the next child advances it.
-  pub step_set : (f : RunningChild) (w : PollCounts) → w ≡ counts_after_running (get_or children i d).limit (get_or children i d).watch
-      → set children i (record { case = (get_or children i f).case; limit = (get_or children i f).limit; watch = w }) ≡ children_after_running (i + 1) init
+  pub step_set : (f : RunningChild) (w : PollCounts) → w ≡ counts_after_running (get_or children i d).limit (get_or children i d).counts
+      → set children i (record { case = (get_or children i f).case; limit = (get_or children i f).limit; counts = w }) ≡ children_after_running (i + 1) init
   step_set f w g = rw (g, same_at f, e, watched_at i init f, add-one i) (set_next i init f)
 
   -- The child at index `i` is running.

@@ -1,4 +1,4 @@
 -- Polls of the running children, in turns.
 pub mod ChildOutcome
 pub mod Polls
-pub mod Turns
+pub mod Rounds

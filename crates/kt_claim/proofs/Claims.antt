@@ -1,6 +1,6 @@
 -- A file has no other claim than `claim_of` of the file.
 use Rattle.std.proofs.Common.{◌≡◌, ℕ, ◌-◌, ◌≤◌, ◌<◌, true, false, eqb, ltb, List, [], ◌∷◌, ◌++◌, length, drop, Option, Some, Result, Ok, Err, refl, ap, sym, subst, ◌∙◌, append_assoc, inl, inr, arith, nat_eq, codes, MatchOption, IfOk}
-use Rattle.kt_claim.proofs.Common.{bytes_eq, prefix_len, ends_with, list_any, list_all, false≢true, lt-ltb, le-ltb, ne_eqb, length-append, is_digit, lossy, is_newline, newline, number, limit, IsReason, IsNumber, reason_suffix, number_suffix, SpellsClaim, line, is, IsClaimOf, keyword_of, claim_with_reason, claim_with_number, reason_in, claim_from_reason, byte_value, number_in, claim_from_number, claim_of_line, claim_of, Claim, ClaimFault, Keyword}
+use Rattle.kt_claim.proofs.Common.{bytes_eq, prefix_len, ends_with, list_any, list_all, false≢true, lt-ltb, le-ltb, ne_eqb, length-append, is_digit, lossy, is_newline, newline, decimal_value, limit, IsReason, IsNumber, reason_suffix, number_suffix, SpellsClaim, line, is_keyword, IsClaimOf, keyword_of, claim_with_reason, claim_with_number, reason_in, claim_from_reason, byte_value, number_in, claim_from_number, claim_of_line, claim_of, Claim, ClaimFault, Keyword}
 use Rattle.std.proofs.Math.Seq.{take-append_seam, drop-append_seam}
 use Rattle.kt_claim.specs.ResultFile as says
 use Rattle.kt_claim.specs.declared.evidence.Claim.TheVariants as claim
@@ -39,11 +39,11 @@ pub digits_clean : (n rest : List ℕ) → list_all is_digit n ≡ true → list
 digits_clean [] rest e none = none
 digits_clean (d ∷ n) rest e none = rw (digit_clean d (and_parts (is_digit d) (list_all is_digit n) e).0) (digits_clean n rest (and_parts (is_digit d) (list_all is_digit n) e).1 none)
 
-pub number_found : (n rest : List ℕ) → IsNumber n → number_in (n ++ 41 ∷ rest) ≡ Some (number n, rest)
+pub number_found : (n rest : List ℕ) → IsNumber n → number_in (n ++ 41 ∷ rest) ≡ Some (decimal_value n, rest)
 unfolding number_in
 number_found n rest isn =
     let all : prefix_len is_digit (n ++ 41 ∷ rest) ≡ length n = all_digits n rest isn.1 in
-    let value : byte_value n ≡ Some (number n) = valued n (lt-ltb 0 (length n) isn.0) (lt-ltb (number n) 256 isn.2) in
+    let value : byte_value n ≡ Some (decimal_value n) = valued n (lt-ltb 0 (length n) isn.0) (lt-ltb (decimal_value n) 256 isn.2) in
     rw (all, take-append_seam n (41 ∷ rest), drop-append_seam n (41 ∷ rest), value) refl
 
 -- A keyword with a number in round brackets spells `number_suffix`.
@@ -58,8 +58,8 @@ numbered_file w n r c isn isr short none is =
     subst (λ (xs : List ℕ). claim_of xs ≡ c) (number_parts w n r)
     (whole (w ++ 40 ∷ (n ++ 41 ∷ 58 ∷ 32 ∷ r)) (subst (λ (xs : List ℕ). length xs ≤ limit) (sym (number_parts w n r)) short) none ∙ is)
 
-pub numbered_line : (k : Keyword) (n r : List ℕ) → IsNumber n → IsReason r → claim_from_number k (number_in (n ++ 41 ∷ 58 ∷ 32 ∷ r)) ≡ claim_with_number k (number n) (lossy r)
-numbered_line k n r isn isr = ap (claim_from_number k) (number_found n (58 ∷ 32 ∷ r) isn) ∙ ap (claim_from_reason (claim_with_number k (number n))) (reason_found r isr.0)
+pub numbered_line : (k : Keyword) (n r : List ℕ) → IsNumber n → IsReason r → claim_from_number k (number_in (n ++ 41 ∷ 58 ∷ 32 ∷ r)) ≡ claim_with_number k (decimal_value n) (lossy r)
+numbered_line k n r isn isr = ap (claim_from_number k) (number_found n (58 ∷ 32 ∷ r) isn) ∙ ap (claim_from_reason (claim_with_number k (decimal_value n))) (reason_found r isr.0)
 
 pub said : (file : List ℕ) (c : Claim) → length file ≤ limit → SpellsClaim file c → claim_of file ≡ c
 unfolding claim_of_line keyword_of
@@ -72,9 +72,9 @@ said _ _ short (says.expected_timeout r isr) = whole (codes "expected_timeout" +
 said _ _ short (says.expected_exit r isr) = whole (codes "expected_exit" ++ 58 ∷ 32 ∷ r) short isr.1 ∙ ap (claim_from_reason (claim_with_reason word.ExpectedExit)) (reason_found r isr.0)
 said _ _ short (says.expected_signal r isr) = whole (codes "expected_signal" ++ 58 ∷ 32 ∷ r) short isr.1 ∙ ap (claim_from_reason (claim_with_reason word.ExpectedSignal)) (reason_found r isr.0)
 said _ _ short (says.expected_exit_of n r isn isr) =
-    numbered_file (codes "expected_exit") n r (claim.ExpectedExit (Some (number n)) (lossy r)) isn isr short (digits_clean n (41 ∷ 58 ∷ 32 ∷ r) isn.1 isr.1) (numbered_line word.ExpectedExit n r isn isr)
+    numbered_file (codes "expected_exit") n r (claim.ExpectedExit (Some (decimal_value n)) (lossy r)) isn isr short (digits_clean n (41 ∷ 58 ∷ 32 ∷ r) isn.1 isr.1) (numbered_line word.ExpectedExit n r isn isr)
 said _ _ short (says.expected_signal_of n r isn isr) =
-    numbered_file (codes "expected_signal") n r (claim.ExpectedSignal (Some (number n)) (lossy r)) isn isr short (digits_clean n (41 ∷ 58 ∷ 32 ∷ r) isn.1 isr.1) (numbered_line word.ExpectedSignal n r isn isr)
+    numbered_file (codes "expected_signal") n r (claim.ExpectedSignal (Some (decimal_value n)) (lossy r)) isn isr short (digits_clean n (41 ∷ 58 ∷ 32 ∷ r) isn.1 isr.1) (numbered_line word.ExpectedSignal n r isn isr)
 
 -- Each claim of a file is equal to `claim_of` of the file.
 pub only_claim : (file : List ℕ) (c : Claim) → IsClaimOf file c → claim_of file ≡ c

@@ -1,6 +1,6 @@
 -- The lines before the first bail out, and their counts.
 use Rattle.std.proofs.Common.{◌≡◌, ℕ, ◌+◌, ◌≤◌, Bool, true, false, cond, List, [], ◌∷◌, ◌++◌, length, Option, Some, None, Result, Ok, Err, refl, ap, sym, ◌∙◌, arith, ◌&&◌, ◌||◌, is_some, IfOk, codes}
-use Rattle.kt_claim.proofs.Common.{list_any, filter, filter_map, cons_option, chars, false≢true, option_or, is_bail_out, plan, count, lines_before_bail_out, skip_reason, one, first, has_second}
+use Rattle.kt_claim.proofs.Common.{list_any, filter, filter_map, cons_option, chars, false≢true, option_or, is_bail_out, plan, count, lines_before_bail_out, skip_reason, one_if, first_item, has_second}
 use Rattle.std.proofs.Math.Bool.{or-false, or_assoc}
 use Rattle.std.proofs.lemmas.Bool.{or_parts}
 
@@ -48,21 +48,21 @@ lines_before_bail_out-le (y ∷ ys) = omega (arith, lines_before_bail_out-le ys,
 
 -- ---- counts
 
-pub counted_by : (b : Bool) (y : List ℕ) (ys : List (List ℕ)) → length (cond b (y ∷ ys) ys) ≡ one b + length ys
+pub counted_by : (b : Bool) (y : List ℕ) (ys : List (List ℕ)) → length (cond b (y ∷ ys) ys) ≡ one_if b + length ys
 counted_by true y ys = omega arith
 counted_by false y ys = omega arith
 
-pub count-snoc : (p : List ℕ → Bool) (xs : List (List ℕ)) (x : List ℕ) → count p (xs ++ x ∷ []) ≡ count p xs + one (p x)
+pub count-snoc : (p : List ℕ → Bool) (xs : List (List ℕ)) (x : List ℕ) → count p (xs ++ x ∷ []) ≡ count p xs + one_if (p x)
 count-snoc p [] x = omega (arith, counted_by (p x) x [])
 count-snoc p (y ∷ xs) x = omega (arith, counted_by (p y) y (filter p (xs ++ x ∷ [])), counted_by (p y) y (filter p xs), count-snoc p xs x)
 
-pub one-le : (b : Bool) → one b ≤ 1
-one-le true = omega arith
-one-le false = omega arith
+pub one_if-le : (b : Bool) → one_if b ≤ 1
+one_if-le true = omega arith
+one_if-le false = omega arith
 
 pub count-le : (p : List ℕ → Bool) (xs : List (List ℕ)) → count p xs ≤ length xs
 count-le p [] = omega arith
-count-le p (y ∷ xs) = omega (arith, counted_by (p y) y (filter p xs), count-le p xs, one-le (p y))
+count-le p (y ∷ xs) = omega (arith, counted_by (p y) y (filter p xs), count-le p xs, one_if-le (p y))
 
 pub joined : (o : Option (ℕ × List ℕ)) (xs ys : List (ℕ × List ℕ)) → cons_option o (xs ++ ys) ≡ cons_option o xs ++ ys
 joined None xs ys = refl
@@ -72,12 +72,12 @@ pub plans-snoc : (xs : List (List ℕ)) (x : List ℕ) → filter_map plan (xs +
 plans-snoc [] x = refl
 plans-snoc (y ∷ xs) x = ap (cons_option (plan y)) (plans-snoc xs x) ∙ joined (plan y) (filter_map plan xs) (cons_option (plan x) [])
 
-pub first-snoc : (xs : List (ℕ × List ℕ)) (o : Option (ℕ × List ℕ)) → first (xs ++ cons_option o []) ≡ option_or (first xs) o
-first-snoc [] None = refl
-first-snoc [] (Some x) = refl
-first-snoc (y ∷ xs) o = refl
+pub first_item-snoc : (xs : List (ℕ × List ℕ)) (o : Option (ℕ × List ℕ)) → first_item (xs ++ cons_option o []) ≡ option_or (first_item xs) o
+first_item-snoc [] None = refl
+first_item-snoc [] (Some x) = refl
+first_item-snoc (y ∷ xs) o = refl
 
-pub second-snoc : (xs : List (ℕ × List ℕ)) (o : Option (ℕ × List ℕ)) → has_second (xs ++ cons_option o []) ≡ (has_second xs || (is_some (first xs) && is_some o))
+pub second-snoc : (xs : List (ℕ × List ℕ)) (o : Option (ℕ × List ℕ)) → has_second (xs ++ cons_option o []) ≡ (has_second xs || (is_some (first_item xs) && is_some o))
 second-snoc [] None = refl
 second-snoc [] (Some x) = refl
 second-snoc (y ∷ []) None = refl

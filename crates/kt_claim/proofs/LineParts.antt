@@ -1,6 +1,6 @@
 -- Facts of lines that are read byte by byte.
 use Rattle.std.proofs.Common.{◌≡◌, ℕ, ◌≤◌, Bool, true, false, eqb, List, [], ◌∷◌, ◌++◌, length, drop, Option, Some, None, refl, ap, sym, ◌∙◌, arith, if◌then◌else◌, option_map}
-use Rattle.kt_claim.proofs.Common.{le-ltb, ne_eqb, length-append, is_digit, decimal_from, is_blank, no_facts, plan_facts, after_opening, opened, below_limit, without_trailing_blanks, begins, front, without_leading, is_plan_end, planned_from, directive_in, reason_of_skip, plan_for}
+use Rattle.kt_claim.proofs.Common.{le-ltb, ne_eqb, length-append, is_digit, decimal_from, is_blank, no_facts, plan_facts, facts_after_opening, facts_within_opening, below_limit, without_trailing_blanks, begins, leading_bytes, without_leading, is_plan_end, planned_from, directive_in, reason_of_skip, plan_for}
 use Rattle.kt_claim.specs.declared.open_line.Opening.{Opening}
 use Rattle.std.proofs.Math.Bool.{and-false}
 use Rattle.kt_base.proofs.Numbers.{decimal_from-grows}
@@ -19,12 +19,12 @@ pub plans_none : (n : ℕ) (text more : List ℕ) → 1000000000 ≤ n
     → plan_facts None ≡ plan_facts (option_map (plan_for (reason_of_skip (directive_in false more))) (planned_from (Some n) text))
 plans_none n text more le =
     ap (λ (o : Option ℕ). plan_facts (option_map (plan_for (reason_of_skip (directive_in false more))) o))
-    (sym (none_at_all (is_plan_end (without_leading is_blank (without_leading is_digit text))) (below_limit (decimal_from n (front is_digit text))) (too_large n (front is_digit text) le)))
+    (sym (none_at_all (is_plan_end (without_leading is_blank (without_leading is_digit text))) (below_limit (decimal_from n (leading_bytes is_digit text))) (too_large n (leading_bytes is_digit text) le)))
 
 -- ---- the word that a line begins with
 
 -- If no byte of an opening is missing, the bytes after the opening decide.
-pub whole_word : (o : Opening) (lacks more : List ℕ) → length lacks ≡ 0 → after_opening o more ≡ opened o (begins lacks more) (drop (length lacks) more)
+pub whole_word : (o : Opening) (lacks more : List ℕ) → length lacks ≡ 0 → facts_after_opening o more ≡ facts_within_opening o (begins lacks more) (drop (length lacks) more)
 whole_word o [] more none = refl
 whole_word o (c ∷ lacks) more none = absurd (omega (arith, none))
 
@@ -48,6 +48,6 @@ pub trim_ends : (rest front text : List ℕ) (b : ℕ) → without_trailing_blan
 trim_ends rest front text b so_far parts word = parts ∙ sym (without_trailing_blanks-word front b word) ∙ sym (ap without_trailing_blanks parts) ∙ so_far
 
 -- A line that ends within its opening has no facts.
-pub part_of_word : (o : Opening) (lacks : List ℕ) → (length lacks ≡ 0 → ⊥) → no_facts ≡ opened o (begins lacks []) (drop (length lacks) [])
+pub part_of_word : (o : Opening) (lacks : List ℕ) → (length lacks ≡ 0 → ⊥) → no_facts ≡ facts_within_opening o (begins lacks []) (drop (length lacks) [])
 part_of_word o [] some = absurd (some refl)
 part_of_word o (c ∷ lacks) some = refl

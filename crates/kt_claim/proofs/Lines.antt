@@ -40,14 +40,14 @@ ends_at begun.Reason kept kind keeps plain reason =
     ap (λ (xs : List ℕ). facts_of_kind (Plan 0) (without_trailing_blanks xs)) (append-nil kept) ∙ ap (λ (k : LineKind). facts_of_kind k (without_trailing_blanks kept)) (sym (reason refl))
 ends_at b kept kind keeps plain reason = sym (plain refl kept) ∙ ap (λ (xs : List ℕ). facts_of_kind kind (without_trailing_blanks xs)) (sym keeps)
 
-pub no_more : (held : Bool) (b : LineProgress) (kept : List ℕ) → facts_with b kept (without_cr (with_held_cr held [])) ≡ facts_with b kept []
+pub no_more : (held_cr : Bool) (b : LineProgress) (kept : List ℕ) → facts_with b kept (without_cr (with_held_cr held_cr [])) ≡ facts_with b kept []
 no_more true b kept = refl
 no_more false b kept = refl
 
 -- A line that has ended has the facts of its kind.
-pub line_is : (line : LineState) (kind : LineKind) (came : List ℕ) → Ends line kind → IsStateAfter line.begun line.kept line.held came → facts_of (without_cr came) ≡ facts_of_kind kind (without_trailing_blanks line.kept)
+pub line_is : (line : LineState) (kind : LineKind) (came : List ℕ) → Ends line kind → IsStateAfter line.begun line.kept line.held_cr came → facts_of (without_cr came) ≡ facts_of_kind kind (without_trailing_blanks line.kept)
 line_is line kind came ends k =
-    ap (λ (xs : List ℕ). facts_of (without_cr xs)) (sym (append-nil came)) ∙ k.tells [] ∙ no_more line.held line.begun line.kept ∙ ends_at line.begun line.kept kind k.keeps ends.0 ends.1
+    ap (λ (xs : List ℕ). facts_of (without_cr xs)) (sym (append-nil came)) ∙ k.facts [] ∙ no_more line.held_cr line.begun line.kept ∙ ends_at line.begun line.kept kind k.keeps ends.0 ends.1
 
 -- `Adds old new kind reason`: `new` is the tally `old` with one more line of the kind `kind` and
 -- the reason `reason`.
@@ -55,7 +55,7 @@ abbrev pub Adds : Tally → Tally → LineKind → List ℕ → Type 0
 Adds old new kind reason = (line : List ℕ) (ls : List (List ℕ)) → facts_of line ≡ facts_of_kind kind reason → length ls < 2 ^ 32 → IsTally old ls → IsTally new (ls ++ line ∷ [])
 
 -- A reader that has read no bytes has an empty tally.
-pub none_read : (tally : Tally) (kept : List ℕ) → IsTally tally [] → kept ≡ [] → HasLines tally (record { begun = begun.Nothing; kept = kept; held = false }) []
+pub none_read : (tally : Tally) (kept : List ℕ) → IsTally tally [] → kept ≡ [] → HasLines tally (record { begun = begun.Nothing; kept = kept; held_cr = false }) []
 none_read tally kept t none = record {
   whole = [];
   open_line = [];
@@ -63,11 +63,11 @@ none_read tally kept t none = record {
   one_line = refl;
   rest = λ more. refl;
   fits = omega arith;
-  known = record { keeps = none; tells = λ more. refl };
+  known = record { keeps = none; facts = λ more. refl };
 }
 
 pub line_ends : (old new : Tally) (line : LineState) (kind : LineKind) (fed : List ℕ) → Ends line kind → Adds old new kind (without_trailing_blanks line.kept)
-    → length fed < limit → HasLines old line fed → HasLines new (record { begun = begun.Nothing; kept = []; held = false }) (fed ++ 10 ∷ [])
+    → length fed < limit → HasLines old line fed → HasLines new (record { begun = begun.Nothing; kept = []; held_cr = false }) (fed ++ 10 ∷ [])
 line_ends old new line kind fed ends adds short h = record {
   whole = h.whole ++ h.open_line ∷ [];
   open_line = [];
@@ -77,7 +77,7 @@ line_ends old new line kind fed ends adds short h = record {
   rest = λ more. ap lines (append_assoc fed (10 ∷ []) more) ∙ h.rest (10 ∷ more) ∙ ap (λ (ls : List (List ℕ)). h.whole ++ ls) (lines-line h.open_line more h.one_line)
       ∙ sym (append_assoc h.whole (h.open_line ∷ []) (lines more));
   fits = omega (arith, h.fits, length-append h.whole (h.open_line ∷ []), length-append fed (10 ∷ []));
-  known = record { keeps = refl; tells = λ more. refl };
+  known = record { keeps = refl; facts = λ more. refl };
 }
 
 pub any-append : (xs ys : List ℕ) → list_any is_newline xs ≡ false → list_any is_newline ys ≡ false → list_any is_newline (xs ++ ys) ≡ false
@@ -86,7 +86,7 @@ any-append (x ∷ xs) ys a b =
     rw (or_parts (is_newline x) (list_any is_newline xs) a).0 (any-append xs ys (or_parts (is_newline x) (list_any is_newline xs) a).1 b)
 
 pub line_goes_on : (tally : Tally) (line new : LineState) (part fed : List ℕ) → list_any is_newline part ≡ false
-    → ((came : List ℕ) → IsStateAfter line.begun line.kept line.held came → IsStateAfter new.begun new.kept new.held (came ++ part)) → HasLines tally line fed → HasLines tally new (fed ++ part)
+    → ((came : List ℕ) → IsStateAfter line.begun line.kept line.held_cr came → IsStateAfter new.begun new.kept new.held_cr (came ++ part)) → HasLines tally line fed → HasLines tally new (fed ++ part)
 line_goes_on tally line new part fed none goes h = record {
   whole = h.whole;
   open_line = h.open_line ++ part;

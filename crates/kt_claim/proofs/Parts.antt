@@ -30,8 +30,8 @@ no_return b (c ∷ more) e = refl
 
 pub tells_all : (s : LineProgress) (kept came : List ℕ) → IsStateMidLine s kept came → (xs : List ℕ) (b : ℕ) (more : List ℕ)
     → facts_of (without_cr (came ++ (xs ++ b ∷ more))) ≡ facts_with s kept (xs ++ without_cr (b ∷ more))
-tells_all s kept came r [] b more = r.tells b more
-tells_all s kept came r (x ∷ xs) b more = r.tells x (xs ++ b ∷ more) ∙ ap (facts_with s kept) (return-append (x ∷ xs) b more)
+tells_all s kept came r [] b more = r.facts b more
+tells_all s kept came r (x ∷ xs) b more = r.facts x (xs ++ b ∷ more) ∙ ap (facts_with s kept) (return-append (x ∷ xs) b more)
 
 pub snoc-more : (came front part more : List ℕ) (b : ℕ) → part ≡ front ++ b ∷ [] → (came ++ part) ++ more ≡ came ++ (front ++ b ∷ more)
 snoc-more came front part more b parts = append_assoc came part more ∙ ap (λ (xs : List ℕ). came ++ xs) (ap (λ (xs : List ℕ). xs ++ more) parts ∙ append_assoc front (b ∷ []) more)
@@ -41,7 +41,7 @@ pub holds_back : (s next : LineProgress) (kept now came front part : List ℕ) (
     → IsStateMidLine s kept came → TookIn s next kept now front → IsStateAfter next now true (came ++ part)
 holds_back s next kept now came front part b parts is r took = let t = took r.keeps in record {
   keeps = t.0;
-  tells = λ more. ap (λ (xs : List ℕ). facts_of (without_cr xs)) (snoc-more came front part more b parts)
+  facts = λ more. ap (λ (xs : List ℕ). facts_of (without_cr xs)) (snoc-more came front part more b parts)
       ∙ tells_all s kept came r front b more ∙ t.1 (without_cr (b ∷ more)) ∙ ap (λ (x : ℕ). facts_with next now (without_cr (x ∷ more))) is;
 }
 
@@ -50,7 +50,7 @@ pub holds_none : (s next : LineProgress) (kept now came front part : List ℕ) (
     → IsStateMidLine s kept came → TookIn s next kept now part → IsStateAfter next now false (came ++ part)
 holds_none s next kept now came front part b parts isnt r took = let t = took r.keeps in record {
   keeps = t.0;
-  tells = λ more. ap (λ (xs : List ℕ). facts_of (without_cr xs)) (snoc-more came front part more b parts)
+  facts = λ more. ap (λ (xs : List ℕ). facts_of (without_cr xs)) (snoc-more came front part more b parts)
       ∙ tells_all s kept came r front b more
       ∙ ap (λ (xs : List ℕ). facts_with s kept xs) (ap (λ (xs : List ℕ). front ++ xs) (no_return b more isnt) ∙ sym (append_assoc front (b ∷ []) (without_cr more)) ∙ ap (λ (xs : List ℕ). xs ++ without_cr more) (sym parts))
       ∙ t.1 (without_cr more);

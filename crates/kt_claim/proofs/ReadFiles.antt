@@ -1,7 +1,7 @@
 -- The claim that is read from the left is a claim of the file.
 use Rattle.std.proofs.Common.{◌≡◌, ℕ, ◌-◌, ◌≤◌, true, false, not, List, [], ◌∷◌, ◌++◌, length, take, drop, Option, Some, None, refl, ap, sym, subst, ◌∙◌, append_assoc, inl, inr, arith, ◌==◌, nat_eq, nat_lt, MatchOption}
-use Rattle.kt_claim.proofs.Common.{prefix_len, ends_with, list_any, find, ltb-false, take-append-drop, bytes_eq-Decides, is_newline, newline, is_keyword_byte, limit, SpellsClaim, line, line_has_fault, fault_of, IsClaimOf, after_word, keyword_of, claim_of_keyword, claim_of_line, claim_of, ClaimFault, TooLong, Empty, NoNewline, SeveralLines, UnknownWord, BadNumber, UnexpectedReason, NoReason}
-use Rattle.kt_claim.specs.ResultFile.{word as first_word}
+use Rattle.kt_claim.proofs.Common.{prefix_len, ends_with, list_any, find, ltb-false, take-append-drop, bytes_eq-Decides, is_newline, newline, is_keyword_byte, limit, SpellsClaim, line, line_has_fault, fault_of, IsClaimOf, after_leading_keyword, keyword_of, claim_of_keyword, claim_of_line, claim_of, ClaimFault, TooLong, Empty, NoNewline, SeveralLines, UnknownWord, BadNumber, UnexpectedReason, NoReason}
+use Rattle.kt_claim.specs.ResultFile.{leading_keyword as first_word}
 use Rattle.kt_claim.specs.declared.evidence.Claim.TheVariants as claim
 use Rattle.kt_claim.proofs.Reasons.{row, under}
 use Rattle.kt_claim.proofs.Words.{any_right}
@@ -18,17 +18,17 @@ drop_clean n xs none = any_right (take n xs) (drop n xs) (ap (list_any is_newlin
 
 -- If `Read` holds of the parts of a file's line, `claim_of_keyword` gives the claim of the file, or
 -- its error.
-pub line_in_file : (file : List ℕ) → ends_with nat_eq file newline ≡ true → length file ≤ limit → Read (after_word file) (first_word file)
-    → MatchOption (find (line_has_fault (first_word file) (after_word file)) (UnknownWord ∷ BadNumber ∷ UnexpectedReason ∷ NoReason ∷ []))
-    ((length file ≤ limit) × SpellsClaim file (claim_of_keyword (keyword_of (first_word file)) (after_word file))) (λ g. claim_of_keyword (keyword_of (first_word file)) (after_word file) ≡ claim.Malformed g)
+pub line_in_file : (file : List ℕ) → ends_with nat_eq file newline ≡ true → length file ≤ limit → Read (after_leading_keyword file) (first_word file)
+    → MatchOption (find (line_has_fault (first_word file) (after_leading_keyword file)) (UnknownWord ∷ BadNumber ∷ UnexpectedReason ∷ NoReason ∷ []))
+    ((length file ≤ limit) × SpellsClaim file (claim_of_keyword (keyword_of (first_word file)) (after_leading_keyword file))) (λ g. claim_of_keyword (keyword_of (first_word file)) (after_leading_keyword file) ≡ claim.Malformed g)
 line_in_file file ends short found =
-    under (find (line_has_fault (first_word file) (after_word file)) (UnknownWord ∷ BadNumber ∷ UnexpectedReason ∷ NoReason ∷ [])) (claim_of_keyword (keyword_of (first_word file)) (after_word file))
-    (SpellsClaim (first_word file ++ (after_word file ++ newline)) (claim_of_keyword (keyword_of (first_word file)) (after_word file)))
-    ((length file ≤ limit) × SpellsClaim file (claim_of_keyword (keyword_of (first_word file)) (after_word file)))
+    under (find (line_has_fault (first_word file) (after_leading_keyword file)) (UnknownWord ∷ BadNumber ∷ UnexpectedReason ∷ NoReason ∷ [])) (claim_of_keyword (keyword_of (first_word file)) (after_leading_keyword file))
+    (SpellsClaim (first_word file ++ (after_leading_keyword file ++ newline)) (claim_of_keyword (keyword_of (first_word file)) (after_leading_keyword file)))
+    ((length file ≤ limit) × SpellsClaim file (claim_of_keyword (keyword_of (first_word file)) (after_leading_keyword file)))
     (λ said. (
       short,
-      subst (λ (xs : List ℕ). SpellsClaim xs (claim_of_keyword (keyword_of (first_word file)) (after_word file)))
-          (sym (append_assoc (first_word file) (after_word file) newline) ∙ ap (λ (xs : List ℕ). xs ++ newline) (take-append-drop (prefix_len is_keyword_byte (line file)) (line file))
+      subst (λ (xs : List ℕ). SpellsClaim xs (claim_of_keyword (keyword_of (first_word file)) (after_leading_keyword file)))
+          (sym (append_assoc (first_word file) (after_leading_keyword file) newline) ∙ ap (λ (xs : List ℕ). xs ++ newline) (take-append-drop (prefix_len is_keyword_byte (line file)) (line file))
           ∙ line_and_newline file ends) said,
     ))
     found
@@ -41,7 +41,7 @@ read_file file =
     row (not (ends_with nat_eq file newline)) NoNewline _ _ (λ c. (length file ≤ limit) × SpellsClaim file c) (λ ends.
     row (list_any is_newline (line file)) SeveralLines _ _ (λ c. (length file ≤ limit) × SpellsClaim file c) (λ one.
     line_in_file file (not-false (ends_with nat_eq file newline) ends) (omega (arith, ltb-false limit (length file) short))
-    (read_word (first_word file) (after_word file) (drop_clean (prefix_len is_keyword_byte (line file)) (line file) one))))))
+    (read_word (first_word file) (after_leading_keyword file) (drop_clean (prefix_len is_keyword_byte (line file)) (line file) one))))))
 
 pub claims_at : (o : Option ClaimFault) (file : List ℕ) → fault_of file ≡ o → MatchOption o ((length file ≤ limit) × SpellsClaim file (claim_of file)) (λ g. claim_of file ≡ claim.Malformed g) → IsClaimOf file (claim_of file)
 claims_at None file e h = inl h

@@ -1,18 +1,18 @@
 -- A tally with one more line.
 use Rattle.std.proofs.Common.{◌≡◌, ℕ, ◌+◌, ◌<◌, ◌^◌, Bool, true, false, List, [], ◌∷◌, ◌++◌, length, Option, Some, None, Result, Ok, Err, refl, ap, sym, subst, ◌∙◌, arith, ◌&&◌, ◌||◌, is_some, IfOk}
-use Rattle.kt_claim.proofs.Common.{list_any, filter_map, append-nil, Facts, facts_of, no_facts, bail_out_facts, test_facts, plan_facts, option_or, is_bail_out, is_test, is_unexcused, plan, count, lines_before_bail_out, tap_of_lines, IsTally, one, first, has_second, with_plan, Tally}
-use Rattle.kt_claim.proofs.Counts.{any-snoc, heard_none, heard_bail, heard_more, lines_before_bail_out-le, count-snoc, count-le, plans-snoc, first-snoc, second-snoc}
+use Rattle.kt_claim.proofs.Common.{list_any, filter_map, append-nil, Facts, facts_of, no_facts, bail_out_facts, test_facts, plan_facts, option_or, is_bail_out, is_test, is_unexcused, plan, count, lines_before_bail_out, tap_of_lines, IsTally, one_if, first_item, has_second, with_plan, Tally}
+use Rattle.kt_claim.proofs.Counts.{any-snoc, heard_none, heard_bail, heard_more, lines_before_bail_out-le, count-snoc, count-le, plans-snoc, first_item-snoc, second-snoc}
 use Rattle.std.proofs.Math.Bool.{or-false}
 
 -- ---- a tally and a line
 
 -- A line that doesn't count leaves the tally as it is.
 pub same_heard : (t : Tally) (ls ms : List (List ℕ)) → lines_before_bail_out ms ≡ lines_before_bail_out ls → t.bailed ≡ list_any is_bail_out ms
-    → t.plan ≡ first (filter_map plan (lines_before_bail_out ls)) → t.second ≡ has_second (filter_map plan (lines_before_bail_out ls))
+    → t.plan ≡ first_item (filter_map plan (lines_before_bail_out ls)) → t.second ≡ has_second (filter_map plan (lines_before_bail_out ls))
     → t.tests ≡ count is_test (lines_before_bail_out ls) → t.failures ≡ count is_unexcused (lines_before_bail_out ls) → IsTally t ms
 same_heard t ls ms same bailed planned second tests failures = record {
   bailed = bailed;
-  planned = planned ∙ ap (λ (zs : List (List ℕ)). first (filter_map plan zs)) (sym same);
+  planned = planned ∙ ap (λ (zs : List (List ℕ)). first_item (filter_map plan zs)) (sym same);
   second = second ∙ ap (λ (zs : List (List ℕ)). has_second (filter_map plan zs)) (sym same);
   tests = tests ∙ ap (count is_test) (sym same);
   failures = failures ∙ ap (count is_unexcused) (sym same);
@@ -27,21 +27,21 @@ after_bail t line lines bailed h =
 -- A line before the first bail out is added to the tally.
 pub more_heard : (old new : Tally) (line : List ℕ) (lines : List (List ℕ)) → old.bailed ≡ false → is_bail_out line ≡ false → new.bailed ≡ false
     → new.plan ≡ option_or old.plan (plan line) → new.second ≡ (old.second || (is_some old.plan && is_some (plan line)))
-    → new.tests ≡ old.tests + one (is_test line) → new.failures ≡ old.failures + one (is_unexcused line)
+    → new.tests ≡ old.tests + one_if (is_test line) → new.failures ≡ old.failures + one_if (is_unexcused line)
     → IsTally old lines → IsTally new (lines ++ line ∷ [])
 more_heard old new line lines was isnt goes plans seconds tests failures h =
     let none : list_any is_bail_out lines ≡ false = sym h.bailed ∙ was in
     let more : lines_before_bail_out (lines ++ line ∷ []) ≡ lines_before_bail_out lines ++ line ∷ [] = heard_more lines line none isnt in
     record {
       bailed = goes ∙ sym (any-snoc is_bail_out lines line ∙ ap (λ (b : Bool). b || is_bail_out line) none ∙ isnt);
-      planned = plans ∙ ap (λ (o : Option (ℕ × List ℕ)). option_or o (plan line)) h.planned ∙ sym (first-snoc (filter_map plan (lines_before_bail_out lines)) (plan line))
-          ∙ sym (ap first (plans-snoc (lines_before_bail_out lines) line)) ∙ ap (λ (zs : List (List ℕ)). first (filter_map plan zs)) (sym more);
+      planned = plans ∙ ap (λ (o : Option (ℕ × List ℕ)). option_or o (plan line)) h.planned ∙ sym (first_item-snoc (filter_map plan (lines_before_bail_out lines)) (plan line))
+          ∙ sym (ap first_item (plans-snoc (lines_before_bail_out lines) line)) ∙ ap (λ (zs : List (List ℕ)). first_item (filter_map plan zs)) (sym more);
       second = seconds ∙ ap (λ (b : Bool). b || (is_some old.plan && is_some (plan line))) h.second
           ∙ ap (λ (o : Option (ℕ × List ℕ)). has_second (filter_map plan (lines_before_bail_out lines)) || (is_some o && is_some (plan line))) h.planned
           ∙ sym (second-snoc (filter_map plan (lines_before_bail_out lines)) (plan line)) ∙ sym (ap has_second (plans-snoc (lines_before_bail_out lines) line))
           ∙ ap (λ (zs : List (List ℕ)). has_second (filter_map plan zs)) (sym more);
-      tests = tests ∙ ap (λ (n : ℕ). n + one (is_test line)) h.tests ∙ sym (count-snoc is_test (lines_before_bail_out lines) line) ∙ ap (count is_test) (sym more);
-      failures = failures ∙ ap (λ (n : ℕ). n + one (is_unexcused line)) h.failures ∙ sym (count-snoc is_unexcused (lines_before_bail_out lines) line) ∙ ap (count is_unexcused) (sym more);
+      tests = tests ∙ ap (λ (n : ℕ). n + one_if (is_test line)) h.tests ∙ sym (count-snoc is_test (lines_before_bail_out lines) line) ∙ ap (count is_test) (sym more);
+      failures = failures ∙ ap (λ (n : ℕ). n + one_if (is_unexcused line)) h.failures ∙ sym (count-snoc is_unexcused (lines_before_bail_out lines) line) ∙ ap (count is_unexcused) (sym more);
     }
 
 pub few_tests : (t : Tally) (lines : List (List ℕ)) → length lines < 2 ^ 32 → IsTally t lines → t.tests < 2 ^ 32
@@ -61,15 +61,15 @@ or_and_false false false = refl
 
 -- A line without a plan leaves the plan of the tally as it is.
 pub no_plan : (old new : Tally) (line : List ℕ) (lines : List (List ℕ)) (tests fails : Bool) → facts_of line ≡ test_facts tests fails → old.bailed ≡ false → new.bailed ≡ false
-    → new.plan ≡ old.plan → new.second ≡ old.second → new.tests ≡ old.tests + one tests → new.failures ≡ old.failures + one fails
+    → new.plan ≡ old.plan → new.second ≡ old.second → new.tests ≡ old.tests + one_if tests → new.failures ≡ old.failures + one_if fails
     → IsTally old lines → IsTally new (lines ++ line ∷ [])
 no_plan old new line lines tests fails is was goes plans seconds more worse h =
     let none : plan line ≡ None = ap (λ (f : Facts). f.plans) is in
     more_heard old new line lines was (ap (λ (f : Facts). f.bails) is) goes
     (plans ∙ option_or_none old.plan ∙ ap (option_or old.plan) (sym none))
     (seconds ∙ or_and_false old.second (is_some old.plan) ∙ ap (λ (o : Option (ℕ × List ℕ)). old.second || (is_some old.plan && is_some o)) (sym none))
-    (more ∙ ap (λ (b : Bool). old.tests + one b) (sym (ap (λ (f : Facts). f.tests) is)))
-    (worse ∙ ap (λ (b : Bool). old.failures + one b) (sym (ap (λ (f : Facts). f.fails) is))) h
+    (more ∙ ap (λ (b : Bool). old.tests + one_if b) (sym (ap (λ (f : Facts). f.tests) is)))
+    (worse ∙ ap (λ (b : Bool). old.failures + one_if b) (sym (ap (λ (f : Facts). f.fails) is))) h
 
 pub with_other : (t : Tally) (line : List ℕ) (lines : List (List ℕ)) → facts_of line ≡ no_facts → t.bailed ≡ false → IsTally t lines → IsTally t (lines ++ line ∷ [])
 with_other t line lines is was h = no_plan t t line lines false false is was was refl refl (omega arith) (omega arith) h
@@ -117,16 +117,16 @@ planned_at t None line lines n reason has is was h =
     (more_heard t (record t { plan = Some (n, reason) }) line lines was (ap (λ (f : Facts). f.bails) is) was
     (sym (ap (λ (o : Option (ℕ × List ℕ)). option_or o (plan line)) has ∙ this))
     (or_and_none t.second t.plan (plan line) has)
-    (omega (arith, ap one (ap (λ (f : Facts). f.tests) is)))
-    (omega (arith, ap one (ap (λ (f : Facts). f.fails) is))) h)
+    (omega (arith, ap one_if (ap (λ (f : Facts). f.tests) is)))
+    (omega (arith, ap one_if (ap (λ (f : Facts). f.fails) is))) h)
 planned_at t (Some p) line lines n reason has is was h =
     let this : plan line ≡ Some (n, reason) = ap (λ (f : Facts). f.plans) is in
     subst (λ (m : Tally). IsTally m (lines ++ line ∷ [])) (second_plan t n reason (ap is_some has))
     (more_heard t (record t { second = true }) line lines was (ap (λ (f : Facts). f.bails) is) was
     (has ∙ sym (ap (λ (o : Option (ℕ × List ℕ)). option_or o (plan line)) has))
     (or_and_some t.second t.plan (plan line) p (n, reason) has this)
-    (omega (arith, ap one (ap (λ (f : Facts). f.tests) is)))
-    (omega (arith, ap one (ap (λ (f : Facts). f.fails) is))) h)
+    (omega (arith, ap one_if (ap (λ (f : Facts). f.tests) is)))
+    (omega (arith, ap one_if (ap (λ (f : Facts). f.fails) is))) h)
 
 pub with_one_plan : (t new : Tally) (line : List ℕ) (lines : List (List ℕ)) (n : ℕ) (reason : List ℕ) → facts_of line ≡ plan_facts (Some (n, reason)) → t.bailed ≡ false
     → new ≡ with_plan t n reason → IsTally t lines → IsTally new (lines ++ line ∷ [])

@@ -4,7 +4,7 @@ use Rattle.std.specs.List.{prefix_len, starts_with, ends_with, list_any, list_al
 use Rattle.kt_base.specs.Lossy.{lossy}
 use Rattle.kt_base.specs.Digits.{is_digit}
 use Rattle.kt_base.specs.Lines.{is_newline}
-use Rattle.kt_claim.specs.Bytes.{newline, is_keyword_byte, number}
+use Rattle.kt_claim.specs.Bytes.{newline, is_keyword_byte, decimal_value}
 use Rattle.kt_claim.specs.declared.evidence.Claim.{Claim}
 use Rattle.kt_claim.specs.declared.evidence.Claim.TheVariants.{Malformed, Passed, Failed, Skipped, ExpectedFailure, ExpectedDeath, ExpectedTimeout, ExpectedExit, ExpectedSignal}
 use Rattle.kt_claim.specs.declared.evidence.ClaimFault.{ClaimFault}
@@ -23,7 +23,7 @@ IsReason reason = (0 < length reason) × (list_any is_newline reason ≡ false)
 -- `IsNumber digits`: `digits` are one decimal digit or more, and spell a number less than 256. The
 -- number is an exit status or a signal.
 abbrev pub IsNumber : List ℕ → Type 0
-IsNumber digits = (0 < length digits) × (list_all is_digit digits ≡ true) × (number digits < 256)
+IsNumber digits = (0 < length digits) × (list_all is_digit digits ≡ true) × (decimal_value digits < 256)
 
 -- `reason_suffix reason`: the bytes after a keyword without a number: a colon, a space, `reason`
 -- and a newline.
@@ -45,8 +45,8 @@ pub data SpellsClaim : List ℕ → Claim → Type 0 where
   expected_timeout : (r : List ℕ) → IsReason r → SpellsClaim (codes "expected_timeout" ++ reason_suffix r) (ExpectedTimeout (lossy r))
   expected_exit : (r : List ℕ) → IsReason r → SpellsClaim (codes "expected_exit" ++ reason_suffix r) (ExpectedExit None (lossy r))
   expected_signal : (r : List ℕ) → IsReason r → SpellsClaim (codes "expected_signal" ++ reason_suffix r) (ExpectedSignal None (lossy r))
-  expected_exit_of : (n r : List ℕ) → IsNumber n → IsReason r → SpellsClaim (codes "expected_exit" ++ number_suffix n r) (ExpectedExit (Some (number n)) (lossy r))
-  expected_signal_of : (n r : List ℕ) → IsNumber n → IsReason r → SpellsClaim (codes "expected_signal" ++ number_suffix n r) (ExpectedSignal (Some (number n)) (lossy r))
+  expected_exit_of : (n r : List ℕ) → IsNumber n → IsReason r → SpellsClaim (codes "expected_exit" ++ number_suffix n r) (ExpectedExit (Some (decimal_value n)) (lossy r))
+  expected_signal_of : (n r : List ℕ) → IsNumber n → IsReason r → SpellsClaim (codes "expected_signal" ++ number_suffix n r) (ExpectedSignal (Some (decimal_value n)) (lossy r))
 
 -- ---- files with an error
 
@@ -54,27 +54,27 @@ pub data SpellsClaim : List ℕ → Claim → Type 0 where
 abbrev pub line : List ℕ → List ℕ
 line file = take (length file - 1) file
 
--- `word file`: the letters from a to z and underscores that the line of `file` begins with.
-abbrev pub word : List ℕ → List ℕ
-word file = take (prefix_len is_keyword_byte (line file)) (line file)
+-- `leading_keyword file`: the letters from a to z and underscores that the line of `file` begins with.
+abbrev pub leading_keyword : List ℕ → List ℕ
+leading_keyword file = take (prefix_len is_keyword_byte (line file)) (line file)
 
--- `after_word file`: the bytes of the file's line after `word file`.
-abbrev pub after_word : List ℕ → List ℕ
-after_word file = drop (prefix_len is_keyword_byte (line file)) (line file)
+-- `after_leading_keyword file`: the bytes of the file's line after `leading_keyword file`.
+abbrev pub after_leading_keyword : List ℕ → List ℕ
+after_leading_keyword file = drop (prefix_len is_keyword_byte (line file)) (line file)
 
--- `is expected found`: `found` is the keyword `expected`.
-abbrev pub is : List ℕ → List ℕ → Bool
-is expected found = bytes_eq found expected
+-- `is_keyword expected found`: `found` is the keyword `expected`.
+abbrev pub is_keyword : List ℕ → List ℕ → Bool
+is_keyword expected found = bytes_eq found expected
 
--- `takes_number w`: the keyword `w` may have a number.
-abbrev pub takes_number : List ℕ → Bool
-takes_number w = is (codes "expected_exit") w || is (codes "expected_signal") w
+-- `allows_number w`: the keyword `w` may have a number.
+abbrev pub allows_number : List ℕ → Bool
+allows_number w = is_keyword (codes "expected_exit") w || is_keyword (codes "expected_signal") w
 
 -- `is_known w`: `w` is a keyword of result files.
 abbrev pub is_known : List ℕ → Bool
 is_known w =
-    is (codes "passed") w || is (codes "failed") w || is (codes "skipped") w || is (codes "expected_death") w
-    || is (codes "expected_failure") w || is (codes "expected_timeout") w || takes_number w
+    is_keyword (codes "passed") w || is_keyword (codes "failed") w || is_keyword (codes "skipped") w || is_keyword (codes "expected_death") w
+    || is_keyword (codes "expected_failure") w || is_keyword (codes "expected_timeout") w || allows_number w
 
 -- `has_bracket rest`: `rest` begins with an opening round bracket.
 abbrev pub has_bracket : List ℕ → Bool
@@ -97,7 +97,7 @@ after_digits rest = drop (prefix_len is_digit (drop 1 rest)) (drop 1 rest)
 -- `has_number rest`: a number less than 256 and a closing bracket follow the first byte of `rest`,
 -- which is an opening bracket.
 abbrev pub has_number : List ℕ → Bool
-has_number rest = nat_lt 0 (length (digits rest)) && nat_lt (number (digits rest)) 256 && has_closing_bracket (after_digits rest)
+has_number rest = nat_lt 0 (length (digits rest)) && nat_lt (decimal_value (digits rest)) 256 && has_closing_bracket (after_digits rest)
 
 -- `after_number rest`: the bytes of `rest` after the number in round brackets that it begins with.
 -- If `rest` doesn't begin with an opening bracket, it has no number, and the result is `rest`.
@@ -115,19 +115,19 @@ has_reason rest = starts_with nat_eq rest (codes ": ") && nat_lt 2 (length rest)
 -- result has a meaning only if no earlier error of `fault_order` applies.
 abbrev pub line_has_fault : List ℕ → List ℕ → ClaimFault → Bool
 line_has_fault w rest UnknownWord = not (is_known w)
-line_has_fault w rest BadNumber = has_bracket rest && not (takes_number w && has_number rest)
-line_has_fault w rest UnexpectedReason = is (codes "passed") w && nat_lt 0 (length rest)
-line_has_fault w rest NoReason = not (is (codes "passed") w) && not (has_reason (after_number rest))
+line_has_fault w rest BadNumber = has_bracket rest && not (allows_number w && has_number rest)
+line_has_fault w rest UnexpectedReason = is_keyword (codes "passed") w && nat_lt 0 (length rest)
+line_has_fault w rest NoReason = not (is_keyword (codes "passed") w) && not (has_reason (after_number rest))
 line_has_fault w rest _ = false
 
--- `fits file fault`: the error `fault` applies to `file`. The result has a meaning only if no
+-- `has_fault file fault`: the error `fault` applies to `file`. The result has a meaning only if no
 -- earlier error of `fault_order` applies.
-abbrev pub fits : List ℕ → ClaimFault → Bool
-fits file TooLong = nat_lt limit (length file)
-fits file Empty = length file == 0
-fits file NoNewline = not (ends_with nat_eq file newline)
-fits file SeveralLines = list_any is_newline (line file)
-fits file fault = line_has_fault (word file) (after_word file) fault
+abbrev pub has_fault : List ℕ → ClaimFault → Bool
+has_fault file TooLong = nat_lt limit (length file)
+has_fault file Empty = length file == 0
+has_fault file NoNewline = not (ends_with nat_eq file newline)
+has_fault file SeveralLines = list_any is_newline (line file)
+has_fault file fault = line_has_fault (leading_keyword file) (after_leading_keyword file) fault
 
 -- `fault_order`: the errors of result files, in the order in which they are checked. A file has the
 -- first error that applies to it.
@@ -137,7 +137,7 @@ fault_order = TooLong ∷ Empty ∷ NoNewline ∷ SeveralLines ∷ UnknownWord �
 -- `fault_of file`: the first error of `fault_order` that applies to `file`, or `None` if `file` is
 -- valid.
 abbrev pub fault_of : List ℕ → Option ClaimFault
-fault_of file = find (fits file) fault_order
+fault_of file = find (has_fault file) fault_order
 
 -- ---- all files
 

@@ -24,9 +24,9 @@ abbrev pub RepresentsStream : Bool → TapReaderState → List ℕ → Type 0
 RepresentsStream true reader fed = limit < length fed
 RepresentsStream false reader fed = (reader.length ≡ length fed) × (length fed ≤ limit) × HasLines reader.tally reader.line fed
 
--- `HasStream reader fed`: `reader` has read the bytes `fed`, and no allocation failed.
-abbrev pub HasStream : TapReaderState → List ℕ → Type 0
-HasStream reader fed = (reader.failed ≡ false) × RepresentsStream reader.too_long reader fed
+-- `HasReadStream reader fed`: `reader` has read the bytes `fed`, and no allocation failed.
+abbrev pub HasReadStream : TapReaderState → List ℕ → Type 0
+HasReadStream reader fed = (reader.failed ≡ false) × RepresentsStream reader.too_long reader fed
 
 -- `KeepsOnlyReason line fed`: after the bytes `fed` of a TAP stream, the state `line` of the open
 -- line keeps no bytes, or only bytes of a reason. In the second case, the open line is a plan of no
@@ -35,4 +35,4 @@ abbrev pub KeepsOnlyReason : LineState → List ℕ → Type 0
 KeepsOnlyReason line fed =
     (line.kept ≡ [])
     ⊎ ((whole : List (List ℕ)) × (came : List ℕ) × ((more : List ℕ) → lines (fed ++ more) ≡ whole ++ lines (came ++ more))
-    × ((more : List ℕ) → plan (without_cr (came ++ more)) ≡ Some (0, skip_reason (without_trailing_blanks (line.kept ++ without_cr (with_held_cr line.held more))))))
+    × ((more : List ℕ) → plan (without_cr (came ++ more)) ≡ Some (0, skip_reason (without_trailing_blanks (line.kept ++ without_cr (with_held_cr line.held_cr more))))))

@@ -36,22 +36,22 @@ begins [] text = true
 begins (c ∷ word) [] = false
 begins (c ∷ word) (b ∷ text) = b == c && begins word text
 
--- `says word text`: `text` begins with `word`, in upper or lower case. `word` itself is in lower
+-- `begins_ignoring_case word text`: `text` begins with `word`, in upper or lower case. `word` itself is in lower
 -- case.
-abbrev pub says : List ℕ → List ℕ → Bool
-says [] text = true
-says (c ∷ word) [] = false
-says (c ∷ word) (b ∷ text) = to_ascii_lowercase b == c && says word text
+abbrev pub begins_ignoring_case : List ℕ → List ℕ → Bool
+begins_ignoring_case [] text = true
+begins_ignoring_case (c ∷ word) [] = false
+begins_ignoring_case (c ∷ word) (b ∷ text) = to_ascii_lowercase b == c && begins_ignoring_case word text
 
 -- `without_leading test text`: `text` without the bytes before the first byte that fails `test`.
 abbrev pub without_leading : (ℕ → Bool) → List ℕ → List ℕ
 without_leading test [] = []
 without_leading test (b ∷ text) = if test b then without_leading test text else b ∷ text
 
--- `front test text`: the bytes of `text` before the first byte that fails `test`.
-abbrev pub front : (ℕ → Bool) → List ℕ → List ℕ
-front test [] = []
-front test (b ∷ text) = if test b then b ∷ front test text else []
+-- `leading_bytes test text`: the bytes of `text` before the first byte that fails `test`.
+abbrev pub leading_bytes : (ℕ → Bool) → List ℕ → List ℕ
+leading_bytes test [] = []
+leading_bytes test (b ∷ text) = if test b then b ∷ leading_bytes test text else []
 
 -- `is_not_blank b`: `b` is neither a space nor a tab.
 abbrev pub is_not_blank : ℕ → Bool
@@ -100,21 +100,21 @@ reason_of text = without_trailing_blanks (without_leading is_blank (without_lead
 -- `directive_at text`: the directive that `text` begins with, if any.
 abbrev pub directive_at : List ℕ → Option Directive
 directive_at text =
-    if says (codes "todo") text then Some (false, reason_of (drop 4 text))
-    else if says (codes "skip") text then Some (true, reason_of (drop 4 text))
+    if begins_ignoring_case (codes "todo") text then Some (false, reason_of (drop 4 text))
+    else if begins_ignoring_case (codes "skip") text then Some (true, reason_of (drop 4 text))
     else None
 
--- `state_after_hash escaped b rest`: the directive in `rest` after its leading blanks, if any. `b`
+-- `directive_after_hash escaped b rest`: the directive in `rest` after its leading blanks, if any. `b`
 -- is the byte before `rest`, and `escaped` is true if a backslash precedes `b`. Unless `b` is a
 -- hash (35) and `escaped` is false, there is no directive.
-abbrev pub state_after_hash : Bool → ℕ → List ℕ → Option Directive
-state_after_hash escaped b rest = if b == 35 && not escaped then directive_at (without_leading is_blank rest) else None
+abbrev pub directive_after_hash : Bool → ℕ → List ℕ → Option Directive
+directive_after_hash escaped b rest = if b == 35 && not escaped then directive_at (without_leading is_blank rest) else None
 
 -- `directive_in escaped text`: the first directive in `text`, if any. `escaped` is true if a
 -- backslash precedes `text`.
 abbrev pub directive_in : Bool → List ℕ → Option Directive
 directive_in escaped [] = None
-directive_in escaped (b ∷ rest) = option_or (state_after_hash escaped b rest) (directive_in (b == 92) rest)
+directive_in escaped (b ∷ rest) = option_or (directive_after_hash escaped b rest) (directive_in (b == 92) rest)
 
 -- `directive line`: the first directive in `line`, if any.
 abbrev pub directive : List ℕ → Option Directive
@@ -148,7 +148,7 @@ value_from (Some n) digits = below_limit (decimal_from n digits)
 -- at the start of `text` spell. After the digits, only blanks may precede the end or a hash,
 -- otherwise the result is `None`. `value` is the value of the earlier digits, if any.
 abbrev pub planned_from : Option ℕ → List ℕ → Option ℕ
-planned_from value text = if is_plan_end (without_leading is_blank (without_leading is_digit text)) then value_from value (front is_digit text) else None
+planned_from value text = if is_plan_end (without_leading is_blank (without_leading is_digit text)) then value_from value (leading_bytes is_digit text) else None
 
 -- `planned line`: the number of tests that `line` plans, or `None` if `line` is not a plan.
 abbrev pub planned : List ℕ → Option ℕ

@@ -1,7 +1,7 @@
 //! Reads the parts of a TAP line, and finds the kind of the line at its end.
 
 ghost use Rattle.std.specs.Prelude.{◌≡◌, ◌∷◌, ◌++◌, ℕ, List, [], IfOk, OnOk, None, false, true};
-ghost use Rattle.kt_claim.specs.Common.{facts_with, is_reason_byte, is_kind_known, KeepsIfReason, IsStateAfter, IsStateMidLine, without_trailing_blanks, after_opening, directive_facts, facts_of_kind, is_reason};
+ghost use Rattle.kt_claim.specs.Common.{facts_with, is_reason_byte, is_kind_known, KeepsIfReason, IsStateAfter, IsStateMidLine, without_trailing_blanks, facts_after_opening, directive_facts, facts_of_kind, is_reason};
 
 use crate::open_line::{DirectivePurpose, LineKind, LineProgress, OpenLine, Opening};
 use crate::line_steps::{PLAN_TESTS_LIMIT, is_blank, state_after_byte};
@@ -23,7 +23,7 @@ pub fn trim_trailing_blanks(text: &[u8]) -> &[u8]
 
 /// Returns the kind of a TAP line that consists of the opening `opening` alone, such as `ok`.
 fn kind_of_opening(opening: Opening) -> LineKind
-    ensures { facts_of_kind result [] ≡ after_opening opening [] }
+    ensures { facts_of_kind result [] ≡ facts_after_opening opening [] }
 {
     match opening {
         Opening::BailOut => LineKind::Bail,
@@ -158,7 +158,7 @@ fn feed_bytes(
     Ok(state)
 }
 
-/// Reads a carriage return that an earlier call held back, if `held` is `true`, and returns the new
+/// Reads a carriage return that an earlier call held back, if `held_cr` is `true`, and returns the new
 /// state of the TAP line.
 ///
 /// `begun` is the state of the line before the carriage return, and `kept` has the kept bytes of
@@ -167,12 +167,12 @@ fn feed_bytes(
 fn feed_carriage_return(
     begun: LineProgress,
     kept: &mut Vec<u8>,
-    held: bool,
+    held_cr: bool,
 ) -> Result<LineProgress, NoMemory>
-    ensures { IfOk result (λ after. (came : List ℕ) → IsStateAfter begun kept.old.items held came
+    ensures { IfOk result (λ after. (came : List ℕ) → IsStateAfter begun kept.old.items held_cr came
         → IsStateMidLine after kept.new.items came) }
 {
-    if held {
+    if held_cr {
         feed_bytes(begun, kept, b"\r")
     } else {
         Ok(begun)
@@ -189,19 +189,19 @@ fn feed_carriage_return(
 /// - `NoMemory`: an allocation fails.
 pub fn feed_line(line: &mut OpenLine, part: &[u8]) -> Result<(), NoMemory>
     ensures { OnOk result ((came : List ℕ)
-        → IsStateAfter line.old.begun line.old.kept.items line.old.held came
-        → IsStateAfter line.new.begun line.new.kept.items line.new.held (came ++ part.now)) }
+        → IsStateAfter line.old.begun line.old.kept.items line.old.held_cr came
+        → IsStateAfter line.new.begun line.new.kept.items line.new.held_cr (came ++ part.now)) }
 {
     let Some((last, front)) = part.split_last() else {
         return Ok(());
     };
-    let begun = feed_carriage_return(line.begun, &mut line.kept, line.held)?;
+    let begun = feed_carriage_return(line.begun, &mut line.kept, line.held_cr)?;
     if *last == b'\r' {
         line.begun = feed_bytes(begun, &mut line.kept, front)?;
-        line.held = true;
+        line.held_cr = true;
         return Ok(());
     }
     line.begun = feed_bytes(begun, &mut line.kept, part)?;
-    line.held = false;
+    line.held_cr = false;
     Ok(())
 }

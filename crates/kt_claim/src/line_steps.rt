@@ -1,7 +1,7 @@
 //! Computes the state of a TAP line after one more byte.
 
 ghost use Rattle.std.specs.Prelude.{◌≡◌, [], ◌∷◌, ℕ, List, false, option_map, Some, true, ◌<◌, ◌^◌, ◌-◌};
-ghost use Rattle.kt_claim.specs.Common.{is_digit, is_blank, directive_in, planned_from, below_limit, reason_of, reason_of_skip, plan_for, facts_of, plan_facts, after_opening, opened, directive_facts, directive_after_letters, facts_with, is_reason_byte, is_reason, next_letter, facts_after_letter};
+ghost use Rattle.kt_claim.specs.Common.{is_digit, is_blank, directive_in, planned_from, below_limit, reason_of, reason_of_skip, plan_for, facts_of, plan_facts, facts_after_opening, facts_within_opening, directive_facts, directive_after_letters, facts_with, is_reason_byte, is_reason, next_letter, facts_after_letter};
 
 use crate::open_line::{DirectivePrefix, DirectivePurpose, LineKind, LineProgress, Opening};
 use kt_base::is_digit;
@@ -216,7 +216,7 @@ fn state_after_plan_digits(value: Option<u64>, b: u8) -> LineProgress
 /// Returns the state of a TAP line after the complete opening `opening` and the byte `b`.
 fn state_after_opening(opening: Opening, b: u8) -> LineProgress
     ensures facts { (kept more : List ℕ) → facts_with result kept more
-        ≡ after_opening opening (b ∷ more) }
+        ≡ facts_after_opening opening (b ∷ more) }
     ensures plain { is_reason result ≡ false }
 {
     match opening {

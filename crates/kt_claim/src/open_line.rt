@@ -84,5 +84,5 @@ pub struct OpenLine {
     pub kept: Vec<u8>,
     /// `true` if the last byte was a carriage return, which belongs to the line only if more bytes
     /// of the line follow.
-    pub held: bool,
+    pub held_cr: bool,
 }

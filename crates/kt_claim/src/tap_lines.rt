@@ -36,7 +36,7 @@ fn end_line(alloc: Global, tally: Tally, line: &mut OpenLine) -> Result<Tally, N
     )?;
     line.begun = LineProgress::Nothing;
     line.kept.clear();
-    line.held = false;
+    line.held_cr = false;
     Ok(after)
 }
 

@@ -48,11 +48,11 @@ impl Model for TapReader {
 
 impl TapReader {
     ghost use Rattle.std.specs.Prelude.{false, ◌≡◌, ◌++◌, ℕ, List, [], true, IfOk, OnOk, OnErr, IsErr};
-    ghost use Rattle.kt_claim.specs.Common.{HasStream, KeepsOnlyReason, tap_of};
+    ghost use Rattle.kt_claim.specs.Common.{HasReadStream, KeepsOnlyReason, tap_of};
 
     /// Creates a reader of a TAP stream, which has read nothing. The call doesn't allocate.
     pub fn new(alloc: Global) -> Self
-        ensures { HasStream result [] }
+        ensures { HasReadStream result [] }
     {
         TapReader {
             alloc,
@@ -60,7 +60,7 @@ impl TapReader {
             line: OpenLine {
                 begun: LineProgress::Nothing,
                 kept: Vec::new(alloc),
-                held: false,
+                held_cr: false,
             },
             length: 0,
             too_long: false,
@@ -76,9 +76,9 @@ impl TapReader {
     ///
     /// - `NoMemory`: an allocation fails in this call, or failed in an earlier call.
     pub fn feed(&mut self, piece: &[u8]) -> Result<(), NoMemory>
-        ensures ok { OnOk result ((fed : List ℕ) → HasStream self.old fed
-            → HasStream self.new (fed ++ piece.now)) }
-        ensures bounded { (fed : List ℕ) → HasStream self.new fed → self.new.too_long ≡ false
+        ensures ok { OnOk result ((fed : List ℕ) → HasReadStream self.old fed
+            → HasReadStream self.new (fed ++ piece.now)) }
+        ensures bounded { (fed : List ℕ) → HasReadStream self.new fed → self.new.too_long ≡ false
             → KeepsOnlyReason self.new.line fed }
         ensures err { OnErr result (self.new.failed ≡ true) }
         ensures failed { self.old.failed ≡ true → IsErr result }
@@ -109,7 +109,7 @@ impl TapReader {
     ///
     /// - `NoMemory`: an allocation fails in this call, or failed in an earlier call.
     pub fn finish(self) -> Result<Tap, NoMemory>
-        ensures value { (fed : List ℕ) → HasStream self fed
+        ensures value { (fed : List ℕ) → HasReadStream self fed
             → IfOk result (λ tap. tap ≡ tap_of fed) }
         ensures failed { self.failed ≡ true → IsErr result }
     {

@@ -30,7 +30,7 @@ pub use Rattle.kt_sched.specs.EntryOf.{AreEntries, PutsInOrder, IsEntry, IsEntry
 pub use Rattle.kt_sched.specs.Plan.{IsPlan}
 pub use Rattle.kt_sched.specs.RecordOrder.{ScheduledPut, recorded}
 pub use Rattle.kt_sched.specs.Run.{EndsAs}
-pub use Rattle.kt_sched.specs.Trace.{Event, NoEvent, Trace, of}
+pub use Rattle.kt_sched.specs.Trace.{Event, NoEvent, Trace, events_of}
 pub use Rattle.kt_sched.specs.declared.job.Job.{Job}
 pub use Rattle.kt_sched.specs.declared.run_fault.RunFault.{RunFault}
 pub use Rattle.kt_sched.specs.declared.run_fault.RunFault.TheVariants.{NoMemory, SinkFailed}

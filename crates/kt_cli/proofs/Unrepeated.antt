@@ -1,6 +1,6 @@
 -- The next entry to record has a position that no entry before it has.
 use Rattle.std.proofs.Common.{Some, slice_get, count_by, take, ◌==◌, nat_le, ◌≡◌, ℕ, zero, suc, ◌≤◌, Bool, true, false, List, [], ◌∷◌, length, refl, ◌∙◌, ap, arith}
-use Rattle.kt_cli.proofs.Common.{nat_tests, option_map, slice_get-map, slice_get_within, Entry, Run, Job, IsEntry, decided, IsEntryOf, AreEntries, IsPlan, ScheduledPut, recorded, Event, Trace, of, StoreFault, has_position, insert_by_position, put_refusal, IsStopped, with_new_run, insert_all, entries_by_position}
+use Rattle.kt_cli.proofs.Common.{nat_tests, option_map, slice_get-map, slice_get_within, Entry, Run, Job, IsEntry, decided, IsEntryOf, AreEntries, IsPlan, ScheduledPut, recorded, Event, Trace, events_of, StoreFault, has_position, insert_by_position, put_refusal, IsStopped, with_new_run, insert_all, entries_by_position}
 use Rattle.kt_sched.specs.RecordOrder.{scheduled_puts}
 use Rattle.kt_sched.proofs.Lists.{count-cons, counted_one}
 use Rattle.kt_cli.proofs.NewRuns.{takes_entry}
@@ -29,7 +29,7 @@ entry_at job _ _ _ = refl
 module _ (plan : List Job) (T : Trace) (is : IsPlan plan) where
   -- the entry of a case has the case's position in the plan
   position_is : (i : ℕ) (e : Entry) → IsEntryOf plan T i e → e.position ≡ i
-  position_is i e h = entry_at h.job (of i T) e h.entry_is ∙ is.placed i h.job h.place
+  position_is i e h = entry_at h.job (events_of i T) e h.entry_is ∙ is.placed i h.job h.place
 
   none_at : (i : ℕ) (ps : List ℕ) (es : List Entry) → AreEntries plan T ps es → count_by (λ p. p == i) ps ≡ 0 → has_position i es ≡ false
   none_at i [] [] a c = refl

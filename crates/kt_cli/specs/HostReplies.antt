@@ -9,7 +9,7 @@ use Rattle.kt_os.specs.declared.machine.host_files.HostFiles as machine
 use Rattle.kt_os.specs.Around.{is_root}
 use Rattle.kt_os.specs.declared.machine.file_fault.FileFault.{FileFault}
 use Rattle.kt_os.specs.declared.machine.file_fault.FileFault.TheVariants as file
-use Rattle.kt_os.specs.Machines.{HostResponse, ReadsFile, IsFile, PathExists, HasMoment, CallsAtPath, IsFoundByPath, read_limit}
+use Rattle.kt_os.specs.Machines.{HostResponse, ReadsFile, IsFile, PathExists, ReadsClock, CallsUnlessTooLong, IsProgramFound, read_limit}
 use Rattle.kt_cli.specs.CommandStates.{World}
 use Rattle.kt_metadata.specs.declared.host.Need.TheVariants.{File, Program}
 use Rattle.kt_plan.specs.Reply.{ReadConfig, Lists, Finds, IsRoot, HasMemory, HasDisk}
@@ -55,14 +55,14 @@ module _ {M O : Type 0} (answers : M → HostResponse → M → Type 0) where
   -- bytes. `answers` is the relation of the machine.
   abbrev pub IsFileCall : HostWorld M O → Asked → HostWorld M O → Type 0
   IsFileCall old (Read path answer) new =
-      CallsMachine old (CallsAtPath answers (path_below old.directory path) (ReadsFile (path_below old.directory path) (file_answer answer)) (answer ≡ Err Failed)) new × IsWithinReadLimit answer
+      CallsMachine old (CallsUnlessTooLong answers (path_below old.directory path) (ReadsFile (path_below old.directory path) (file_answer answer)) (answer ≡ Err Failed)) new × IsWithinReadLimit answer
   IsFileCall old (Exists path answer) new =
-      CallsMachine old (CallsAtPath answers (path_below old.directory path) (IsFile (path_below old.directory path) answer) (answer ≡ false)) new
+      CallsMachine old (CallsUnlessTooLong answers (path_below old.directory path) (IsFile (path_below old.directory path) answer) (answer ≡ false)) new
 
   -- `IsHostReply answers leads old reply new`: the world's call `reply` with its result leads the
   -- world from `old` to `new`. Listing the cases of a program changes only the driver.
   -- Configuration files and required files are looked up at their own paths, and required programs
-  -- by `IsFoundByPath`. Whether the user is root follows from the process environment. The results
+  -- by `IsProgramFound`. Whether the user is root follows from the process environment. The results
   -- for memory and disk space are always `None`, and the timestamp is that of the machine.
   -- `answers` and `leads` are the relations of the machine and the system.
   abbrev pub IsHostReply : (O → Call → O → Type 0) → HostWorld M O → Reply → HostWorld M O → Type 0
@@ -70,11 +70,11 @@ module _ {M O : Type 0} (answers : M → HostResponse → M → Type 0) where
   IsHostReply leads old (Lists program variables answer) new =
       DriverLists leads old.driver program.path variables answer new.driver × (new.machine ≡ old.machine) × (new.directory ≡ old.directory) × (new.around ≡ old.around)
   IsHostReply leads old (Finds File path answer) new = CallsMachine old (λ m n. answers m (PathExists (utf8 path) answer) n) new
-  IsHostReply leads old (Finds Program name answer) new = CallsMachine old (IsFoundByPath answers old.around.path name answer) new
+  IsHostReply leads old (Finds Program name answer) new = CallsMachine old (IsProgramFound answers old.around.path name answer) new
   IsHostReply leads old (IsRoot answer) new = (new ≡ old) × (answer ≡ is_root old.around.user)
   IsHostReply leads old (HasMemory answer) new = (new ≡ old) × (answer ≡ None)
   IsHostReply leads old (HasDisk answer) new = (new ≡ old) × (answer ≡ None)
-  IsHostReply leads old (Now moment) new = CallsMachine old (λ m n. answers m (HasMoment moment) n) new
+  IsHostReply leads old (Now moment) new = CallsMachine old (λ m n. answers m (ReadsClock moment) n) new
 
 module _ {M O : Type 0} (leads : O → Call → O → Type 0) where
   -- `HostStarts leads old job role answer new`: the driver of the world `old` starts the child of

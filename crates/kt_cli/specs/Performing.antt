@@ -89,7 +89,7 @@ module _ {M O : Type 0} (o : system.Ghosts O) (before : HostHandles M O) (around
   -- the system.
   pub record IsFirstWorld (world : HostWorld M O) : Type 0 where
     pub machine : world.machine ≡ before.machine
-    pub made : IsNewDriver o before.os around.here options.work options.kyuafile world.driver
+    pub made : IsNewDriver o before.os around.working_dir options.work options.kyuafile world.driver
     pub directory : world.directory ≡ directory_of options.kyuafile
     pub around_it : world.around ≡ around
 

@@ -1,6 +1,6 @@
 -- The values of a file, or its only fault.
 use Rattle.std.proofs.Common.{Result, Ok, Err, IfOk, ◌≡◌, ℕ, List, [], ◌∷◌, ◌++◌, refl, sym, ap, ◌∙◌, subst, inl, inr, append-nil, append_assoc}
-use Rattle.kt_config.proofs.Common.{ScriptFault, Stmt, Spells, Definition, Values, Holds, Adds, AddsDefinition, DefinitionsOrFault, with_first, combined_definitions, definition_in, definitions_in, definitions_of_file, HasFault, IsConfigFile, IfFault, SucceedsWith, FailsWith, MatchesDefinitions, fault_of_script}
+use Rattle.kt_config.proofs.Common.{ScriptFault, Stmt, Spells, Definition, Values, HasValuesSetBy, Adds, AddsDefinition, DefinitionsOrFault, with_prepended_definition, combined_definitions, definition_in, definitions_in, definitions_of_file, HasFault, IsConfigFile, IfFault, SucceedsWith, FailsWith, IsResultOfDefinitions, fault_of_script}
 use Rattle.kt_script.specs.Spelling.{HasFault as HasScriptFault, ReturnsStatements as ScriptAnswers, ReturnsFault as ScriptRefuses}
 use Rattle.kt_config.specs.declared.fault.ConfigFault.{ConfigFault}
 use Rattle.kt_config.specs.declared.fault.ConfigFault.TheVariants.{NoMemory, UnknownVariable, BadValue, Script, NoSyntax, NotAssignment}
@@ -19,17 +19,17 @@ behind before (Err fault) = Err fault
 -- suffix `rest` set
 pub record HasRead (config : Values) (stmts rest : List Stmt) : Type 0 where
   pub before : List Definition
-  pub holds : Holds config before
+  pub holds : HasValuesSetBy config before
   pub all : definitions_in stmts ≡ behind before (definitions_in rest)
 
 none_behind : (o : DefinitionsOrFault) → o ≡ behind [] o
 none_behind (Ok definitions) = refl
 none_behind (Err fault) = refl
 
-pub nothing_read : (config : Values) (stmts : List Stmt) → Holds config [] → HasRead config stmts stmts
+pub nothing_read : (config : Values) (stmts : List Stmt) → HasValuesSetBy config [] → HasRead config stmts stmts
 nothing_read config stmts h = record { before = []; holds = h; all = none_behind (definitions_in stmts) }
 
-first_behind : (before : List Definition) (d : Definition) (o : DefinitionsOrFault) → behind before (with_first d o) ≡ behind (before ++ d ∷ []) o
+first_behind : (before : List Definition) (d : Definition) (o : DefinitionsOrFault) → behind before (with_prepended_definition d o) ≡ behind (before ++ d ∷ []) o
 first_behind before d (Ok ds) = ap (λ (xs : List Definition). Ok xs) (sym (append_assoc before (d ∷ []) ds))
 first_behind before d (Err fault) = refl
 
@@ -55,19 +55,19 @@ next_read config next stmts rest after stmt r parts adds = next_by config next s
 
 -- the fault of the next statement is the fault of all statements
 pub fault_read : (config : Values) (stmts rest after : List Stmt) (stmt : Stmt) (fault : ConfigFault) → HasRead config stmts rest → rest ≡ stmt ∷ after
-    → definition_in stmt.action ≡ Err fault → MatchesDefinitions (Err fault) (definitions_in stmts)
+    → definition_in stmt.action ≡ Err fault → IsResultOfDefinitions (Err fault) (definitions_in stmts)
 fault_read config stmts rest after stmt fault r parts m =
     let e : definitions_in stmts ≡ Err fault
     = r.all ∙ ap (λ (ss : List Stmt). behind r.before (definitions_in ss)) parts
     ∙ ap (λ (meaning : DefinitionResult). behind r.before (combined_definitions meaning (definitions_in after))) m in
-    subst (λ (o : DefinitionsOrFault). MatchesDefinitions (Err fault) o) (sym e) refl
+    subst (λ (o : DefinitionsOrFault). IsResultOfDefinitions (Err fault) o) (sym e) refl
 
 -- if no statement remains, the configuration has the values that all statements set
-pub all_read : (config : Values) (stmts rest : List Stmt) → HasRead config stmts rest → rest ≡ [] → MatchesDefinitions (Ok config) (definitions_in stmts)
+pub all_read : (config : Values) (stmts rest : List Stmt) → HasRead config stmts rest → rest ≡ [] → IsResultOfDefinitions (Ok config) (definitions_in stmts)
 all_read config stmts rest r end =
     let e : definitions_in stmts ≡ Ok r.before
     = r.all ∙ ap (λ (ss : List Stmt). behind r.before (definitions_in ss)) end ∙ ap (λ (xs : List Definition). Ok xs) (append-nil r.before) in
-    subst (λ (o : DefinitionsOrFault). MatchesDefinitions (Ok config) o) (sym e) r.holds
+    subst (λ (o : DefinitionsOrFault). IsResultOfDefinitions (Ok config) o) (sym e) r.holds
 
 -- ---- faults by their kinds
 
@@ -103,40 +103,40 @@ abbrev fault_or : DefinitionsOrFault → ConfigFault → ConfigFault
 fault_or (Ok ds) d = d
 fault_or (Err fault) d = fault
 
-ok_cases : (text : List ℕ) (stmts : List Stmt) (r : Result Values ConfigFault) (o : DefinitionsOrFault) → Spells text stmts → definitions_of_file stmts ≡ o → MatchesDefinitions r o → IfOk r (λ config. IsConfigFile text config)
+ok_cases : (text : List ℕ) (stmts : List Stmt) (r : Result Values ConfigFault) (o : DefinitionsOrFault) → Spells text stmts → definitions_of_file stmts ≡ o → IsResultOfDefinitions r o → IfOk r (λ config. IsConfigFile text config)
 ok_cases text stmts (Ok config) (Ok ds) s e g = (stmts, ds, s, e, g)
 ok_cases text stmts (Ok config) (Err fault) s e g = absurd g
 ok_cases text stmts (Err found) o s e g = tt
 
-only_cases : (r : Result Values ConfigFault) (o : DefinitionsOrFault) (ds : List Definition) → MatchesDefinitions r o → o ≡ Ok ds → SucceedsWith r ds
-only_cases (Ok config) (Ok found) ds g e = subst (λ (xs : List Definition). Holds config xs) (ap (λ (x : DefinitionsOrFault). definitions_or x found) e) g
+only_cases : (r : Result Values ConfigFault) (o : DefinitionsOrFault) (ds : List Definition) → IsResultOfDefinitions r o → o ≡ Ok ds → SucceedsWith r ds
+only_cases (Ok config) (Ok found) ds g e = subst (λ (xs : List Definition). HasValuesSetBy config xs) (ap (λ (x : DefinitionsOrFault). definitions_or x found) e) g
 only_cases (Ok config) (Err fault) ds g e = absurd g
 only_cases (Err found) (Ok other) ds g e = absurd g
 only_cases (Err found) (Err fault) ds g e = absurd (cc)
 
-fault_cases : (text : List ℕ) (stmts : List Stmt) (r : Result Values ConfigFault) (o : DefinitionsOrFault) → Spells text stmts → definitions_of_file stmts ≡ o → MatchesDefinitions r o → IfFault r (λ fault. HasFault text fault)
+fault_cases : (text : List ℕ) (stmts : List Stmt) (r : Result Values ConfigFault) (o : DefinitionsOrFault) → Spells text stmts → definitions_of_file stmts ≡ o → IsResultOfDefinitions r o → IfFault r (λ fault. HasFault text fault)
 fault_cases text stmts (Ok config) o s e g = tt
 fault_cases text stmts (Err found) (Ok ds) s e g = absurd g
 fault_cases text stmts (Err found) (Err fault) s e g =
     fault_in found (λ x. HasFault text x) (inr (stmts, s, e ∙ same_err (sym g)))
 
-due_cases : (r : Result Values ConfigFault) (o : DefinitionsOrFault) (fault : ConfigFault) → MatchesDefinitions r o → o ≡ Err fault → FailsWith r fault
+due_cases : (r : Result Values ConfigFault) (o : DefinitionsOrFault) (fault : ConfigFault) → IsResultOfDefinitions r o → o ≡ Err fault → FailsWith r fault
 due_cases (Ok config) (Ok ds) fault g e = absurd (cc)
 due_cases (Ok config) (Err other) fault g e = absurd g
 due_cases (Err found) (Ok ds) fault g e = absurd g
 due_cases (Err found) (Err other) fault g e = refuses_same found fault (g ∙ ap (λ (x : DefinitionsOrFault). fault_or x other) e)
 
-pub right_ok : (text : List ℕ) (stmts : List Stmt) → Spells text stmts → (r : Result Values ConfigFault) → MatchesDefinitions r (definitions_of_file stmts) → IfOk r (λ config. IsConfigFile text config)
+pub right_ok : (text : List ℕ) (stmts : List Stmt) → Spells text stmts → (r : Result Values ConfigFault) → IsResultOfDefinitions r (definitions_of_file stmts) → IfOk r (λ config. IsConfigFile text config)
 right_ok text stmts s r g = ok_cases text stmts r (definitions_of_file stmts) s refl g
 
-pub right_only : (text : List ℕ) (stmts : List Stmt) → Spells text stmts → (r : Result Values ConfigFault) → MatchesDefinitions r (definitions_of_file stmts)
+pub right_only : (text : List ℕ) (stmts : List Stmt) → Spells text stmts → (r : Result Values ConfigFault) → IsResultOfDefinitions r (definitions_of_file stmts)
     → (others : List Stmt) → (ds : List Definition) → Spells text others → definitions_of_file others ≡ Ok ds → SucceedsWith r ds
 right_only text stmts s r g = λ others ds t o. only_cases r (definitions_of_file stmts) ds g (ap definitions_of_file (two_spelled text stmts others s t) ∙ o)
 
-pub right_fault : (text : List ℕ) (stmts : List Stmt) → Spells text stmts → (r : Result Values ConfigFault) → MatchesDefinitions r (definitions_of_file stmts) → IfFault r (λ fault. HasFault text fault)
+pub right_fault : (text : List ℕ) (stmts : List Stmt) → Spells text stmts → (r : Result Values ConfigFault) → IsResultOfDefinitions r (definitions_of_file stmts) → IfFault r (λ fault. HasFault text fault)
 right_fault text stmts s r g = fault_cases text stmts r (definitions_of_file stmts) s refl g
 
-pub right_due : (text : List ℕ) (stmts : List Stmt) → Spells text stmts → (r : Result Values ConfigFault) → MatchesDefinitions r (definitions_of_file stmts) → (fault : ConfigFault) → HasFault text fault → FailsWith r fault
+pub right_due : (text : List ℕ) (stmts : List Stmt) → Spells text stmts → (r : Result Values ConfigFault) → IsResultOfDefinitions r (definitions_of_file stmts) → (fault : ConfigFault) → HasFault text fault → FailsWith r fault
 right_due text stmts s r g fault (inl d) = absurd (not_both text stmts d.0 s d.1)
 right_due text stmts s r g fault (inr d) = due_cases r (definitions_of_file stmts) fault g (ap definitions_of_file (two_spelled text stmts d.0 s d.1) ∙ d.2)
 

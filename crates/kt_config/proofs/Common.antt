@@ -9,8 +9,8 @@ pub use Rattle.kt_base.specs.declared.variable.Variable.{Variable}
 pub use Rattle.kt_script.specs.Spelling.{Spells}
 pub use Rattle.kt_script.specs.declared.fault.ScriptFault.{ScriptFault}
 pub use Rattle.kt_script.specs.declared.syntax.Stmt.{Stmt}
-pub use Rattle.kt_config.specs.Holding.{Adds, Holds, architecture_in, variables_set_for, non_empty_list, last_value_by, parallelism_in, platform_in, variable_for}
-pub use Rattle.kt_config.specs.Inner.{SetsSuiteVariable, MatchesDefinitions, fault_of_script, suite_in}
-pub use Rattle.kt_config.specs.Reading.{SucceedsWith, AddsDefinition, IfFault, HasFault, IsConfigFile, DefinitionsOrFault, FailsWith, definitions_in, definition_in, definitions_of_file, with_first, combined_definitions}
+pub use Rattle.kt_config.specs.Holding.{Adds, HasValuesSetBy, architecture_in, variables_set_for, non_empty_list, last_value_by, parallelism_in, platform_in, variable_for}
+pub use Rattle.kt_config.specs.Inner.{SetsSuiteVariable, IsResultOfDefinitions, fault_of_script, suite_in}
+pub use Rattle.kt_config.specs.Reading.{SucceedsWith, AddsDefinition, IfFault, HasFault, IsConfigFile, DefinitionsOrFault, FailsWith, definitions_in, definition_in, definitions_of_file, with_prepended_definition, combined_definitions}
 pub use Rattle.kt_config.specs.Values.{SuiteValues, Values, variable_in, variables_of}
 pub use Rattle.kt_config.specs.declared.meaning.Definition.{Definition}

@@ -8,8 +8,8 @@ pub use Rattle.kt_base.specs.declared.variable.Variable.{Variable}
 pub use Rattle.kt_script.specs.Spelling.{Spells}
 pub use Rattle.kt_script.specs.declared.syntax.Stmt.{Stmt}
 pub use Rattle.kt_config.specs.Forms.{has_zero_byte, is_invalid_name_byte, is_variable_name, is_zero}
-pub use Rattle.kt_config.specs.Holding.{Adds, Holds}
-pub use Rattle.kt_config.specs.Inner.{SetsSuiteVariable, MatchesDefinitions, fault_of_script, suite_in}
+pub use Rattle.kt_config.specs.Holding.{Adds, HasValuesSetBy}
+pub use Rattle.kt_config.specs.Inner.{SetsSuiteVariable, IsResultOfDefinitions, fault_of_script, suite_in}
 pub use Rattle.kt_config.specs.Names.{definition_named}
 pub use Rattle.kt_config.specs.Reading.{SucceedsWith, AddsDefinition, IfFault, HasFault, IsConfigFile, FailsWith, definitions_in, is_syntax_call, is_syntax_version, definition_in, definitions_of_file}
 pub use Rattle.kt_config.specs.Values.{SuiteValues, HasUniqueNames, Values, variable_in, variables_in, variables_of}

@@ -61,10 +61,10 @@ abbrev pub non_empty_list : List Variable → Option (List Variable)
 non_empty_list [] = None
 non_empty_list (variable ∷ variables) = Some (variable ∷ variables)
 
--- `Holds config definitions`: the values `config` are those that `definitions` set: each variable
+-- `HasValuesSetBy config definitions`: the values `config` are those that `definitions` set: each variable
 -- has its last value. `parallelism` is 1 if it is not set. Each variable of a suite occurs once. A
 -- suite's variables are in the order of their first definitions.
-pub record Holds (config : Values) (definitions : List Definition) : Type 0 where
+pub record HasValuesSetBy (config : Values) (definitions : List Definition) : Type 0 where
   pub architecture : config.architecture ≡ last_value_by architecture_in definitions
   pub platform : config.platform ≡ last_value_by platform_in definitions
   pub parallelism : config.parallelism ≡ unwrap_or (last_value_by parallelism_in definitions) 1
@@ -74,4 +74,4 @@ pub record Holds (config : Values) (definitions : List Definition) : Type 0 wher
 -- configuration to `new`. For each list of definitions that sets `old`, the list with `definition`
 -- appended sets `new`.
 abbrev pub Adds : Definition → Values → Values → Type 0
-Adds definition old new = (before : List Definition) → Holds old before → Holds new (before ++ definition ∷ [])
+Adds definition old new = (before : List Definition) → HasValuesSetBy old before → HasValuesSetBy new (before ++ definition ∷ [])

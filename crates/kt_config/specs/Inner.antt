@@ -9,7 +9,7 @@ use Rattle.kt_script.specs.declared.fault.ScriptFault.TheVariants as script
 use Rattle.kt_config.specs.declared.fault.ConfigFault.{ConfigFault}
 use Rattle.kt_config.specs.declared.fault.ConfigFault.TheVariants.{NoMemory, Script}
 use Rattle.kt_config.specs.Values.{SuiteValues, Values, variables_of}
-use Rattle.kt_config.specs.Holding.{Holds}
+use Rattle.kt_config.specs.Holding.{HasValuesSetBy}
 use Rattle.kt_config.specs.Reading.{DefinitionsOrFault}
 
 -- `SetsSuiteVariable suite variable old new`: the list of suites `new` is the list `old` with the
@@ -18,14 +18,14 @@ pub record SetsSuiteVariable (suite : List ℕ) (variable : Variable) (old new :
   pub own : variables_of suite new ≡ Some (last_values (unwrap_or (variables_of suite old) [] ++ variable ∷ []))
   pub others : (other : List ℕ) → bytes_eq other suite ≡ false → variables_of other new ≡ variables_of other old
 
--- `MatchesDefinitions result outcome`: `result` is the result of reading a configuration file whose
+-- `IsResultOfDefinitions result outcome`: `result` is the result of reading a configuration file whose
 -- definitions or first fault are `outcome`. Either both are the same fault, or `result` has the
 -- values that the definitions in `outcome` set.
-abbrev pub MatchesDefinitions : Result Values ConfigFault → DefinitionsOrFault → Type 0
-MatchesDefinitions (Ok config) (Ok definitions) = Holds config definitions
-MatchesDefinitions (Ok config) (Err fault) = ⊥
-MatchesDefinitions (Err found) (Ok definitions) = ⊥
-MatchesDefinitions (Err found) (Err fault) = found ≡ fault
+abbrev pub IsResultOfDefinitions : Result Values ConfigFault → DefinitionsOrFault → Type 0
+IsResultOfDefinitions (Ok config) (Ok definitions) = HasValuesSetBy config definitions
+IsResultOfDefinitions (Ok config) (Err fault) = ⊥
+IsResultOfDefinitions (Err found) (Ok definitions) = ⊥
+IsResultOfDefinitions (Err found) (Err fault) = found ≡ fault
 
 -- `fault_of_script fault`: the configuration error for `fault`, the parser's error for a
 -- configuration file. A failed allocation remains `NoMemory`.

@@ -14,7 +14,7 @@ use Rattle.kt_config.specs.declared.fault.ConfigFault.{ConfigFault}
 use Rattle.kt_config.specs.declared.fault.ConfigFault.TheVariants.{NoMemory, NotAssignment, NoSyntax, Script}
 use Rattle.kt_config.specs.Names.{DefinitionResult, definition_of}
 use Rattle.kt_config.specs.Values.{Values}
-use Rattle.kt_config.specs.Holding.{Holds, Adds}
+use Rattle.kt_config.specs.Holding.{HasValuesSetBy, Adds}
 
 -- `is_syntax_version arg`: the argument `arg` of a call is the number 2.
 abbrev pub is_syntax_version : Arg → Bool
@@ -39,17 +39,17 @@ definition_in (Assign parts value) = definition_of parts (text_of value)
 abbrev pub DefinitionsOrFault : Type 0
 DefinitionsOrFault = Result (List Definition) ConfigFault
 
--- `with_first definition outcome`: the definitions in `outcome` with `definition` prepended. A
+-- `with_prepended_definition definition outcome`: the definitions in `outcome` with `definition` prepended. A
 -- fault in `outcome` is unchanged.
-abbrev pub with_first : Definition → DefinitionsOrFault → DefinitionsOrFault
-with_first definition (Ok definitions) = Ok (definition ∷ definitions)
-with_first definition (Err fault) = Err fault
+abbrev pub with_prepended_definition : Definition → DefinitionsOrFault → DefinitionsOrFault
+with_prepended_definition definition (Ok definitions) = Ok (definition ∷ definitions)
+with_prepended_definition definition (Err fault) = Err fault
 
 -- `combined_definitions meaning rest`: the definitions in several statements, or their first fault.
 -- `meaning` is the definition or the fault of the first statement. `rest` are the definitions or
 -- the first fault of the other statements.
 abbrev pub combined_definitions : DefinitionResult → DefinitionsOrFault → DefinitionsOrFault
-combined_definitions (Ok definition) rest = with_first definition rest
+combined_definitions (Ok definition) rest = with_prepended_definition definition rest
 combined_definitions (Err fault) rest = Err fault
 
 -- `definitions_in stmts`: the definitions in the statements `stmts`, or their first fault. The
@@ -77,7 +77,7 @@ HasFault text fault =
 abbrev pub IsConfigFile : List ℕ → Values → Type 0
 IsConfigFile text config =
     (stmts : List Stmt) × (definitions : List Definition)
-    × Spells text stmts × (definitions_of_file stmts ≡ Ok definitions) × Holds config definitions
+    × Spells text stmts × (definitions_of_file stmts ≡ Ok definitions) × HasValuesSetBy config definitions
 
 -- `IfFault result P`: if `result` is a fault and not a failed allocation, the fault satisfies the
 -- predicate `P`.
@@ -89,7 +89,7 @@ IfFault (Err fault) P = P fault
 -- `SucceedsWith result definitions`: the result `result` of reading a configuration file has the
 -- values that `definitions` set, or is a failed allocation.
 abbrev pub SucceedsWith : Result Values ConfigFault → List Definition → Type 0
-SucceedsWith (Ok config) definitions = Holds config definitions
+SucceedsWith (Ok config) definitions = HasValuesSetBy config definitions
 SucceedsWith (Err (NoMemory refusal)) definitions = Unit {0}
 SucceedsWith (Err fault) definitions = ⊥
 

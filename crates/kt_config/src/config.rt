@@ -1,5 +1,5 @@
 ghost use Rattle.std.specs.Prelude.{◌≡◌, ◌≤◌, [], OnOk, OnErr, Ok, Err, unwrap_or, codes, chars};
-ghost use Rattle.kt_config.specs.Common.{option_copied, Definition, ConfigFault, largest_width, definition_named, Values, variables_of, Holds, Adds, IfFault, AddsDefinition};
+ghost use Rattle.kt_config.specs.Common.{option_copied, Definition, ConfigFault, largest_width, definition_named, Values, variables_of, HasValuesSetBy, Adds, IfFault, AddsDefinition};
 
 use crate::meaning::{Definition, definition_of};
 use crate::suites::Suites;
@@ -12,7 +12,7 @@ use std::marker::Model;
 /// A configuration: the variables of the runner and of test suites (kyua.conf(5)).
 ///
 /// Each variable has the value of its last definition. In contracts, a `Config` is the record of
-/// these values. `Holds` relates the values to the definitions.
+/// these values. `HasValuesSetBy` relates the values to the definitions.
 pub struct Config {
     alloc: Global,
     /// The last value of the variable `architecture`, which is not empty, or `None` if the variable
@@ -54,7 +54,7 @@ impl Model for Config {
 impl Config {
     /// Creates a configuration without definitions. Allocates nothing.
     pub fn new(alloc: Global) -> Config
-        ensures { Holds result [] }
+        ensures { HasValuesSetBy result [] }
     {
         Config {
             alloc,

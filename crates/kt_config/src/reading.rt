@@ -1,5 +1,5 @@
 ghost use Rattle.std.specs.Prelude.{◌≡◌, IfOk, Err, MatchOption, List, Ok};
-ghost use Rattle.kt_config.specs.Common.{is_syntax_version, is_syntax_call, definition_in, definitions_in, definitions_of_file, fault_of_script, AddsDefinition, MatchesDefinitions, Spells, Stmt, Definition, ConfigFault, HasFault, IsConfigFile, IfFault, SucceedsWith, FailsWith};
+ghost use Rattle.kt_config.specs.Common.{is_syntax_version, is_syntax_call, definition_in, definitions_in, definitions_of_file, fault_of_script, AddsDefinition, IsResultOfDefinitions, Spells, Stmt, Definition, ConfigFault, HasFault, IsConfigFile, IfFault, SucceedsWith, FailsWith};
 
 use crate::meaning::{Definition, definition_of};
 use crate::{Config, ConfigFault};
@@ -82,7 +82,7 @@ fn apply_statement(
 ///
 /// `stmts` are the statements after `syntax(2)` in a file.
 fn read_statements(alloc: Global, stmts: &[Stmt]) -> Result<Result<Config, ConfigFault>, NoMemory>
-    ensures { IfOk result (λ outcome. MatchesDefinitions outcome (definitions_in stmts.now)) }
+    ensures { IfOk result (λ outcome. IsResultOfDefinitions outcome (definitions_in stmts.now)) }
 {
     let mut config = Config::new(alloc);
     for stmt in stmts {
@@ -102,7 +102,7 @@ fn read_statements(alloc: Global, stmts: &[Stmt]) -> Result<Result<Config, Confi
 ///
 /// - `NoMemory`: an allocation fails.
 pub fn read_script(alloc: Global, stmts: &[Stmt]) -> Result<Result<Config, ConfigFault>, NoMemory>
-    ensures { IfOk result (λ outcome. MatchesDefinitions outcome (definitions_of_file stmts.now)) }
+    ensures { IfOk result (λ outcome. IsResultOfDefinitions outcome (definitions_of_file stmts.now)) }
 {
     match stmts.split_first() {
         None => Ok(Err(ConfigFault::NoSyntax)),

@@ -6,7 +6,7 @@ pub use Rattle.std.specs.Option.{option_copied, option_map}
 pub use Rattle.kt_base.specs.declared.child.Role.{Role}
 pub use Rattle.kt_base.specs.declared.entry.Entry.{Entry}
 pub use Rattle.kt_base.specs.declared.entry.Run.{Run}
-pub use Rattle.kt_sched.specs.Plan.{IsFit, IsPlan}
+pub use Rattle.kt_sched.specs.Plan.{IsStartableJob, IsPlan}
 pub use Rattle.kt_sched.specs.declared.job.Job.{Job}
 pub use Rattle.kt_store.specs.Heads.{entry_at, head_of, outline_entry, outputs_of}
 pub use Rattle.kt_store.specs.Runs.{AreNumbered, finish, finish_refusal_of, insert_by_position, put_refusal_of, run_at, with_entry}

@@ -1,6 +1,6 @@
 -- Lookups and insertions in a layer.
 use Rattle.std.proofs.Common.{◌≡◌, ℕ, Bool, true, false, List, [], ◌∷◌, ◌++◌, refl, sym, ap, ◌∙◌, subst, Option, Some, None, append_assoc, option_and_then}
-use Rattle.kt_metadata.proofs.Common.{chars, option_map, option_or, IsUtf8, string_bytes, string_eq, String, IsUtf8-string_bytes, Variable, value_of, last_values, overlaid, value_is, same, value_of-append, put, first_value, first-settled, put-settled, settled-put, twice, PropertyDefinition, pair_in, pairs_in, IsConsistent, HaveParsedValues, AreConsistent, name_with_value, value_of_text}
+use Rattle.kt_metadata.proofs.Common.{chars, option_map, option_or, IsUtf8, string_bytes, string_eq, String, IsUtf8-string_bytes, Variable, value_of, last_values, overlaid, value_is, same, value_of-append, put, first_value, first-settled, put-settled, settled-put, twice, PropertyDefinition, pair_in, pairs_in, HasParsedValue, HaveParsedValues, AreConsistent, name_with_value, value_of_text}
 use Rattle.std.specs.Str.{bytes_eq}
 use Rattle.std.specs.Map.{lookup}
 use Rattle.indexmap.specs.IndexMap.{insert_entry}
@@ -8,26 +8,26 @@ use Rattle.kt_base.proofs.Texts.{key-chars}
 
 module _ {Z : Type 0} where
   -- Inserting an entry into the map sets its pair, and each value is still parsed from its text.
-  inserted-next : (k : String Z) (v : PropertyDefinition) (e : String Z × PropertyDefinition) (es : List (String Z × PropertyDefinition)) → IsConsistent (chars (string_bytes k)) v → HaveParsedValues (e ∷ es)
+  inserted-next : (k : String Z) (v : PropertyDefinition) (e : String Z × PropertyDefinition) (es : List (String Z × PropertyDefinition)) → HasParsedValue (chars (string_bytes k)) v → HaveParsedValues (e ∷ es)
       → (pairs_in (insert_entry string_eq es k v) ≡ put (pairs_in es) (pair_in (k, v))) × HaveParsedValues (insert_entry string_eq es k v)
       → (b : Bool) → string_eq k e.0 ≡ b → bytes_eq (chars (string_bytes k)) (chars (string_bytes e.0)) ≡ b
       → (pairs_in (insert_entry string_eq (e ∷ es) k v) ≡ put (pairs_in (e ∷ es)) (pair_in (k, v))) × HaveParsedValues (insert_entry string_eq (e ∷ es) k v)
   inserted-next k v e es is all h true t n =
-      rw (t, n) (refl, (subst (λ (name : List ℕ). IsConsistent name v) (same (chars (string_bytes k)) (chars (string_bytes e.0)) n) is, all.1))
+      rw (t, n) (refl, (subst (λ (name : List ℕ). HasParsedValue name v) (same (chars (string_bytes k)) (chars (string_bytes e.0)) n) is, all.1))
   inserted-next k v e es is all h false t n = rw (t, n) (ap (λ (ps : List Variable). pair_in e ∷ ps) h.0, (all.0, h.1))
 
-  inserted : (k : String Z) (v : PropertyDefinition) (es : List (String Z × PropertyDefinition)) → IsConsistent (chars (string_bytes k)) v → HaveParsedValues es
+  inserted : (k : String Z) (v : PropertyDefinition) (es : List (String Z × PropertyDefinition)) → HasParsedValue (chars (string_bytes k)) v → HaveParsedValues es
       → (pairs_in (insert_entry string_eq es k v) ≡ put (pairs_in es) (pair_in (k, v))) × HaveParsedValues (insert_entry string_eq es k v)
   inserted k v [] is all = (refl, (is, tt))
   inserted k v (e ∷ es) is all =
       inserted-next k v e es is all (inserted k v es is all.1) (string_eq k e.0) refl (sym (key-chars (string_bytes k) (IsUtf8-string_bytes k) e.0))
 
-  pub still-sound : (k : String Z) (v : PropertyDefinition) (es new : List (String Z × PropertyDefinition)) → IsConsistent (chars (string_bytes k)) v → AreConsistent es → new ≡ insert_entry string_eq es k v → AreConsistent new
+  pub still-sound : (k : String Z) (v : PropertyDefinition) (es new : List (String Z × PropertyDefinition)) → HasParsedValue (chars (string_bytes k)) v → AreConsistent es → new ≡ insert_entry string_eq es k v → AreConsistent new
   still-sound k v es new is s e =
       let i = inserted k v es is s.read in
       subst AreConsistent (sym e) (record { settled = settled-put (pairs_in es) (pairs_in (insert_entry string_eq es k v)) (pair_in (k, v)) s.settled i.0; read = i.1 })
 
-  pub inserted-last : (k : String Z) (v : PropertyDefinition) (es new : List (String Z × PropertyDefinition)) → IsConsistent (chars (string_bytes k)) v → AreConsistent es → new ≡ insert_entry string_eq es k v
+  pub inserted-last : (k : String Z) (v : PropertyDefinition) (es new : List (String Z × PropertyDefinition)) → HasParsedValue (chars (string_bytes k)) v → AreConsistent es → new ≡ insert_entry string_eq es k v
       → pairs_in new ≡ last_values (pairs_in es ++ pair_in (k, v) ∷ [])
   inserted-last k v es new is s e = ap pairs_in e ∙ put-settled (pairs_in es) (pairs_in (insert_entry string_eq es k v)) (pair_in (k, v)) s.settled (inserted k v es is s.read).0
 
@@ -39,7 +39,7 @@ module _ {Z : Type 0} where
       → (option_map (λ it. it.text) (lookup (λ k. bytes_eq q (string_bytes k)) (e ∷ es)) ≡ first_value (chars q) (pairs_in (e ∷ es)))
       × (option_map (λ it. it.value) (lookup (λ k. bytes_eq q (string_bytes k)) (e ∷ es)) ≡ option_and_then (value_of_text (chars q)) (first_value (chars q) (pairs_in (e ∷ es))))
   found-next q e es all h true t n =
-      rw (t, n) (refl, sym (subst (λ (name : List ℕ). IsConsistent name e.1) (sym (same (chars q) (chars (string_bytes e.0)) n)) all.0))
+      rw (t, n) (refl, sym (subst (λ (name : List ℕ). HasParsedValue name e.1) (sym (same (chars q) (chars (string_bytes e.0)) n)) all.0))
   found-next q e es all h false t n = rw (t, n) h
 
   found : (q : List ℕ) → IsUtf8 q → (es : List (String Z × PropertyDefinition)) → HaveParsedValues es

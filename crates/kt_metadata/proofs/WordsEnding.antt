@@ -1,6 +1,6 @@
 -- The ends of elements.
 use Rattle.std.proofs.Common.{◌≡◌, ℕ, true, false, List, [], ◌∷◌, ◌++◌, refl, sym, ◌∙◌}
-use Rattle.kt_metadata.proofs.Common.{is_space, with_element, words_from}
+use Rattle.kt_metadata.proofs.Common.{is_space, with_element, elements_from}
 use Rattle.kt_base.specs.Texts.{is_empty}
 
 -- `with_element` of an empty element adds nothing to a list.
@@ -19,9 +19,9 @@ with_element-then [] more = refl
 with_element-then (c ∷ cs) more = refl
 
 -- If white space follows `word`, the elements are `word` and the elements after the white space.
-pub at-space : (word rest : List ℕ) (c : ℕ) → is_space c ≡ true → with_element word [] ++ words_from [] rest ≡ words_from word (c ∷ rest)
-at-space word rest c space = sym (with_element-then word (words_from [] rest)) ∙ sym (rw space refl)
+pub at-space : (word rest : List ℕ) (c : ℕ) → is_space c ≡ true → with_element word [] ++ elements_from [] rest ≡ elements_from word (c ∷ rest)
+at-space word rest c space = sym (with_element-then word (elements_from [] rest)) ∙ sym (rw space refl)
 
 -- If another character follows `word`, it belongs to the same element.
-pub in-word : (word rest : List ℕ) (c : ℕ) → is_space c ≡ false → words_from (word ++ c ∷ []) rest ≡ words_from word (c ∷ rest)
+pub in-word : (word rest : List ℕ) (c : ℕ) → is_space c ≡ false → elements_from (word ++ c ∷ []) rest ≡ elements_from word (c ∷ rest)
 in-word word rest c other = sym (rw other refl)

@@ -5,7 +5,7 @@ use Rattle.kt_base.specs.LastValues.{value_of}
 use Rattle.kt_metadata.specs.declared.value.RequiredUser.{RequiredUser}
 use Rattle.kt_metadata.specs.declared.value.RequiredUser.TheVariants.{Any}
 use Rattle.kt_metadata.specs.declared.value.Value.{Value}
-use Rattle.kt_metadata.specs.declared.value.Value.TheVariants.{Words, Truth, Size, RequiredUser as OfUser, Timeout}
+use Rattle.kt_metadata.specs.declared.value.Value.TheVariants.{Elements, Truth, Size, RequiredUser as OfUser, Timeout}
 use Rattle.kt_metadata.specs.declared.meta.Meta.{Meta}
 use Rattle.kt_metadata.specs.Properties.{value_of_text}
 
@@ -14,27 +14,27 @@ use Rattle.kt_metadata.specs.Properties.{value_of_text}
 abbrev pub texts_of : List Variable → List ℕ → Option (List ℕ)
 texts_of definitions name = value_of name definitions
 
--- `given texts name`: the value of the property `name`, or nothing if the property isn't set or its
+-- `parsed_value texts name`: the value of the property `name`, or nothing if the property isn't set or its
 -- text is invalid. The function `texts` maps the name of a property to the text to which the
 -- property is set, or to nothing.
-abbrev pub given : (List ℕ → Option (List ℕ)) → List ℕ → Option Value
-given texts name = option_and_then (value_of_text name) (texts name)
+abbrev pub parsed_value : (List ℕ → Option (List ℕ)) → List ℕ → Option Value
+parsed_value texts name = option_and_then (value_of_text name) (texts name)
 
--- `words_in value`: the elements of the value `value`, or an empty list if `value` is absent or
+-- `elements_in value`: the elements of the value `value`, or an empty list if `value` is absent or
 -- isn't a list.
-abbrev pub words_in : Option Value → List (List ℕ)
-words_in (Some (Words found)) = found
-words_in other = []
+abbrev pub elements_in : Option Value → List (List ℕ)
+elements_in (Some (Elements found)) = found
+elements_in other = []
 
 -- `truth_in value`: the truth value `value`, or false if `value` is absent or isn't a truth value.
 abbrev pub truth_in : Option Value → Bool
 truth_in (Some (Truth b)) = b
 truth_in other = false
 
--- `size_in value`: the size `value`, in bytes, or 0 if `value` is absent or isn't a size.
-abbrev pub size_in : Option Value → ℕ
-size_in (Some (Size bytes)) = bytes
-size_in other = 0
+-- `size_or_default value`: the size `value`, in bytes, or 0 if `value` is absent or isn't a size.
+abbrev pub size_or_default : Option Value → ℕ
+size_or_default (Some (Size bytes)) = bytes
+size_or_default other = 0
 
 -- `user_in value`: the required user `value`, or `Any` if `value` is absent or isn't a user.
 abbrev pub user_in : Option Value → RequiredUser
@@ -45,29 +45,29 @@ user_in other = Any
 abbrev pub default_timeout_seconds : ℕ
 default_timeout_seconds = 300
 
--- `timeout_in value`: the timeout `value`, in seconds, or the default timeout if `value` is absent
+-- `timeout_or_default value`: the timeout `value`, in seconds, or the default timeout if `value` is absent
 -- or isn't a timeout.
-abbrev pub timeout_in : Option Value → ℕ
-timeout_in (Some (Timeout seconds)) = seconds
-timeout_in other = default_timeout_seconds
+abbrev pub timeout_or_default : Option Value → ℕ
+timeout_or_default (Some (Timeout seconds)) = seconds
+timeout_or_default other = default_timeout_seconds
 
 -- `meta_of texts`: the effective properties of a case. Each has the value that its text represents,
 -- or its default if it isn't set. The function `texts` maps the name of a property to the text to
 -- which the property is set, or to nothing.
 abbrev pub meta_of : (List ℕ → Option (List ℕ)) → Meta
 meta_of texts = record {
-  allowed_architectures = words_in (given texts (codes "allowed_architectures"));
-  allowed_platforms = words_in (given texts (codes "allowed_platforms"));
+  allowed_architectures = elements_in (parsed_value texts (codes "allowed_architectures"));
+  allowed_platforms = elements_in (parsed_value texts (codes "allowed_platforms"));
   description = unwrap_or (texts (codes "description")) [];
-  has_cleanup = truth_in (given texts (codes "has_cleanup"));
-  is_exclusive = truth_in (given texts (codes "is_exclusive"));
-  required_configs = words_in (given texts (codes "required_configs"));
-  required_disk_space = size_in (given texts (codes "required_disk_space"));
-  required_files = words_in (given texts (codes "required_files"));
-  required_memory = size_in (given texts (codes "required_memory"));
-  required_programs = words_in (given texts (codes "required_programs"));
-  required_user = user_in (given texts (codes "required_user"));
-  timeout = timeout_in (given texts (codes "timeout"));
+  has_cleanup = truth_in (parsed_value texts (codes "has_cleanup"));
+  is_exclusive = truth_in (parsed_value texts (codes "is_exclusive"));
+  required_configs = elements_in (parsed_value texts (codes "required_configs"));
+  required_disk_space = size_or_default (parsed_value texts (codes "required_disk_space"));
+  required_files = elements_in (parsed_value texts (codes "required_files"));
+  required_memory = size_or_default (parsed_value texts (codes "required_memory"));
+  required_programs = elements_in (parsed_value texts (codes "required_programs"));
+  required_user = user_in (parsed_value texts (codes "required_user"));
+  timeout = timeout_or_default (parsed_value texts (codes "timeout"));
 }
 
 -- `effective definitions`: the effective properties of a case with the definitions `definitions`:

@@ -12,7 +12,7 @@ use Rattle.kt_metadata.specs.declared.value.RequiredUser.TheVariants.{Any, Root,
 use Rattle.kt_metadata.specs.declared.value.Value.{Value}
 use Rattle.kt_metadata.specs.declared.value.Value.TheVariants as value
 use Rattle.kt_metadata.specs.Properties.{PropertyRow, table, is_custom}
-use Rattle.kt_metadata.specs.Effective.{texts_of, given, default_timeout_seconds}
+use Rattle.kt_metadata.specs.Effective.{texts_of, parsed_value, default_timeout_seconds}
 
 -- `space_prefixed words`: the concatenation of the elements `words`, with a space before each
 -- element.
@@ -41,7 +41,7 @@ user_text Unprivileged = codes "unprivileged"
 -- `listing_text value text`: the text of the value `value` in a listing of properties. The value
 -- was parsed from the text `text`.
 abbrev pub listing_text : Value → List ℕ → List ℕ
-listing_text (value.Words words) text = space_joined words
+listing_text (value.Elements words) text = space_joined words
 listing_text value.Text text = text
 listing_text (value.Truth b) text = truth_text b
 listing_text (value.Size bytes) text = decimal bytes
@@ -50,9 +50,9 @@ listing_text (value.Timeout seconds) text = decimal seconds
 
 -- `default_value form`: the value of a property that isn't set, if its values have the form `form`.
 abbrev pub default_value : Form → Value
-default_value form.Words = value.Words []
-default_value form.Files = value.Words []
-default_value form.Programs = value.Words []
+default_value form.Elements = value.Elements []
+default_value form.Files = value.Elements []
+default_value form.Programs = value.Elements []
 default_value form.Text = value.Text
 default_value form.Truth = value.Truth false
 default_value form.Size = value.Size 0
@@ -63,7 +63,7 @@ default_value form.Timeout = value.Timeout default_timeout_seconds
 -- the text of the property's value, or of its default value if the property isn't set. The function
 -- `texts` maps the name of a property to the text to which the property is set, or to nothing.
 abbrev pub property_text : (List ℕ → Option (List ℕ)) → PropertyRow → List ℕ
-property_text texts r = listing_text (unwrap_or (given texts r.name) (default_value r.form)) (unwrap_or (texts r.name) [])
+property_text texts r = listing_text (unwrap_or (parsed_value texts r.name) (default_value r.form)) (unwrap_or (texts r.name) [])
 
 -- `property_pair texts r`: the name of the property in the table row `r`, with the text that a
 -- listing has for the property. The function `texts` maps the name of a property to the text to

@@ -8,7 +8,7 @@ use Rattle.kt_metadata.specs.declared.value.Value.{Value}
 use Rattle.kt_metadata.specs.declared.value.Value.TheVariants as value
 use Rattle.kt_metadata.specs.declared.fault.PropFault.{PropFault}
 use Rattle.kt_metadata.specs.declared.fault.PropFault.TheVariants.{NoMemory, UnknownProperty, BadValue}
-use Rattle.kt_metadata.specs.Words.{words}
+use Rattle.kt_metadata.specs.Words.{list_elements}
 use Rattle.kt_metadata.specs.Values.{truth_of, user_of, size_of, timeout_of, is_not_absolute, is_relative_with_slash}
 
 -- `PropertyRow`: a row of the table of properties with fixed names. It has the name of a property,
@@ -26,12 +26,12 @@ row name key f = record { name = name; key = key; form = f }
 -- `table`: the rows of the properties with fixed names, in the order of a listing of properties.
 abbrev pub table : List PropertyRow
 table =
-    row (codes "allowed_architectures") (codes "require.arch") form.Words
-    ∷ row (codes "allowed_platforms") (codes "require.machine") form.Words
+    row (codes "allowed_architectures") (codes "require.arch") form.Elements
+    ∷ row (codes "allowed_platforms") (codes "require.machine") form.Elements
     ∷ row (codes "description") (codes "descr") form.Text
     ∷ row (codes "has_cleanup") (codes "has.cleanup") form.Truth
     ∷ row (codes "is_exclusive") (codes "is.exclusive") form.Truth
-    ∷ row (codes "required_configs") (codes "require.config") form.Words
+    ∷ row (codes "required_configs") (codes "require.config") form.Elements
     ∷ row (codes "required_disk_space") (codes "require.diskspace") form.Size
     ∷ row (codes "required_files") (codes "require.files") form.Files
     ∷ row (codes "required_memory") (codes "require.memory") form.Size
@@ -75,17 +75,17 @@ form_of_property name = if is_custom name then Some form.Text else option_map (�
 abbrev pub is_kyuafile_property : List ℕ → Bool
 is_kyuafile_property name = not (bytes_eq name (codes "has_cleanup")) && is_some (form_of_property name)
 
--- `valid_words is_wrong found`: the list `found` as a property value, or nothing if one of its
+-- `valid_elements is_wrong found`: the list `found` as a property value, or nothing if one of its
 -- elements satisfies the test `is_wrong`.
-abbrev pub valid_words : (List ℕ → Bool) → List (List ℕ) → Option Value
-valid_words is_wrong found = if list_any is_wrong found then None else Some (value.Words found)
+abbrev pub valid_elements : (List ℕ → Bool) → List (List ℕ) → Option Value
+valid_elements is_wrong found = if list_any is_wrong found then None else Some (value.Elements found)
 
 -- `value_in form text`: the value of the form `form` that `text` represents, or nothing if `text`
 -- is invalid.
 abbrev pub value_in : Form → List ℕ → Option Value
-value_in form.Words text = Some (value.Words (words text))
-value_in form.Files text = valid_words is_not_absolute (words text)
-value_in form.Programs text = valid_words is_relative_with_slash (words text)
+value_in form.Elements text = Some (value.Elements (list_elements text))
+value_in form.Files text = valid_elements is_not_absolute (list_elements text)
+value_in form.Programs text = valid_elements is_relative_with_slash (list_elements text)
 value_in form.Text text = Some value.Text
 value_in form.Truth text = option_map (λ b. value.Truth b) (truth_of text)
 value_in form.Size text = option_map (λ n. value.Size n) (size_of text)

@@ -2,9 +2,9 @@
 use Rattle.std.specs.Prelude.{ℕ, ◌*◌, ◌^◌, ◌==◌, ◌||◌, Bool, true, false, not, nat_le, codes, List, [], ◌∷◌, take, drop, Option, Some, None, if◌then◌else◌}
 use Rattle.std.specs.List.{list_any, prefix_len}
 use Rattle.kt_base.specs.Characters.{is_slash, is_absolute}
-use Rattle.kt_base.specs.Digits.{is_digit, decimal_from, fits}
+use Rattle.kt_base.specs.Digits.{is_digit, decimal_from, number_in_64_bits}
 use Rattle.kt_base.specs.Limits.{longest_timeout_seconds}
-use Rattle.kt_base.specs.Words.{named}
+use Rattle.kt_base.specs.Words.{value_of_keyword}
 use Rattle.kt_base.specs.Utf8.{utf8}
 use Rattle.kt_metadata.specs.declared.value.RequiredUser.{RequiredUser}
 use Rattle.kt_metadata.specs.declared.value.RequiredUser.TheVariants.{Any, Root, Unprivileged}
@@ -15,7 +15,7 @@ truth_values = (codes "true", true) ∷ (codes "yes", true) ∷ (codes "false", 
 
 -- `truth_of text`: the truth value that `text` represents, or nothing if `text` is invalid.
 abbrev pub truth_of : List ℕ → Option Bool
-truth_of text = named truth_values text
+truth_of text = value_of_keyword truth_values text
 
 -- `required_users`: the texts that represent required users, each with the user that it represents.
 -- The empty text represents `Any`.
@@ -24,13 +24,13 @@ required_users = ([], Any) ∷ (codes "root", Root) ∷ (codes "unprivileged", U
 
 -- `user_of text`: the required user that `text` represents, or nothing if `text` is invalid.
 abbrev pub user_of : List ℕ → Option RequiredUser
-user_of text = named required_users text
+user_of text = value_of_keyword required_users text
 
 -- `number_of digits`: the number with the decimal digits `digits`, or nothing if `digits` is empty
 -- or the number isn't below 2^64.
 abbrev pub number_of : List ℕ → Option ℕ
 number_of [] = None
-number_of (c ∷ cs) = fits (decimal_from 0 (c ∷ cs))
+number_of (c ∷ cs) = number_in_64_bits (decimal_from 0 (c ∷ cs))
 
 -- `digits_of text`: the decimal digits at the beginning of `text`.
 abbrev pub digits_of : List ℕ → List ℕ
@@ -59,7 +59,7 @@ factor_of (c ∷ d ∷ cs) = None
 abbrev pub checked_product : Option ℕ → Option ℕ → Option ℕ
 checked_product None factor = None
 checked_product (Some v) None = None
-checked_product (Some v) (Some factor) = fits (v * factor)
+checked_product (Some v) (Some factor) = number_in_64_bits (v * factor)
 
 -- `size_in bytes`: the size, in bytes, that the characters `bytes` represent: ASCII digits, and at
 -- most one unit after them. Nothing if `bytes` aren't a size below 2^64.

@@ -13,7 +13,7 @@ use std::alloc::Global;
 #[derive(Clone, Copy)]
 pub enum Form {
     /// A list of elements, which white space separates.
-    Words,
+    Elements,
     /// A list of files: each element is an absolute path.
     Files,
     /// A list of programs: each element is an absolute path, or a name without a slash to look up
@@ -38,12 +38,12 @@ pub const DEFAULT_TIMEOUT_SECONDS: u32 = 300;
 ///
 /// `wrong` is `true` if an element of `words` is invalid for the property.
 fn create_list_value(wrong: bool, words: Items<Text>) -> Option<Value>
-    ensures { result ≡ (if wrong then None else Some (Value.Words words)) }
+    ensures { result ≡ (if wrong then None else Some (Value.Elements words)) }
 {
     if wrong {
         None
     } else {
-        Some(Value::Words(words))
+        Some(Value::Elements(words))
     }
 }
 
@@ -57,7 +57,7 @@ impl Form {
         ensures { IfOk result (λ value. value ≡ value_in self text.now) }
     {
         match self {
-            Form::Words => Ok(Some(Value::Words(split_elements(alloc, text)?))),
+            Form::Elements => Ok(Some(Value::Elements(split_elements(alloc, text)?))),
             Form::Files => {
                 let words = split_elements(alloc, text)?;
                 Ok(create_list_value(has_invalid_file(words.as_slice()), words))
@@ -81,7 +81,7 @@ impl Form {
         ensures { result ≡ default_value self }
     {
         match self {
-            Form::Words | Form::Files | Form::Programs => Value::Words(Items::new(alloc)),
+            Form::Elements | Form::Files | Form::Programs => Value::Elements(Items::new(alloc)),
             Form::Text => Value::Text,
             Form::Truth => Value::Truth(false),
             Form::Size => Value::Size(0),

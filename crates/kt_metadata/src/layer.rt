@@ -1,5 +1,5 @@
 ghost use Rattle.std.specs.Prelude.{◌≡◌, ◌↔◌, ◌∷◌, ◌++◌, [], List, IfOk, IsTrue, OnOk, OnErr, chars};
-ghost use Rattle.kt_metadata.specs.Common.{option_copied, option_map, filter, Variable, last_values, value_of, texts_of, given, IsConsistent, custom_pairs, has_value, name_with_value};
+ghost use Rattle.kt_metadata.specs.Common.{option_copied, option_map, filter, Variable, last_values, value_of, texts_of, parsed_value, HasParsedValue, custom_pairs, has_value, name_with_value};
 
 use crate::table::is_custom;
 use crate::value::PropertyDefinition;
@@ -65,7 +65,7 @@ impl Layer {
         ensures text { option_map (λ it. it.text) (option_copied result)
             ≡ value_of (chars name.now) self.now }
         ensures value { option_map (λ it. it.value) (option_copied result)
-            ≡ given (texts_of self.now) (chars name.now) }
+            ≡ parsed_value (texts_of self.now) (chars name.now) }
     {
         self.given.get(name)
     }
@@ -78,7 +78,7 @@ impl Layer {
     ///
     /// - `NoMemory`: an allocation fails. The layer is unchanged.
     pub fn put_definition(&mut self, name: &str, given: PropertyDefinition) -> Result<(), NoMemory>
-        requires { IsConsistent (chars name.now) given }
+        requires { HasParsedValue (chars name.now) given }
         ensures ok { OnOk result (self.new
             ≡ last_values (self.old ++ name_with_value (chars name.now) given.text ∷ [])) }
         ensures err { OnErr result (self.new ≡ self.old) }

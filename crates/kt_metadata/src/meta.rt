@@ -53,12 +53,12 @@ impl Drop for Meta {
 
 impl Meta {
     ghost use Rattle.std.specs.Prelude.{◌≡◌};
-    ghost use Rattle.kt_metadata.specs.Common.{needed};
+    ghost use Rattle.kt_metadata.specs.Common.{required_objects};
 
     /// Returns the required files of the case if `need` is `File`, or its required programs if
     /// `need` is `Program`.
     pub fn required_objects(&self, need: Need) -> &[Text]
-        ensures { result.now ≡ needed need self.now }
+        ensures { result.now ≡ required_objects need self.now }
     {
         match need {
             Need::File => self.required_files.as_slice(),
@@ -69,14 +69,14 @@ impl Meta {
 
 impl Props {
     ghost use Rattle.std.specs.Prelude.{◌≡◌, ◌≤◌, [], List, IfOk, chars, unwrap_or};
-    ghost use Rattle.kt_metadata.specs.Common.{Variable, last_values, longest_timeout_seconds, texts_of, given, words_in, truth_in, size_in, user_in, timeout_in, effective, needed};
+    ghost use Rattle.kt_metadata.specs.Common.{Variable, last_values, longest_timeout_seconds, texts_of, parsed_value, elements_in, truth_in, size_or_default, user_in, timeout_or_default, effective, required_objects};
 
     /// Returns the value of the list property `name`, or an empty list if the property isn't set.
     fn list_value(&self, name: &str) -> &[Text]
-        ensures { result.now ≡ words_in (given (texts_of self.now) (chars name.now)) }
+        ensures { result.now ≡ elements_in (parsed_value (texts_of self.now) (chars name.now)) }
     {
         match self.parsed_value(name) {
-            Some(Value::Words(words)) => words.as_slice(),
+            Some(Value::Elements(words)) => words.as_slice(),
             _ => &[],
         }
     }
@@ -85,7 +85,7 @@ impl Props {
     /// set.
     fn copy_list(&self, name: &str) -> Result<Items<Text>, NoMemory>
         ensures { IfOk result (λ found. found
-            ≡ words_in (given (texts_of self.now) (chars name.now))) }
+            ≡ elements_in (parsed_value (texts_of self.now) (chars name.now))) }
     {
         copy_words(self.allocator(), self.list_value(name))
     }
@@ -102,7 +102,7 @@ impl Props {
 
     /// Returns the value of the Boolean property `name`, or `false` if the property isn't set.
     fn truth_value(&self, name: &str) -> bool
-        ensures { result ≡ truth_in (given (texts_of self.now) (chars name.now)) }
+        ensures { result ≡ truth_in (parsed_value (texts_of self.now) (chars name.now)) }
     {
         match self.parsed_value(name) {
             Some(Value::Truth(truth)) => *truth,
@@ -113,7 +113,7 @@ impl Props {
     /// Returns the size in bytes that is the value of the property `name`, or 0 if the property
     /// isn't set.
     fn size_value(&self, name: &str) -> u64
-        ensures { result ≡ size_in (given (texts_of self.now) (chars name.now)) }
+        ensures { result ≡ size_or_default (parsed_value (texts_of self.now) (chars name.now)) }
     {
         match self.parsed_value(name) {
             Some(Value::Size(bytes)) => *bytes,
@@ -123,7 +123,7 @@ impl Props {
 
     /// Returns the user that the property `name` requires, or `Any` if the property isn't set.
     fn user_value(&self, name: &str) -> RequiredUser
-        ensures { result ≡ user_in (given (texts_of self.now) (chars name.now)) }
+        ensures { result ≡ user_in (parsed_value (texts_of self.now) (chars name.now)) }
     {
         match self.parsed_value(name) {
             Some(Value::RequiredUser(user)) => *user,
@@ -134,7 +134,7 @@ impl Props {
     /// Returns the timeout in seconds that is the value of the property `name`, or 300 if the
     /// property isn't set.
     fn timeout(&self, name: &str) -> u32
-        ensures { result ≡ timeout_in (given (texts_of self.now) (chars name.now)) }
+        ensures { result ≡ timeout_or_default (parsed_value (texts_of self.now) (chars name.now)) }
     {
         match self.parsed_value(name) {
             Some(Value::Timeout(seconds)) => *seconds,
@@ -147,7 +147,7 @@ impl Props {
     ///
     /// Allocates nothing.
     pub fn required_objects(&self, need: Need) -> &[Text]
-        ensures { result.now ≡ needed need (effective self.now) }
+        ensures { result.now ≡ required_objects need (effective self.now) }
     {
         match need {
             Need::File => self.list_value("required_files"),

@@ -1,5 +1,5 @@
 ghost use Rattle.std.specs.Prelude.{◌≡◌, [], ◌∷◌, ◌++◌, chars, List, None, Some, IfOk, OnOk, OnErr, map};
-ghost use Rattle.kt_metadata.specs.Common.{option_copied, option_map, Variable, last_values, value_of, texts_of, given, program_layer, name_with_value, definition_fault, IfFault, row_in, custom_pairs, property_pairs, property_text, listing};
+ghost use Rattle.kt_metadata.specs.Common.{option_copied, option_map, Variable, last_values, value_of, texts_of, parsed_value, program_layer, name_with_value, definition_fault, IfFault, row_in, custom_pairs, property_pairs, property_text, listing};
 
 use crate::PropFault;
 use crate::layer::{Layer, push_if_not_empty};
@@ -81,7 +81,7 @@ impl Props {
         ensures text { option_map (λ it. it.text) (option_copied result)
             ≡ texts_of self.now (chars name.now) }
         ensures value { option_map (λ it. it.value) (option_copied result)
-            ≡ given (texts_of self.now) (chars name.now) }
+            ≡ parsed_value (texts_of self.now) (chars name.now) }
     {
         match self.own.get(name) {
             Some(given) => Some(given),
@@ -112,7 +112,7 @@ impl Props {
 
     /// Returns the parsed value of the property `name`, or `None` if the property isn't set.
     pub(crate) fn parsed_value(&self, name: &str) -> Option<&Value>
-        ensures { option_copied result ≡ given (texts_of self.now) (chars name.now) }
+        ensures { option_copied result ≡ parsed_value (texts_of self.now) (chars name.now) }
     {
         match self.find_definition(name) {
             Some(given) => Some(&given.value),

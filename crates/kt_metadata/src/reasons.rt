@@ -1,5 +1,5 @@
 ghost use Rattle.std.specs.Prelude.{◌≡◌, ◌++◌, chars, IfOk, bytes_eq, not};
-ghost use Rattle.kt_metadata.specs.Common.{list_any, find, option_copied, reason_text, text_in, config_reason_text, unsupported_reason_text, user_reason_text, need_reason_text, amount_reason_text, is_allowed, is_found, needed, is_undefined};
+ghost use Rattle.kt_metadata.specs.Common.{list_any, find, option_copied, reason_text, text_in, config_reason_text, unsupported_reason_text, user_reason_text, need_reason_text, amount_reason_text, is_allowed, is_found, required_objects, is_undefined};
 
 use crate::{Host, Meta, Need, RequiredUser};
 use kt_base::{NoMemory, Phrase, Reason, Text};
@@ -31,7 +31,7 @@ fn first_undefined_name<'a>(words: &'a [Text], config: &Config, suite: &Text) ->
 /// `meta` are the properties of the case. Returns `None` if all such objects were found.
 fn first_missing_object<'a>(need: Need, meta: &'a Meta, host: &Host) -> Option<&'a Text>
     ensures { option_copied result
-        ≡ find (λ word. not (is_found need host.now word)) (needed need meta.now) }
+        ≡ find (λ word. not (is_found need host.now word)) (required_objects need meta.now) }
 {
     let words = meta.required_objects(need);
     words.iter().find(|word| !host.has_object(need, *word))

@@ -1,5 +1,5 @@
 ghost use Rattle.std.specs.Prelude.{◌≡◌, IfOk};
-ghost use Rattle.kt_metadata.specs.Common.{text_in, architecture_reason_text, platform_reason_text, rows, host_reason_texts, first_reason};
+ghost use Rattle.kt_metadata.specs.Common.{text_in, architecture_reason_text, platform_reason_text, requirement_reason_texts, host_reason_texts, first_reason};
 
 use crate::reasons::{amount_reason, config_reason, need_reason, unsupported_reason, user_reason};
 use crate::{Host, Meta, Need};
@@ -78,7 +78,7 @@ pub fn unmet(
     host: &Host,
 ) -> Result<Option<Reason>, NoMemory>
     ensures { IfOk result (λ reason. text_in reason
-        ≡ first_reason (rows meta.now config.now suite.now host.now)) }
+        ≡ first_reason (requirement_reason_texts meta.now config.now suite.now host.now)) }
 {
     if let Some(reason) = config_reason(alloc, meta, config, suite)? {
         return Ok(Some(reason));

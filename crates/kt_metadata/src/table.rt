@@ -16,12 +16,12 @@ pub type PropertyRow = (&'static str, &'static str, Form);
 /// A row has the name of a property, its key in a list of ATF cases (this profile), and the form of
 /// its values. The names are those of kyuafile(5), and `has_cleanup` of atf-test-case(4).
 pub const PROPERTY_TABLE: [PropertyRow; 12] = [
-    ("allowed_architectures", "require.arch", Form::Words),
-    ("allowed_platforms", "require.machine", Form::Words),
+    ("allowed_architectures", "require.arch", Form::Elements),
+    ("allowed_platforms", "require.machine", Form::Elements),
     ("description", "descr", Form::Text),
     ("has_cleanup", "has.cleanup", Form::Truth),
     ("is_exclusive", "is.exclusive", Form::Truth),
-    ("required_configs", "require.config", Form::Words),
+    ("required_configs", "require.config", Form::Elements),
     ("required_disk_space", "require.diskspace", Form::Size),
     ("required_files", "require.files", Form::Files),
     ("required_memory", "require.memory", Form::Size),

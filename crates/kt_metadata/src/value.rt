@@ -19,7 +19,7 @@ pub enum RequiredUser {
 #[derive(Drop)]
 pub enum Value {
     /// A list: the elements of the text, in their order.
-    Words(Items<Text>),
+    Elements(Items<Text>),
     /// Any text. The text itself is stored in [`PropertyDefinition`].
     Text,
     /// A truth value: `true` or `false`.
@@ -99,7 +99,7 @@ impl Value {
         ensures { IfOk result (λ value. value ≡ self.now) }
     {
         match self {
-            Value::Words(words) => Ok(Value::Words(copy_words(alloc, words.as_slice())?)),
+            Value::Elements(words) => Ok(Value::Elements(copy_words(alloc, words.as_slice())?)),
             Value::Text => Ok(Value::Text),
             Value::Truth(truth) => Ok(Value::Truth(*truth)),
             Value::Size(bytes) => Ok(Value::Size(*bytes)),
@@ -120,7 +120,7 @@ impl Value {
         ensures { IfOk result (λ listed. listed ≡ listing_text self.now (chars text.now)) }
     {
         match self {
-            Value::Words(words) => join(alloc, words.as_slice()),
+            Value::Elements(words) => join(alloc, words.as_slice()),
             Value::Text => Text::from_str(alloc, text),
             Value::Truth(truth) => Text::from_str(alloc, truth_keyword(*truth)),
             Value::Size(bytes) => Text::from_number(alloc, *bytes),

@@ -1,5 +1,5 @@
 ghost use Rattle.std.specs.Prelude.{◌≡◌, ◌∷◌, [], ◌++◌, List, ℕ, IfOk, OnOk};
-ghost use Rattle.kt_metadata.specs.Common.{list_any, truth_of, user_of, number_of, unit_of, factor_of, checked_product, timeout_of_number, is_not_absolute, is_relative_with_slash, is_space, with_element, words, words_from, AreWords};
+ghost use Rattle.kt_metadata.specs.Common.{list_any, truth_of, user_of, number_of, unit_of, factor_of, checked_product, timeout_of_number, is_not_absolute, is_relative_with_slash, is_space, with_element, list_elements, elements_from, AreElements};
 ghost use Rattle.kt_metadata.specs.Values.{size_in, timeout_in};
 
 use crate::RequiredUser;
@@ -37,8 +37,8 @@ fn process_char(
     word: Text,
     c: char,
 ) -> Result<Text, NoMemory>
-    ensures { IfOk result (λ next. (rest : List ℕ) → words.new ++ words_from next rest
-        ≡ words.old ++ words_from word (c ∷ rest)) }
+    ensures { IfOk result (λ next. (rest : List ℕ) → words.new ++ elements_from next rest
+        ≡ words.old ++ elements_from word (c ∷ rest)) }
 {
     if is_space(c) {
         push_non_empty(words, word)?;
@@ -55,7 +55,7 @@ fn process_char(
 ///
 /// - `NoMemory`: an allocation fails.
 pub fn split_elements(alloc: Global, text: &Text) -> Result<Items<Text>, NoMemory>
-    ensures { IfOk result (λ found. found ≡ words text.now) }
+    ensures { IfOk result (λ found. found ≡ list_elements text.now) }
 {
     let mut found = Items::new(alloc);
     let mut word = Text::new(alloc);
@@ -66,13 +66,13 @@ pub fn split_elements(alloc: Global, text: &Text) -> Result<Items<Text>, NoMemor
     Ok(found)
 }
 
-/// Theorem: by the relation `AreWords`, each text has exactly one list of elements.
+/// Theorem: by the relation `AreElements`, each text has exactly one list of elements.
 ///
-/// The definition `words` returns this list.
+/// The definition `list_elements` returns this list.
 pub fn theorem_of_words()
-    ensures words { (text : List ℕ) → AreWords text (words text) }
-    ensures only { (text : List ℕ) → (found : List (List ℕ)) → AreWords text found
-        → found ≡ words text }
+    ensures words { (text : List ℕ) → AreElements text (list_elements text) }
+    ensures only { (text : List ℕ) → (found : List (List ℕ)) → AreElements text found
+        → found ≡ list_elements text }
 {}
 
 /// The truth values, each with its text in a Kyuafile or a list of ATF cases (kyuafile(5)).

@@ -6,7 +6,7 @@ pub use Rattle.std.specs.Str.{bytes_eq}
 unfoldable pub use Rattle.std.specs.Str.{chars}
 pub use Rattle.kt_base.specs.Utf8.{utf8}
 pub use Rattle.kt_os.specs.Types.{Body, Child, Cleanup, Role}
-pub use Rattle.kt_os.specs.Host.ProcessStates.{AllProceed, AllStay, OthersStay, Proceeds, ProcessState, same_child, is_same_role, process_state_in, process_state}
+pub use Rattle.kt_os.specs.Host.ProcessStates.{AllProceed, AllStay, OthersStay, Proceeds, ProcessState, is_same_child, is_same_role, process_state_in, process_state}
 pub use Rattle.kt_os.specs.Inner.Host.{setting_after_removals, setting_after_sets}
 pub use Rattle.kt_os.specs.Machines.{HasProgram, HostResponse, SearchesDirectories, directories, further, here, nowhere}
 pub use Rattle.kt_os.specs.declared.host.host_child.HostChild.{HostChild}

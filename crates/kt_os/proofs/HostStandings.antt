@@ -3,7 +3,7 @@ use Rattle.std.proofs.Common.{◌≡◌, ◌==◌, ℕ, zero, suc, Bool, true, f
 use Rattle.std.specs.Map.{lookup, values_of}
 use Rattle.std.specs.Option.{option_and_then}
 use Rattle.indexmap.specs.Layout.{set_value_at}
-use Rattle.kt_os.proofs.Common.{and_parts, nat_tests, Role, Body, Cleanup, is_same_role, Child, HostChild, same_child, ProcessState, Proceeds, AllProceed, AllStay, OthersStay, process_state_in, process_state}
+use Rattle.kt_os.proofs.Common.{and_parts, nat_tests, Role, Body, Cleanup, is_same_role, Child, HostChild, is_same_child, ProcessState, Proceeds, AllProceed, AllStay, OthersStay, process_state_in, process_state}
 use Rattle.std.proofs.lemmas.Option.{same_Some}
 
 -- Numbers that `==` accepts are equal.
@@ -16,8 +16,8 @@ same_role_is Body Body e = refl
 same_role_is Cleanup Cleanup e = refl
 same_role_is a b e = absurd (cc)
 
--- Names that `same_child` accepts are equal.
-same_child_is : (a b : Child) → same_child a b ≡ true → a ≡ b
+-- Names that `is_same_child` accepts are equal.
+same_child_is : (a b : Child) → is_same_child a b ≡ true → a ≡ b
 same_child_is a b e =
     let w = and_parts (a.attempt == b.attempt) (is_same_role a.role b.role) e in
     let attempt = same_number a.attempt b.attempt w.0 in
@@ -26,9 +26,9 @@ same_child_is a b e =
 
 -- If one child's state and those of the others are unchanged, all are.
 pub all_stay : (child : Child) (old new : Child → ProcessState) → new child ≡ old child → OthersStay child old new → AllStay old new
-all_stay child old new own others c = by (same_child child c) refl
+all_stay child old new own others c = by (is_same_child child c) refl
   where
-    by : (t : Bool) → same_child child c ≡ t → new c ≡ old c
+    by : (t : Bool) → is_same_child child c ≡ t → new c ≡ old c
     by true e = rw (← same_child_is child c e) own
     by false e = others c e
 
@@ -67,13 +67,13 @@ module _ {P I O E : Type 0} where
       → Proceeds (process_state h) (process_state w) → AllProceed (process_state_in held) (process_state_in (set_value_at held i w))
   all_proceed_set [] i h w at p c = absurd (cc)
   all_proceed_set (x ∷ held) zero h w at p c =
-      proceeds_if (same_child c x.0) x.1 w (lookup (same_child c) held) (lookup (same_child c) held)
+      proceeds_if (is_same_child c x.0) x.1 w (lookup (is_same_child c) held) (lookup (is_same_child c) held)
       (rw (same_Some x.1 h at) p) (proceeds_same _)
   all_proceed_set (x ∷ held) (suc i) h w at p c =
-      proceeds_if (same_child c x.0) x.1 x.1 (lookup (same_child c) held) (lookup (same_child c) (set_value_at held i w)) (proceeds_same _)
+      proceeds_if (is_same_child c x.0) x.1 x.1 (lookup (is_same_child c) held) (lookup (is_same_child c) (set_value_at held i w)) (proceeds_same _)
       (all_proceed_set held i h w at p c)
 
-  module _ {eq : Child → Child → Bool} (agrees : (a b : Child) → eq a b ≡ same_child a b) (old new : List (Child × HostChild P I O E)) (child : Child) where
+  module _ {eq : Child → Child → Bool} (agrees : (a b : Child) → eq a b ≡ is_same_child a b) (old new : List (Child × HostChild P I O E)) (child : Child) where
     -- A map that changes one child's entry leaves the states of the others.
     pub others_stay : ((c : Child) → eq child c ≡ false → lookup (eq c) new ≡ lookup (eq c) old) → OthersStay child (process_state_in old) (process_state_in new)
     others_stay kept c other =

@@ -10,10 +10,10 @@ use Rattle.kt_os.specs.declared.system.OsFault.TheVariants.{Failed, Memory}
 -- the result of the system's call. If `answer` has a directory, the only possible fault is a failed
 -- allocation. If `answer` is an error, `result` is a fault.
 abbrev pub IsWorkingDirectory : Result (List ℕ) Error → Result (List ℕ) OsFault → Type 0
-IsWorkingDirectory (Ok answer) (Ok here) = here ≡ chars answer
+IsWorkingDirectory (Ok answer) (Ok working_dir) = working_dir ≡ chars answer
 IsWorkingDirectory (Ok answer) (Err (Memory refusal)) = ⊤
 IsWorkingDirectory (Ok answer) (Err Failed) = ⊥
-IsWorkingDirectory (Err error) (Ok here) = ⊥
+IsWorkingDirectory (Err error) (Ok working_dir) = ⊥
 IsWorkingDirectory (Err error) (Err fault) = ⊤
 
 -- `IsVariable answer room result`: `result` is the value of an environment variable. The system
@@ -38,7 +38,7 @@ IsVariableValue value = (answer : Result ℕ FillError) × (room : List ℕ) × 
 -- directory failed. Nothing ties the results to the calls that the process made, since the library
 -- has no relation for them.
 abbrev pub IsProcessEnv : Result ProcessEnv OsFault → Type 0
-IsProcessEnv (Ok around) = ((answer : Result (List ℕ) Error) × IsWorkingDirectory answer (Ok around.here)) × IsVariableValue around.path × IsVariableValue around.user
+IsProcessEnv (Ok around) = ((answer : Result (List ℕ) Error) × IsWorkingDirectory answer (Ok around.working_dir)) × IsVariableValue around.path × IsVariableValue around.user
 IsProcessEnv (Err fault) = (answer : Result (List ℕ) Error) × IsWorkingDirectory answer (Err fault)
 
 -- `is_root user`: `true` if `user`, the value of the variable `USER`, is `root`.

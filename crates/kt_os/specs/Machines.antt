@@ -23,14 +23,14 @@ file_fault_of (fault.Memory refusal) = file.Memory refusal
 
 -- `HostResponse`: a call to the host with its result. `ReadsFile` reads the start of a file.
 -- `IsFile`, `PathExists` and `IsProgram` check that a path names a regular file, any file or an
--- executable file. `HasMoment` reads the clock, in milliseconds since 1970-01-01 UTC. Paths are
+-- executable file. `ReadsClock` reads the clock, in milliseconds since 1970-01-01 UTC. Paths are
 -- bytes.
 pub data HostResponse : Type 0 where
   ReadsFile : (path : List ℕ) (answer : Result (List ℕ) FileFault) → HostResponse
   IsFile : (path : List ℕ) (answer : Bool) → HostResponse
   PathExists : (path : List ℕ) (answer : Bool) → HostResponse
   IsProgram : (path : List ℕ) (answer : Bool) → HostResponse
-  HasMoment : (moment : ℕ) → HostResponse
+  ReadsClock : (moment : ℕ) → HostResponse
 
 -- `directories path`: the directories in `path`, a value of `PATH` in which colons separate them.
 abbrev pub directories : List ℕ → List (List ℕ)
@@ -43,19 +43,19 @@ path_in [] name = name
 path_in (b ∷ bs) name = (b ∷ bs) ++ codes "/" ++ name
 
 module _ {M : Type 0} (answers : M → HostResponse → M → Type 0) where
-  -- `CallsAtPath answers path asked Unasked old new`: the call `asked` about the joined path `path`
+  -- `CallsUnlessTooLong answers path asked Unasked old new`: the call `asked` about the joined path `path`
   -- leads the host from state `old` to `new`. If the path is longer than `longest_path`, no call is
   -- made, and `Unasked` holds. `answers` is the relation of the host's calls.
-  pub data CallsAtPath (path : List ℕ) (asked : HostResponse) (Unasked : Type 0) (old new : M) : Type 0 where
-    taken : length path ≤ longest_path → answers old asked new → CallsAtPath path asked Unasked old new
-    too_long : longest_path < length path → Unasked → new ≡ old → CallsAtPath path asked Unasked old new
+  pub data CallsUnlessTooLong (path : List ℕ) (asked : HostResponse) (Unasked : Type 0) (old new : M) : Type 0 where
+    taken : length path ≤ longest_path → answers old asked new → CallsUnlessTooLong path asked Unasked old new
+    too_long : longest_path < length path → Unasked → new ≡ old → CallsUnlessTooLong path asked Unasked old new
 
   -- `HasProgram answers name directory answer old new`: `answer` is `true` if the host reports that
   -- `directory` has the program `name`. The call leads the host from state `old` to `new`. If the
   -- joined path is longer than `longest_path`, no call is made, and `answer` is `false`. `answers`
   -- is the relation of the host's calls.
   abbrev pub HasProgram : List ℕ → List ℕ → Bool → M → M → Type 0
-  HasProgram name directory answer old new = CallsAtPath (path_in directory name) (IsProgram (path_in directory name) answer) (answer ≡ false) old new
+  HasProgram name directory answer old new = CallsUnlessTooLong (path_in directory name) (IsProgram (path_in directory name) answer) (answer ≡ false) old new
 
   -- `SearchesDirectories answers name directories answer old new`: the program `name` is looked up
   -- in `directories`, in order, up to the first directory that has it. `answer` is `true` if some
@@ -85,9 +85,9 @@ module _ {M : Type 0} (answers : M → HostResponse → M → Type 0) where
   IsFoundByName true path name answer old new = answers old (IsProgram (utf8 name) answer) new
   IsFoundByName false path name answer old new = IsFoundInPath (list_any is_slash name) path name answer old new
 
-  -- `IsFoundByPath answers path name answer old new`: `answer` is `true` if the required program
+  -- `IsProgramFound answers path name answer old new`: `answer` is `true` if the required program
   -- `name` is found with `path`, the value of `PATH`. A name that begins with a slash is the path
   -- of the program. Other names with a slash are not found. The calls lead the host from state
   -- `old` to `new`. `answers` is the relation of the host's calls.
-  abbrev pub IsFoundByPath : Option (List ℕ) → List ℕ → Bool → M → M → Type 0
-  IsFoundByPath path name answer old new = IsFoundByName (is_absolute name) path name answer old new
+  abbrev pub IsProgramFound : Option (List ℕ) → List ℕ → Bool → M → M → Type 0
+  IsProgramFound path name answer old new = IsFoundByName (is_absolute name) path name answer old new

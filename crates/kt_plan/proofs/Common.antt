@@ -11,15 +11,15 @@ pub use Rattle.kt_base.specs.declared.child.Interface.TheVariants.{Atf, Plain, T
 pub use Rattle.kt_config.specs.FaultMessages.{config_message}
 pub use Rattle.kt_plan.specs.Types.{Candidate, CaseOptions, CaseSelection, CommandSelection, Definition, Filter, FilterFault, FilterRule, Host, Job, Need, Program, Settings, SelectionError, SuiteFault, Values}
 pub use Rattle.kt_config.specs.declared.fault.ConfigFault.{ConfigFault}
-pub use Rattle.kt_metadata.specs.Requirements.{RecordsAsFound, is_found, is_same_need, needed}
+pub use Rattle.kt_metadata.specs.Requirements.{RecordsAsFound, is_found, is_same_need, required_objects}
 pub use Rattle.kt_metadata.specs.declared.meta.Meta.{Meta}
 pub use Rattle.kt_sched.specs.Children.{Child, IsIdle}
-pub use Rattle.kt_sched.specs.Plan.{IsFit, IsPlan}
+pub use Rattle.kt_sched.specs.Plan.{IsStartableJob, IsPlan}
 pub use Rattle.kt_suite.proofs.FaultMessages.{utf8-script}
 pub use Rattle.kt_suite.specs.Answers.{LeadsByCalls, Asked}
 pub use Rattle.kt_suite.specs.Matching.{MayMatch}
 pub use Rattle.kt_suite.specs.Paths.{name_in}
-pub use Rattle.kt_suite.specs.Selecting.{is_selected, item_limit, places}
+pub use Rattle.kt_suite.specs.Selecting.{is_selected, item_limit, passing_positions}
 pub use Rattle.kt_suite.specs.declared.cause.SuiteCause.TheVariants.{NoMemory, Unreadable}
 unfoldable pub use lib.Utf8.{encode}
 pub use Rattle.kt_plan.specs.Collecting.{Collects, IsCollectionPrefix, IsSelectable, ListsAllCases, IsAllListsPrefix, ListsProgramCases, asks, candidates_of, chosen, selection_of, item_of, listed, listing, loading, no_further, offering, one_and, passes, selected_cases, single, too_many, unlisted, unloaded, variables_for}

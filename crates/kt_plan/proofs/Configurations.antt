@@ -3,7 +3,7 @@ use Rattle.std.proofs.Common.{Option, Some, None, Result, Ok, Err, IsErrAnd, ◌
 use Rattle.kt_plan.proofs.Common.{Definition, ConfigFault, Values, LeadsByCalls, HasConfiguration, HoldsOrNoMemory, IsNoMemoryError, finished, memory_ran_out, AppendsDefinitions, AppendsDefinition, HasValuesOf, config_read_error, Configures, IsReadPrefix, before_file, after_file, IsConfiguration, ReadsConfig, values_after, cons_result, defined, failed, missing, none, read, refused, seen, stopped, unread, argument_definition, argument_definitions, CaseOptions, Reply, ReadConfig, SelectionError}
 use Rattle.kt_base.proofs.Lists.{error_is}
 use Rattle.kt_base.specs.declared.no_memory.NoMemory.{NoMemory as OutOfMemory}
-use Rattle.kt_config.specs.Holding.{Holds}
+use Rattle.kt_config.specs.Holding.{HasValuesSetBy}
 use Rattle.kt_plan.proofs.Chains.{answered-as, answered-once}
 use Rattle.kt_plan.proofs.Stops.{error_as, held, ran_out}
 use Rattle.kt_config.specs.Reading.{HasFault, IsConfigFile}
@@ -39,7 +39,7 @@ pub refused_config_file : (bytes : List ℕ) (fault : ConfigFault) → HasFault 
 refused_config_file bytes fault d = record { meant = Err (stop.Configuration fault); means = refused fault d; gives = refl }
 
 -- Without a file, the configuration is empty.
-pub none_given : (path : Option (List ℕ)) (config : Values) → path ≡ None → Holds config [] → HasConfiguration (ReadsConfig path []) (Ok config)
+pub none_given : (path : Option (List ℕ)) (config : Values) → path ≡ None → HasValuesSetBy config [] → HasConfiguration (ReadsConfig path []) (Ok config)
 none_given path config e h = record { meant = Ok []; means = subst (λ (p : Option (List ℕ)). ReadsConfig p [] (Ok [])) (sym e) none; gives = h }
 
 -- If a configuration is an error, its definitions are this error.
@@ -121,12 +121,12 @@ module _ {W : Type 0} (replies : W → Reply → W → Type 0) (old new : W) whe
 -- `HasSet first config words rest`: the arguments of `words` before its suffix `rest` changed the
 -- configuration from `first` to `config`.
 pub record HasSet (first config : Values) (words rest : List (List ℕ)) : Type 0 where
-  pub so_far : (before : List Definition) → Holds first before
-      → (all : List Definition) × Holds config all × (values_after before (argument_definitions words) ≡ values_after all (argument_definitions rest))
+  pub so_far : (before : List Definition) → HasValuesSetBy first before
+      → (all : List Definition) × HasValuesSetBy config all × (values_after before (argument_definitions words) ≡ values_after all (argument_definitions rest))
 
 -- The definition of an argument follows the definitions before it.
 one_given : (before : List Definition) (next : Values) (m : Result Definition SelectionError) (rest : Result (List Definition) SelectionError) → HasValuesOf (Ok next) (values_after before (cons_result m (Ok [])))
-    → (all : List Definition) × Holds next all × (values_after before (cons_result m rest) ≡ values_after all rest)
+    → (all : List Definition) × HasValuesSetBy next all × (values_after before (cons_result m rest) ≡ values_after all rest)
 one_given before next (Ok d) rest g = (before ++ d ∷ [], g, values_after-cons_result before d rest)
 one_given before next (Err fault) rest g = absurd g
 

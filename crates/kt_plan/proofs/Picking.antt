@@ -1,10 +1,10 @@
 -- Lemmas on the selection of cases by their indexes.
 use Rattle.std.proofs.Common.{Bool, false, true, ◌≡◌, ℕ, ◌+◌, ◌≤◌, List, [], ◌∷◌, ◌++◌, sym, ◌∙◌, arith, append_assoc, map}
-use Rattle.kt_plan.proofs.Common.{common_steps, Filter, places, is_selected, Candidate, item_of, selected_cases, selected_indexes}
+use Rattle.kt_plan.proofs.Common.{common_steps, Filter, passing_positions, is_selected, Candidate, item_of, selected_cases, selected_indexes}
 use Rattle.kt_suite.specs.declared.selecting.Item.{Item}
 
 -- The first index of a selection is at least the index of its first item.
-no_earlier : (test : Item → Bool) (n : ℕ) (items : List Item) (m : ℕ) (ms : List ℕ) → places test n items ≡ m ∷ ms → n ≤ m
+no_earlier : (test : Item → Bool) (n : ℕ) (items : List Item) (m : ℕ) (ms : List ℕ) → passing_positions test n items ≡ m ∷ ms → n ≤ m
 no_earlier test n [] m ms e = absurd (cc)
 no_earlier test n (item ∷ items) m ms e = grind (arith, no_earlier test (n + 1) items m ms)
 

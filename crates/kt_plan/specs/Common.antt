@@ -4,7 +4,7 @@ pub use Rattle.kt_base.specs.Moments.{IsMoment}
 pub use Rattle.kt_base.specs.declared.child.Role.{Role}
 pub use Rattle.kt_config.specs.Names.{definition_named}
 pub use Rattle.kt_config.specs.Values.{Values}
-pub use Rattle.kt_metadata.specs.Requirements.{first_reason, rows}
+pub use Rattle.kt_metadata.specs.Requirements.{first_reason, requirement_reason_texts}
 pub use Rattle.kt_sched.specs.Children.{IsIdle}
 pub use Rattle.kt_sched.specs.Plan.{IsPlan}
 pub use Rattle.kt_suite.specs.Answers.{LeadsByCalls, Asked}

@@ -7,7 +7,7 @@ use Rattle.kt_script.specs.Spelling.{Spells}
 use Rattle.kt_script.specs.declared.syntax.Stmt.{Stmt}
 use Rattle.kt_config.specs.declared.fault.ConfigFault.{ConfigFault}
 use Rattle.kt_config.specs.declared.fault.ConfigFault.TheVariants.{BadValue}
-use Rattle.kt_config.specs.Holding.{Holds}
+use Rattle.kt_config.specs.Holding.{HasValuesSetBy}
 use Rattle.kt_config.specs.Names.{definition_named}
 use Rattle.kt_config.specs.Reading.{definitions_of_file, HasFault}
 use Rattle.kt_suite.specs.Disjoint.{overlap_fault, IsDisjoint}
@@ -145,7 +145,7 @@ pub data ReadsSettings (rule : FilterRule) (options : CaseOptions) (answers : Li
   unconfigured : (fault : SelectionError) → Configures options answers (Err fault) → ReadsSettings rule options answers (Err fault)
   unfiltered : (definitions : List Definition) (fault : SelectionError) → Configures options answers (Ok definitions) → Filters rule options.filters (Err fault)
       → ReadsSettings rule options answers (Err fault)
-  settled : (definitions : List Definition) (settings : Settings) → Configures options answers (Ok definitions) → Holds settings.config definitions
+  settled : (definitions : List Definition) (settings : Settings) → Configures options answers (Ok definitions) → HasValuesSetBy settings.config definitions
       → Filters rule options.filters (Ok settings.filters) → ReadsSettings rule options answers (Ok settings)
 
 -- `IsReadPrefix path replies`: `replies` may be the calls that read the settings of a command

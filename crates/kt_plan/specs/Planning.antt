@@ -10,7 +10,7 @@ use Rattle.kt_base.specs.declared.verdict.Reason.{Reason}
 use Rattle.kt_base.specs.Reasons.{reason_text}
 use Rattle.kt_metadata.specs.Effective.{effective}
 use Rattle.kt_metadata.specs.Listing.{listing}
-use Rattle.kt_metadata.specs.Requirements.{all_needs, first_reason, is_found, is_same_need, needed, rows}
+use Rattle.kt_metadata.specs.Requirements.{all_needs, first_reason, is_found, is_same_need, required_objects, requirement_reason_texts}
 use Rattle.kt_metadata.specs.declared.meta.Meta.{Meta}
 use Rattle.kt_plan.specs.Collecting.{variables_for}
 use Rattle.kt_plan.specs.WorldCalls.{IsCallPrefix}
@@ -31,7 +31,7 @@ needs_of_kind need words = map (λ word. (need, word)) words
 -- `needs`.
 abbrev pub needs_of_kinds : List Need → Meta → List (Need × List ℕ)
 needs_of_kinds [] meta = []
-needs_of_kinds (need ∷ needs) meta = needs_of_kind need (needed need meta) ++ needs_of_kinds needs meta
+needs_of_kinds (need ∷ needs) meta = needs_of_kind need (required_objects need meta) ++ needs_of_kinds needs meta
 
 -- `case_needs fault meta`: the required files and programs of a case with the properties `meta`,
 -- each with its kind: file or program. There are none if `fault` has the reason why the list of its
@@ -109,7 +109,7 @@ pub record IsJobOf (config : Values) (host : Host) (position : ℕ) (candidate :
   pub timeout : job.timeout ≡ (candidate_meta candidate).timeout
   pub exclusive : job.exclusive ≡ (candidate_meta candidate).is_exclusive
   pub cleanup : job.cleanup ≡ (is_atf candidate.interface && (candidate_meta candidate).has_cleanup)
-  pub decided : DecidesVerdict candidate.case.fault (first_reason (rows (candidate_meta candidate) config candidate.suite host)) job.decided
+  pub decided : DecidesVerdict candidate.case.fault (first_reason (requirement_reason_texts (candidate_meta candidate) config candidate.suite host)) job.decided
   pub meta : job.meta ≡ listing candidate.case.props
 
 -- `ArePlanned config host position candidates jobs`: `jobs` has one job for each of the cases

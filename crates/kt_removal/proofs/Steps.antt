@@ -8,8 +8,8 @@ pub stays_then : (a b c : Removals) → KeepsQueue a b → KeepsQueue b c → Ke
 stays_then a b c first second =
     record {
       root = second.root ∙ first.root;
-      place = second.place ∙ first.place;
-      done = second.done ∙ first.done;
+      queue_dir = second.queue_dir ∙ first.queue_dir;
+      current_number = second.current_number ∙ first.current_number;
       moved = λ m. second.moved (first.moved m);
     }
 
@@ -17,5 +17,5 @@ stays_then a b c first second =
 pub may_stays : (a b : Removals) (path : List ℕ) → KeepsQueue a b → MayEmpty a path → MayEmpty b path
 may_stays a b path s (inl root) = inl (root ∙ sym s.root)
 may_stays a b path s (inr (inl (name, is, number))) = inr (inl (name, rw s.root is, number))
-may_stays a b path s (inr (inr (inl place))) = inr (inr (inl (place ∙ sym s.place)))
-may_stays a b path s (inr (inr (inr (moved, is)))) = inr (inr (inr (s.moved moved, rw s.place (rw s.done is))))
+may_stays a b path s (inr (inr (inl queue_dir))) = inr (inr (inl (queue_dir ∙ sym s.queue_dir)))
+may_stays a b path s (inr (inr (inr (moved, is)))) = inr (inr (inr (s.moved moved, rw s.queue_dir (rw s.current_number is))))

@@ -1,5 +1,5 @@
 ghost use Rattle.std.specs.Prelude.{◌≡◌, ◌↔◌, ◌≤◌, ◌+◌, ◌-◌, ◌^◌, min, IsTrue};
-ghost use Rattle.kt_removal.specs.Common.{IsSpent, closing_limit, case_limit, min_root_steps};
+ghost use Rattle.kt_removal.specs.Common.{IsSpent, root_limit_micros, case_limit_micros, min_root_steps};
 
 use std::rt::Clock;
 use std::time::Instant;
@@ -21,7 +21,7 @@ pub(crate) struct RemovalLimit {
     /// the removal, since a clock may stop.
     pub(crate) micros: u64,
     /// The minimum number of steps before the time limit can stop the removal.
-    pub(crate) least: u64,
+    pub(crate) min_steps: u64,
     /// The number of steps that the removal has taken so far.
     steps: u64,
 }
@@ -44,7 +44,7 @@ fn is_spent(micros: u64, steps: u64, taken: Option<u128>) -> bool
 /// The limit is 5 seconds, plus 10 milliseconds for each of the `waiting` directories in the
 /// removal queue.
 fn root_limit_micros(waiting: u32) -> u64
-    ensures { result ≡ closing_limit waiting }
+    ensures { result ≡ root_limit_micros waiting }
 {
     5_000_000 + 10_000 * u64::from(waiting)
 }
@@ -65,21 +65,21 @@ impl RemovalLimit {
     /// Creates a time limit of `micros` microseconds from now.
     pub(crate) fn from_now<C: Clock>(clock: &C, micros: u64) -> RemovalLimit
         ensures micros { result.micros ≡ micros }
-        ensures least { result.least ≡ 0 }
+        ensures min_steps { result.min_steps ≡ 0 }
         ensures steps { result.steps ≡ 0 }
     {
         RemovalLimit {
             started: Instant::now(clock).ok(),
             micros,
-            least: 0,
+            min_steps: 0,
             steps: 0,
         }
     }
 
     /// Creates the time limit for the removal of a case's directory: 5 milliseconds from now.
     pub(crate) fn case_limit<C: Clock>(clock: &C) -> RemovalLimit
-        ensures micros { result.micros ≡ case_limit }
-        ensures least { result.least ≡ 0 }
+        ensures micros { result.micros ≡ case_limit_micros }
+        ensures min_steps { result.min_steps ≡ 0 }
     {
         RemovalLimit::from_now(clock, CASE_LIMIT_MICROS)
     }
@@ -89,14 +89,14 @@ impl RemovalLimit {
     /// `waiting` is the number of directories in the removal queue, each of which extends the
     /// limit.
     pub(crate) fn root_limit<C: Clock>(clock: &C, waiting: u32) -> RemovalLimit
-        ensures micros { result.micros ≡ closing_limit waiting }
-        ensures least { result.least ≡ min_root_steps waiting }
+        ensures micros { result.micros ≡ root_limit_micros waiting }
+        ensures min_steps { result.min_steps ≡ min_root_steps waiting }
         ensures steps { result.steps ≡ 0 }
     {
         RemovalLimit {
             started: Instant::now(clock).ok(),
             micros: root_limit_micros(waiting),
-            least: min_root_steps(waiting),
+            min_steps: min_root_steps(waiting),
             steps: 0,
         }
     }
@@ -117,10 +117,10 @@ impl RemovalLimit {
 
     /// Counts a step of the removal, and returns `true` if the removal must stop after this step.
     pub(crate) fn must_stop_after_step<C: Clock>(&mut self, clock: &C) -> bool
-        ensures least { IsTrue result → self.old.least ≤ self.new.steps }
+        ensures min_steps { IsTrue result → self.old.min_steps ≤ self.new.steps }
         ensures counted { self.new.steps ≡ min (self.old.steps + 1) (2 ^ 64 - 1) }
     {
         self.steps = self.steps.saturating_add(1);
-        self.steps >= self.least && is_spent(self.micros, self.steps, self.elapsed_micros(clock))
+        self.steps >= self.min_steps && is_spent(self.micros, self.steps, self.elapsed_micros(clock))
     }
 }

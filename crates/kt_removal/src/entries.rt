@@ -81,7 +81,7 @@ impl Removals {
     /// Fails if the directory can't be renamed.
     pub(crate) fn move_into_queue<R: Files>(&self, rt: &R, path: &[u8], to: &Text) -> io::Result<()>
         requires from { MayRemove self.now path.now }
-        requires to { to.now ≡ queued_dir self.now.place self.now.moved }
+        requires to { to.now ≡ queued_dir self.now.queue_dir self.now.next_number }
     {
         match str::from_utf8(path) {
             Ok(text) => fs::rename(rt, text, to.as_str()),

@@ -1,6 +1,6 @@
 ghost use Rattle.std.specs.Prelude.{◌≡◌, ◌≤◌, ◌++◌, ◌∷◌, [], false, ◌==◌, IfOk, IfSome};
 ghost use Rattle.std.specs.List.{list_any};
-ghost use Rattle.kt_removal.specs.Common.{IsCaseDirectory, IsRemovable, HasNextDirectory, MayEmpty, MayRemove, KeepsQueue, closing_limit, is_entry_name, queued_dir, min_root_steps, waiting};
+ghost use Rattle.kt_removal.specs.Common.{IsCaseDirectory, IsRemovable, HasNextDirectory, MayEmpty, MayRemove, KeepsQueue, root_limit_micros, is_entry_name, queued_dir, min_root_steps, waiting};
 
 use crate::bounds::RemovalLimit;
 use crate::cases::is_case_directory;
@@ -17,11 +17,11 @@ use std::{fs, io, thread};
 /// The size of the buffer for the names of a directory's entries, in bytes.
 const NAMES_BYTES: usize = 1_024;
 
-/// Returns the path of the directory with the number `number` in the queue directory `place`.
-fn queued_path(alloc: Global, place: &Text, number: u64) -> Result<Text, NoMemory>
-    ensures { IfOk result (λ path. path ≡ queued_dir place.now number) }
+/// Returns the path of the directory with the number `number` in the queue directory `queue_dir`.
+fn queued_path(alloc: Global, queue_dir: &Text, number: u64) -> Result<Text, NoMemory>
+    ensures { IfOk result (λ path. path ≡ queued_dir queue_dir.now number) }
 {
-    let path = numbered_path(alloc, place, "/", number)?;
+    let path = numbered_path(alloc, queue_dir, "/", number)?;
     Ok(path)
 }
 
@@ -40,28 +40,28 @@ impl Removals {
     ghost use Rattle.std.specs.Prelude.{◌<◌, ◌↔◌, ◌+◌, ◌-◌, ◌^◌, ◌⊎◌, min, true, IsTrue};
 
     /// Creates an empty queue for removals in the directory `root`, with the queue directory
-    /// `place`.
+    /// `queue_dir`.
     ///
     /// The caller has just created both directories.
     ///
     /// # Errors
     ///
-    /// - `NotADirectory`: `root` or `place` is not a directory.
-    /// - Any other error: the status of `root` or `place` can't be read.
-    pub fn new<R: Files + AllocGlobal>(rt: &R, root: Text, place: Text) -> io::Result<Removals>
+    /// - `NotADirectory`: `root` or `queue_dir` is not a directory.
+    /// - Any other error: the status of `root` or `queue_dir` can't be read.
+    pub fn new<R: Files + AllocGlobal>(rt: &R, root: Text, queue_dir: Text) -> io::Result<Removals>
         ensures root { IfOk result (λ removals. removals.root ≡ root) }
-        ensures place { IfOk result (λ removals. removals.place ≡ place) }
+        ensures queue_dir { IfOk result (λ removals. removals.queue_dir ≡ queue_dir) }
     {
         let root_identity = DirIdentity::from_path(rt, root.as_str())?;
-        let queue_identity = DirIdentity::from_path(rt, place.as_str())?;
+        let queue_identity = DirIdentity::from_path(rt, queue_dir.as_str())?;
         let gaps = Vec::new(rt.alloc());
         Ok(Removals {
             root,
-            place,
+            queue_dir,
             root_identity,
             queue_identity,
-            moved: 0,
-            done: 0,
+            next_number: 0,
+            current_number: 0,
             gaps,
             progress: false,
         })
@@ -72,45 +72,45 @@ impl Removals {
     /// Returns `false` if a process removed or replaced the queue directory, or if its status can't
     /// be read.
     fn has_queue_dir<R: Files>(&self, rt: &R) -> bool {
-        self.queue_identity.is_at(rt, self.place.as_str())
+        self.queue_identity.is_at(rt, self.queue_dir.as_str())
     }
 
     /// Returns the path in the queue directory to which the next directory is moved.
     fn next_queued_path(&self, alloc: Global) -> Result<Text, NoMemory>
-        ensures { IfOk result (λ path. path ≡ queued_dir self.now.place self.now.moved) }
+        ensures { IfOk result (λ path. path ≡ queued_dir self.now.queue_dir self.now.next_number) }
     {
-        queued_path(alloc, &self.place, self.moved)
+        queued_path(alloc, &self.queue_dir, self.next_number)
     }
 
-    /// Returns `true` if no directory has the queue's next number, `done`, because the move to this
+    /// Returns `true` if no directory has the queue's next number, `current_number`, because the move to this
     /// number failed.
     fn is_gap(&self) -> bool
-        ensures { result ≡ list_any (λ n. n == self.now.done) self.now.gaps.items }
+        ensures { result ≡ list_any (λ n. n == self.now.current_number) self.now.gaps.items }
     {
-        self.gaps.as_slice().contains(&self.done)
+        self.gaps.as_slice().contains(&self.current_number)
     }
 
     /// Returns the number of directories in the queue, at most 2^32 - 1. A number that was skipped
     /// after a failed move counts, too.
     fn queue_length(&self) -> u32
-        ensures { result ≡ waiting self.now.moved self.now.done }
+        ensures { result ≡ waiting self.now.next_number self.now.current_number }
     {
-        u32::try_from(self.moved.saturating_sub(self.done)).unwrap_or(u32::MAX)
+        u32::try_from(self.next_number.saturating_sub(self.current_number)).unwrap_or(u32::MAX)
     }
 
     /// Returns `true` if the queue is not empty. A number that was skipped after a failed move
     /// counts as a directory.
     fn is_pending(&self) -> bool
-        ensures { IsTrue result ↔ (self.now.done < self.now.moved) }
+        ensures { IsTrue result ↔ (self.now.current_number < self.now.next_number) }
     {
-        self.done < self.moved
+        self.current_number < self.next_number
     }
 
     /// Returns the path of the queued directory that is emptied next.
     fn next_dir_path(&self, alloc: Global) -> Result<Text, NoMemory>
-        ensures { IfOk result (λ path. path ≡ queued_dir self.now.place self.now.done) }
+        ensures { IfOk result (λ path. path ≡ queued_dir self.now.queue_dir self.now.current_number) }
     {
-        queued_path(alloc, &self.place, self.done)
+        queued_path(alloc, &self.queue_dir, self.current_number)
     }
 
     /// Removes the empty directory `path`, or a file that a process put at this path. Returns
@@ -127,11 +127,11 @@ impl Removals {
     /// skipped, so the next move tries it again.
     fn skip_number(&mut self)
         ensures stays { KeepsQueue self.old self.new }
-        ensures gap { (self.new.moved ≡ self.old.moved)
-            ⊎ (self.new.gaps.items ≡ self.old.gaps.items ++ self.old.moved ∷ []) }
+        ensures gap { (self.new.next_number ≡ self.old.next_number)
+            ⊎ (self.new.gaps.items ≡ self.old.gaps.items ++ self.old.next_number ∷ []) }
     {
-        if self.gaps.push(self.moved).is_ok() {
-            self.moved = self.moved.saturating_add(1);
+        if self.gaps.push(self.next_number).is_ok() {
+            self.next_number = self.next_number.saturating_add(1);
         }
     }
 
@@ -141,14 +141,14 @@ impl Removals {
     fn enqueue<R: Files + AllocGlobal>(&mut self, rt: &R, path: &[u8]) -> bool
         requires { MayRemove self.old path.now }
         ensures stays { KeepsQueue self.old self.new }
-        ensures unmoved { result ≡ false → (self.new.moved ≡ self.old.moved)
-            ⊎ (self.new.gaps.items ≡ self.old.gaps.items ++ self.old.moved ∷ []) }
+        ensures unmoved { result ≡ false → (self.new.next_number ≡ self.old.next_number)
+            ⊎ (self.new.gaps.items ≡ self.old.gaps.items ++ self.old.next_number ∷ []) }
     {
         let Ok(to) = self.next_queued_path(rt.alloc()) else {
             return false;
         };
         if self.has_queue_dir(rt) && self.move_into_queue(rt, path, &to).is_ok() {
-            self.moved = self.moved.saturating_add(1);
+            self.next_number = self.next_number.saturating_add(1);
             return true;
         }
         self.skip_number();
@@ -188,7 +188,7 @@ impl Removals {
         };
         if self.remove_file(rt, path.as_slice()).is_ok() {
             self.progress = true;
-        } else if path.as_slice() != self.place.as_bytes() {
+        } else if path.as_slice() != self.queue_dir.as_bytes() {
             self.remove_directory(rt, path.as_slice());
         }
     }
@@ -245,11 +245,11 @@ impl Removals {
     /// entry of it could be removed or moved, or if its own move fails.
     fn remove_emptied_dir<R: Files + AllocGlobal>(&mut self, rt: &R, path: &Text)
         requires moved { HasNextDirectory self.old }
-        requires path { path.now ≡ queued_dir self.old.place self.old.done }
+        requires path { path.now ≡ queued_dir self.old.queue_dir self.old.current_number }
         ensures root { self.new.root ≡ self.old.root }
-        ensures place { self.new.place ≡ self.old.place }
+        ensures queue_dir { self.new.queue_dir ≡ self.old.queue_dir }
         ensures progress { self.new.progress ≡ false }
-        ensures done { self.new.done ≡ min (self.old.done + 1) (2 ^ 64 - 1) }
+        ensures current_number { self.new.current_number ≡ min (self.old.current_number + 1) (2 ^ 64 - 1) }
     {
         if !self.remove_empty_or_file(rt, path) && self.progress {
             let _ = self.enqueue(rt, path.as_bytes());
@@ -261,12 +261,12 @@ impl Removals {
     /// `false`.
     fn advance_queue(&mut self)
         ensures root { self.new.root ≡ self.old.root }
-        ensures place { self.new.place ≡ self.old.place }
+        ensures queue_dir { self.new.queue_dir ≡ self.old.queue_dir }
         ensures progress { self.new.progress ≡ false }
-        ensures done { self.new.done ≡ min (self.old.done + 1) (2 ^ 64 - 1) }
+        ensures current_number { self.new.current_number ≡ min (self.old.current_number + 1) (2 ^ 64 - 1) }
     {
         self.progress = false;
-        self.done = self.done.saturating_add(1);
+        self.current_number = self.current_number.saturating_add(1);
     }
 
     /// Removes the entries of `directory` until all their names are read or the time limit `bound`
@@ -311,11 +311,11 @@ impl Removals {
         bound: &mut RemovalLimit,
     ) -> bool
         requires moved { HasNextDirectory self.old }
-        requires path { path.now ≡ queued_dir self.old.place self.old.done }
+        requires path { path.now ≡ queued_dir self.old.queue_dir self.old.current_number }
         ensures root { self.new.root ≡ self.old.root }
-        ensures place { self.new.place ≡ self.old.place }
+        ensures queue_dir { self.new.queue_dir ≡ self.old.queue_dir }
         ensures passed { result ≡ false → self.new.progress ≡ false
-            → self.new.done ≡ min (self.old.done + 1) (2 ^ 64 - 1) }
+            → self.new.current_number ≡ min (self.old.current_number + 1) (2 ^ 64 - 1) }
     {
         self.progress = false;
         let ended = self.empty_directory(rt, path, bound);
@@ -332,9 +332,9 @@ impl Removals {
     /// Returns `true` if another step may follow within the time limit `bound`. If the allocation
     /// of the path fails, the next step tries the directory again.
     fn process_next_number<R: Files + Clock + AllocGlobal>(&mut self, rt: &R, bound: &mut RemovalLimit) -> bool
-        requires { self.old.done < self.old.moved }
+        requires { self.old.current_number < self.old.next_number }
         ensures root { self.new.root ≡ self.old.root }
-        ensures place { self.new.place ≡ self.old.place }
+        ensures queue_dir { self.new.queue_dir ≡ self.old.queue_dir }
     {
         if self.is_gap() {
             self.advance_queue();
@@ -352,14 +352,14 @@ impl Removals {
     /// If the queue directory was removed or replaced, its entries are left.
     fn empty_queue<R: Files + Clock + AllocGlobal>(&mut self, rt: &R, bound: &mut RemovalLimit)
         ensures root { self.new.root ≡ self.old.root }
-        ensures place { self.new.place ≡ self.old.place }
+        ensures queue_dir { self.new.queue_dir ≡ self.old.queue_dir }
     {
         for _ in 0..bound.micros {
             if !self.is_pending() {
                 return;
             }
             if !self.has_queue_dir(rt) {
-                self.done = self.moved;
+                self.current_number = self.next_number;
                 return;
             }
             if !self.process_next_number(rt, bound) {
@@ -374,18 +374,18 @@ impl Removals {
     /// old queue are left.
     fn recreate_queue_dir<R: Files + AllocGlobal>(&mut self, rt: &R)
         ensures root { self.new.root ≡ self.old.root }
-        ensures place { self.new.place ≡ self.old.place }
+        ensures queue_dir { self.new.queue_dir ≡ self.old.queue_dir }
     {
         if self.has_queue_dir(rt) {
             return;
         }
-        self.done = self.moved;
-        let _ = self.remove_empty_or_file(rt, &self.place);
-        if fs::create_dir(rt, self.place.as_str()).is_err() {
+        self.current_number = self.next_number;
+        let _ = self.remove_empty_or_file(rt, &self.queue_dir);
+        if fs::create_dir(rt, self.queue_dir.as_str()).is_err() {
             return;
         }
-        if let Ok(place) = DirIdentity::from_path(rt, self.place.as_str()) {
-            self.queue_identity = place;
+        if let Ok(identity) = DirIdentity::from_path(rt, self.queue_dir.as_str()) {
+            self.queue_identity = identity;
         }
     }
 
@@ -395,7 +395,7 @@ impl Removals {
     /// The time limit grows with the number of directories in the queue.
     fn remove_root<R: Files + Clock + AllocGlobal>(&mut self, rt: &R, root: &Text) -> bool
         requires { root.now ≡ self.old.root }
-        ensures place { self.new.place ≡ self.old.place }
+        ensures queue_dir { self.new.queue_dir ≡ self.old.queue_dir }
     {
         self.recreate_queue_dir(rt);
         let mut bound = RemovalLimit::root_limit(rt, self.queue_length());
@@ -411,14 +411,14 @@ impl Removals {
         bound: &mut RemovalLimit,
     ) -> bool
         requires root { root.now ≡ self.old.root }
-        requires micros { bound.old.micros ≡ closing_limit (waiting self.old.moved self.old.done) }
-        requires least { bound.old.least ≡ min_root_steps (waiting self.old.moved
-            self.old.done) }
-        ensures place { self.new.place ≡ self.old.place }
+        requires micros { bound.old.micros ≡ root_limit_micros (waiting self.old.next_number self.old.current_number) }
+        requires min_steps { bound.old.min_steps ≡ min_root_steps (waiting self.old.next_number
+            self.old.current_number) }
+        ensures queue_dir { self.new.queue_dir ≡ self.old.queue_dir }
     {
         let _ = self.empty_directory(rt, root, bound);
         self.empty_queue(rt, bound);
-        if !self.remove_if_empty(rt, &self.place) {
+        if !self.remove_if_empty(rt, &self.queue_dir) {
             self.empty_queue_dir(rt, bound);
         }
         self.remove_if_empty(rt, root)
@@ -431,15 +431,15 @@ impl Removals {
     /// entries afterwards is left.
     fn empty_queue_dir<R: Files + Clock + AllocGlobal>(&mut self, rt: &R, bound: &mut RemovalLimit)
         ensures root { self.new.root ≡ self.old.root }
-        ensures place { self.new.place ≡ self.old.place }
+        ensures queue_dir { self.new.queue_dir ≡ self.old.queue_dir }
     {
-        let Ok(place) = self.place.copy() else {
+        let Ok(queue_dir) = self.queue_dir.copy() else {
             return;
         };
         if self.has_queue_dir(rt) {
-            let _ = self.empty_directory(rt, &place, bound);
+            let _ = self.empty_directory(rt, &queue_dir, bound);
             self.empty_queue(rt, bound);
-            let _ = self.remove_if_empty(rt, &place);
+            let _ = self.remove_if_empty(rt, &queue_dir);
         }
     }
 
@@ -455,7 +455,7 @@ impl Removals {
     ) -> bool
         requires { IsCaseDirectory self.old.root tree.now }
         ensures root { self.new.root ≡ self.old.root }
-        ensures place { self.new.place ≡ self.old.place }
+        ensures queue_dir { self.new.queue_dir ≡ self.old.queue_dir }
     {
         let _ = self.empty_directory(rt, tree, bound);
         self.remove_empty_or_file(rt, tree) || self.enqueue(rt, tree.as_bytes())
@@ -466,7 +466,7 @@ impl Removals {
     /// The time limit for both is 5 milliseconds. Returns `true` if `tree` was removed or moved.
     fn remove_case<R: Files + Clock + AllocGlobal>(&mut self, rt: &R, tree: &Text) -> bool
         requires { IsCaseDirectory self.old.root tree.now }
-        ensures place { self.new.place ≡ self.old.place }
+        ensures queue_dir { self.new.queue_dir ≡ self.old.queue_dir }
     {
         let mut bound = RemovalLimit::case_limit(rt);
         let gone = self.remove_known_files(rt, tree)
@@ -483,7 +483,7 @@ impl Removals {
     /// Symbolic links are not followed. Any other path is left as it is, and so are all paths if
     /// the root was removed or replaced.
     pub fn remove_tree<R: Files + Clock + AllocGlobal>(&mut self, rt: &R, tree: &Text) -> bool
-        ensures place { self.new.place ≡ self.old.place }
+        ensures queue_dir { self.new.queue_dir ≡ self.old.queue_dir }
         ensures outside { result ≡ true → (tree.now ≡ self.old.root)
             ⊎ IsCaseDirectory self.old.root tree.now }
     {

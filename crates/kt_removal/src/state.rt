@@ -17,17 +17,17 @@ pub struct Removals {
     /// The path of the root directory, below which directories are removed.
     pub root: Text,
     /// The path of the queue directory, which is an entry of the root.
-    pub place: Text,
+    pub queue_dir: Text,
     /// The identity of the root directory when the queue was created.
     pub(crate) root_identity: DirIdentity,
     /// The identity of the queue directory when it was created.
     pub(crate) queue_identity: DirIdentity,
     /// The number that the next directory gets when it is moved into the queue. The first number is
     /// 0.
-    pub(crate) moved: u64,
+    pub(crate) next_number: u64,
     /// The number of the directory in the queue that is emptied next, or `moved` if the queue is
     /// empty.
-    pub(crate) done: u64,
+    pub(crate) current_number: u64,
     /// The numbers that no directory in the queue has, because the move to them failed.
     pub(crate) gaps: Vec<u64>,
     /// `true` if an entry of the directory that is being emptied was removed or moved.

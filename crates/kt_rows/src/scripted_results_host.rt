@@ -56,10 +56,10 @@ impl<R: ResultStore + Drop> ScriptedResultsHost<R> {
     /// Returns the process environment: the working directory `/here`, and the variables `PATH` and
     /// `USER`.
     fn create_process_env(&self) -> Result<ProcessEnv, NoMemory> {
-        let here = Text::from_str(self.calls.alloc, "/here")?;
+        let working_dir = Text::from_str(self.calls.alloc, "/here")?;
         let path = self.path.as_ref().map(Text::copy).transpose()?;
         let user = self.user.as_ref().map(Text::copy).transpose()?;
-        Ok(ProcessEnv { here, path, user })
+        Ok(ProcessEnv { working_dir, path, user })
     }
 }
 

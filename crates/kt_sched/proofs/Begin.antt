@@ -1,5 +1,5 @@
 -- The first state of the scheduler, and the records of cases.
-use Rattle.kt_sched.proofs.Common.{length, length-filter, slice_get, filter, Option, Some, None, is_some, map, ◌≡◌, ℕ, ◌<◌, Bool, true, false, cond, List, [], refl, sym, ◌∙◌, ap, arith, length-map, option_map, slice_get-map, Job, Case, NoEvent, turns, is_put_allowed, IsPlan, no_responses, initial_case, initial_stage, SchedState, RepresentsRun, IsStage, is_active_stage, is_pending_stage, is_waiting_stage, positions, VerdictValue, ◌≢◌, ◌≤◌, subst, slice_set, inl, inr, length-set, Entry, Stage, Decided, Finished, Taken, Event, of, IsEntry, decided, IsEntryOf, CaseRecord, Responses, TakesEntry, HasRequested, is_over, is_pending_case, entry_with, record_in, unstarted_record, stage_work, work}
+use Rattle.kt_sched.proofs.Common.{length, length-filter, slice_get, filter, Option, Some, None, is_some, map, ◌≡◌, ℕ, ◌<◌, Bool, true, false, cond, List, [], refl, sym, ◌∙◌, ap, arith, length-map, option_map, slice_get-map, Job, Case, NoEvent, turns, is_put_allowed, IsPlan, no_responses, initial_case, initial_stage, SchedState, RepresentsRun, IsStage, is_active_stage, is_pending_stage, is_waiting_stage, positions, VerdictValue, ◌≢◌, ◌≤◌, subst, slice_set, inl, inr, length-set, Entry, Stage, Decided, Finished, Taken, Event, events_of, IsEntry, decided, IsEntryOf, CaseRecord, Responses, TakesEntry, HasRequested, is_over, is_pending_case, entry_with, record_in, unstarted_record, stage_changes_left, changes_left}
 use Rattle.kt_sched.specs.declared.next.Next.TheVariants as next
 use Rattle.kt_sched.proofs.Lists.{filter_none, mapped_at, count_by-set, sum_by-set}
 use Rattle.kt_sched.proofs.Turns.{put_at_positions}
@@ -78,16 +78,16 @@ record_entry i job was es t s e = absurd (cc)
 
 -- A case with a record is over.
 record_over : (job : Job) (was : Stage) (t : CaseRecord) → record_in job was ≡ Some t
-    → (is_over was ≡ true) × (is_active_stage was ≡ false) × (is_pending_stage was ≡ false) × (stage_work was ≡ 1) × (was ≢ Taken)
+    → (is_over was ≡ true) × (is_active_stage was ≡ false) × (is_pending_stage was ≡ false) × (stage_changes_left was ≡ 1) × (was ≢ Taken)
 record_over job Decided t e = (refl, refl, refl, refl, λ x. absurd (cc))
 record_over job (Finished x) t e = (refl, refl, refl, refl, λ y. absurd (cc))
 record_over job was t e = absurd (cc)
 
-pub less_taken : (ys : List Case) (i : ℕ) (cs : List Case) (entry : Entry) → TakesEntry ys cs i entry → work cs < work ys
+pub less_taken : (ys : List Case) (i : ℕ) (cs : List Case) (entry : Entry) → TakesEntry ys cs i entry → changes_left cs < changes_left ys
 less_taken ys i cs entry t =
-    let f = λ (c : Case). stage_work c.stage in
+    let f = λ (c : Case). stage_changes_left c.stage in
     let x = sum_by-set f ys i (record { job = t.had; stage = t.was }) (record { job = t.left; stage = Taken }) t.found in
-    subst (λ (xs : List Case). work xs < work ys) (sym t.changed) (omega (arith, x, (record_over t.had t.was t.case_record t.has_record).3))
+    subst (λ (xs : List Case). changes_left xs < changes_left ys) (sym t.changed) (omega (arith, x, (record_over t.had t.was t.case_record t.has_record).3))
 
 module _ {plan : List Job} {n : ℕ} {fed : Responses} {b : SchedState} {i : ℕ} {cs : List Case} {entry : Entry} (h : RepresentsRun plan n fed b)
     (t : TakesEntry b.cases cs i entry) where
@@ -97,19 +97,19 @@ module _ {plan : List Job} {n : ℕ} {fed : Responses} {b : SchedState} {i : ℕ
   abbrev later : List Case
   later = slice_set b.cases i new
 
-  over : (is_over t.was ≡ true) × (is_active_stage t.was ≡ false) × (is_pending_stage t.was ≡ false) × (stage_work t.was ≡ 1) × (t.was ≢ Taken)
+  over : (is_over t.was ≡ true) × (is_active_stage t.was ≡ false) × (is_pending_stage t.was ≡ false) × (stage_changes_left t.was ≡ 1) × (t.was ≢ Taken)
   over = record_over t.had t.was t.case_record t.has_record
 
   pub entry_taken : IsEntryOf plan fed.trace i entry
   entry_taken =
       let l = located h i t.had t.was t.found in
       let same = l.kept over.4 in
-      let w = record_entry i l.job t.was (of i fed.trace) t.case_record l.stands (ap (λ (j : Job). record_in j t.was) (sym same) ∙ t.has_record) in
+      let w = record_entry i l.job t.was (events_of i fed.trace) t.case_record l.stands (ap (λ (j : Job). record_in j t.was) (sym same) ∙ t.has_record) in
       record {
         job = l.job;
         place = l.place;
         whole = l.says.whole ∙ over.0;
-        entry_is = subst (λ (x : Entry). IsEntry l.job (of i fed.trace) x) (ap (λ (j : Job). entry_with j t.case_record) (sym same) ∙ sym t.is) w;
+        entry_is = subst (λ (x : Entry). IsEntry l.job (events_of i fed.trace) x) (ap (λ (j : Job). entry_with j t.case_record) (sym same) ∙ sym t.is) w;
       }
 
   which_one : (k : ℕ) (c : Case) → slice_get later k ≡ Some c → Which b.cases i new k c

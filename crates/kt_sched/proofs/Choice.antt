@@ -1,5 +1,5 @@
 -- The chosen step is the first that applies, its consequences hold, and no other step is next.
-use Rattle.kt_sched.proofs.Common.{slice_get, Option, Some, None, drop, filter, is_some, nat_lt, ◌==◌, MatchOption, ◌⊎◌, if◌then◌else◌, ◌≡◌, ℕ, ◌+◌, ◌<◌, Bool, true, false, List, [], ◌∷◌, ◌++◌, length, refl, sym, ◌∙◌, ap, subst, arith, inl, inr, drop_of_length-le, false_from_ne_true, ⊤, nat_tests, slice_get_within, Body, Cleanup, Job, Next, Case, Trace, active, turns, next_to_start, IsBusy, recorded, Responses, has_failed, IsNext, IsChosen, HasNoTurn, MayStartBody, SchedState, RepresentsRun, IsSettled, positions, allowed_puts, is_put_allowed, is_decided, is_undecided, is_none, IsPlan, body_starts, map, ◌≢◌, ◌≤◌, Role, Stage, Waiting, PendingCleanup, Taken, BodyStarted, end_kind, kind_of_event, of, history, is_whole, has_whole_history, Follows, WerePutsAllowed, IsStage, HasRequested, option_to_list, HasExclusiveFlag, IsNotTaken}
+use Rattle.kt_sched.proofs.Common.{slice_get, Option, Some, None, drop, filter, is_some, nat_lt, ◌==◌, MatchOption, ◌⊎◌, if◌then◌else◌, ◌≡◌, ℕ, ◌+◌, ◌<◌, Bool, true, false, List, [], ◌∷◌, ◌++◌, length, refl, sym, ◌∙◌, ap, subst, arith, inl, inr, drop_of_length-le, false_from_ne_true, ⊤, nat_tests, slice_get_within, Body, Cleanup, Job, Next, Case, Trace, active, turns, next_to_start, IsBusy, recorded, Responses, has_failed, IsNext, IsChosen, HasNoTurn, MayStartBody, SchedState, RepresentsRun, IsSettled, positions, allowed_puts, is_put_allowed, is_decided, is_undecided, is_none, IsPlan, body_starts, map, ◌≢◌, ◌≤◌, Role, Stage, Waiting, PendingCleanup, Taken, BodyStarted, end_kind, kind_of_event, events_of, history, is_whole, has_whole_history, HasStepFacts, WerePutsAllowed, IsStage, HasRequested, option_to_list, HasExclusiveFlag, IsNotTaken}
 use Rattle.kt_sched.specs.declared.next.Next.TheVariants as next
 use Rattle.kt_sched.proofs.Lists.{filter_none, get_drop, slice_get-drop, within_some, filter_in, list_all_from}
 use Rattle.kt_sched.proofs.Decided.{first_open, room_in}
@@ -97,13 +97,13 @@ module _ {plan : List Job} {n : ℕ} {fed : Responses} {b : SchedState} (h : Rep
   untaken_start i Cleanup s c = let w = owes h i c.1 in (record { job = w.0; stage = PendingCleanup w.1 }, w.2, λ t. absurd (cc))
 
   -- If no case is active, each case has no event or a whole history.
-  part_whole : b.active ≡ 0 → (i : ℕ) (job : Job) → slice_get plan i ≡ Some job → (of i fed.trace ≡ []) ⊎ (has_whole_history fed.trace job ≡ true)
+  part_whole : b.active ≡ 0 → (i : ℕ) (job : Job) → slice_get plan i ≡ Some job → (events_of i fed.trace ≡ []) ⊎ (has_whole_history fed.trace job ≡ true)
   part_whole a i job g =
       let s = h.cases.each i job g in
       by s.case.stage s.stage (λ w. (says_at h i job g).whole ∙ over_stage s.case.stage w (inactive h i s.case a s.found))
     where
-      by : (stage : Stage) → IsStage i job stage (of i fed.trace) → (stage ≢ Waiting → has_whole_history fed.trace job ≡ true)
-          → (of i fed.trace ≡ []) ⊎ (has_whole_history fed.trace job ≡ true)
+      by : (stage : Stage) → IsStage i job stage (events_of i fed.trace) → (stage ≢ Waiting → has_whole_history fed.trace job ≡ true)
+          → (events_of i fed.trace ≡ []) ⊎ (has_whole_history fed.trace job ≡ true)
       by Waiting x w = inl x.0
       by stage x w = inr (w (λ e. absurd (cc (e))))
 
@@ -126,7 +126,7 @@ module _ {plan : List Job} {n : ℕ} {fed : Responses} {b : SchedState} (h : Rep
       let c = covers h i job g in (h.puts.gone f).gone c.0 job (omega (arith, l, slice_get_within (turns plan) c.0 job c.1)) c.1 d
 
   -- The consequences of the chosen step hold.
-  pub follows : (q : Next) → IsSettled b → IsChosen b q → Follows plan n fed q
+  pub follows : (q : Next) → IsSettled b → IsChosen b q → HasStepFacts plan n fed q
   follows (next.Put i) s c = tt
   follows (next.Start i Body) s c =
       let u = upcoming h i c.0 s c.2 in

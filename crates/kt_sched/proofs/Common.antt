@@ -24,10 +24,10 @@ pub use Rattle.kt_sched.specs.History.{BodyEnded, BodyRefused, BodyStarted, Clea
 pub use Rattle.kt_sched.specs.Inner.Answers.{CanCount, responses_after_put, counted}
 pub use Rattle.kt_sched.specs.Inner.Cases.{ChangesStage, ReplacesStage, TakesEntry, can_start, initial_case, initial_stage, is_over, pending_at, positions_where, ready_at, record_after_cleanup, stage_runs}
 pub use Rattle.kt_sched.specs.Inner.Choice.{IsChosen, HasNoTurn, IsStartableCase}
-pub use Rattle.kt_sched.specs.Next.{AreWhole, Follows, IsNext, IsUpToDate, MayStartBody, MayStartNow, WerePutsAllowed}
+pub use Rattle.kt_sched.specs.Next.{AreWhole, HasStepFacts, IsNext, IsUpToDate, MayStartBody, MayStartNow, WerePutsAllowed}
 pub use Rattle.kt_sched.specs.RecordOrder.{ScheduledPut, jobs_before, scheduled_puts, jobs_finished_by, is_begun, is_put_allowed, puts_scheduled_at, recorded, was_put_allowed}
 pub use Rattle.kt_sched.specs.Run.{Counts, HasFailedPut, FitsAt, NamesEachOnce, RunsPlan}
-pub use Rattle.kt_sched.specs.SchedState.{TracksAllowedPuts, IsNotTaken, RepresentsCase, RepresentCases, HasDecidedFlag, HasExclusiveFlag, HasRecord, HasTurn, HoldsForEachRun, HasRequested, IsSettled, IsStage, IsReachable, RepresentPuts, SchedState, RepresentsRun, RecordsEvent, RepresentsTurn, unstarted_record, ended_body, entry_with, is_active_stage, is_decided, is_decided_stage, is_waiting_stage, is_pending_case, is_pending_stage, is_undecided, allowed_puts, positions, record_in, stage_work, work}
-pub use Rattle.kt_sched.specs.ScheduleRules.{KeepsExclusive, IsExclusiveAtStart, WaitsWhenBusy, HoldsAtEachEvent, IsBusy, IsQuiet, Order, StartsPendingCleanup, KeepsWidth, case_declares_cleanup, pending_cleanup}
-pub use Rattle.kt_sched.specs.Trace.{End, Event, HasMoment, Leads, NoEvent, Start, Then, Trace, event_count, first, of, position_of}
+pub use Rattle.kt_sched.specs.SchedState.{TracksAllowedPuts, IsNotTaken, RepresentsCase, RepresentCases, HasDecidedFlag, HasExclusiveFlag, HasRecord, HasTurn, HoldsForEachRun, HasRequested, IsSettled, IsStage, IsReachable, RepresentPuts, SchedState, RepresentsRun, RecordsEvent, RepresentsTurn, unstarted_record, ended_body, entry_with, is_active_stage, is_decided, is_decided_stage, is_waiting_stage, is_pending_case, is_pending_stage, is_undecided, allowed_puts, positions, record_in, stage_changes_left, changes_left}
+pub use Rattle.kt_sched.specs.ScheduleRules.{KeepsExclusive, IsExclusiveAtStart, WaitsWhenBusy, HoldsAtEachEvent, IsBusy, MayStartExclusive, Order, KeepsCleanupNext, KeepsWidth, case_declares_cleanup, pending_cleanup}
+pub use Rattle.kt_sched.specs.Trace.{End, Event, HasValidTimestamp, Leads, NoEvent, Start, Then, Trace, event_count, first_events, events_of, position_of}
 pub use Rattle.kt_sched.specs.TurnOrder.{body_start_of, body_starts, next_to_start, turns, undecided_turns}

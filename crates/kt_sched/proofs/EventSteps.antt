@@ -1,6 +1,6 @@
 -- The state after an event represents the responses with that event.
 use Rattle.kt_sched.specs.declared.next.Next.TheVariants as next
-use Rattle.kt_sched.proofs.Common.{ne_eqb, Taken, filter, slice_get, count_by, Option, Some, None, ◌≡◌, ◌≢◌, ℕ, ◌+◌, ◌<◌, ◌≤◌, ◌⊎◌, true, false, cond, List, [], ◌∷◌, ◌++◌, length, drop, take, is_none, is_some, refl, sym, ◌∙◌, ap, subst, arith, slice_set, inl, inr, length-append, append-nil, drop-append-le, length-set, map-append, slice_get_within, cases_lt, cases_eq, Job, Stage, Finished, Case, Event, Then, position_of, of, turns, body_starts, body_start_of, recorded, Responses, has_failed, SchedState, RepresentsRun, RepresentCases, RepresentsTurn, RepresentPuts, IsStage, ChangesStage, ReplacesStage, IsSettled, HasTurn, is_active_stage, is_pending_stage, is_over, PendingCleanup, is_pending_case, is_waiting_stage, is_undecided, HasRecord, pending_at, ready_at, record_in, positions, allowed_puts, stage_work, work, Trace, option_to_list}
+use Rattle.kt_sched.proofs.Common.{ne_eqb, Taken, filter, slice_get, count_by, Option, Some, None, ◌≡◌, ◌≢◌, ℕ, ◌+◌, ◌<◌, ◌≤◌, ◌⊎◌, true, false, cond, List, [], ◌∷◌, ◌++◌, length, drop, take, is_none, is_some, refl, sym, ◌∙◌, ap, subst, arith, slice_set, inl, inr, length-append, append-nil, drop-append-le, length-set, map-append, slice_get_within, cases_lt, cases_eq, Job, Stage, Finished, Case, Event, Then, position_of, events_of, turns, body_starts, body_start_of, recorded, Responses, has_failed, SchedState, RepresentsRun, RepresentCases, RepresentsTurn, RepresentPuts, IsStage, ChangesStage, ReplacesStage, IsSettled, HasTurn, is_active_stage, is_pending_stage, is_over, PendingCleanup, is_pending_case, is_waiting_stage, is_undecided, HasRecord, pending_at, ready_at, record_in, positions, allowed_puts, stage_changes_left, changes_left, Trace, option_to_list}
 use Rattle.kt_sched.proofs.Lists.{cond_le, cond_one, cond_zero, pick, count_by-set, counted_one, sum_by-set, take_filter}
 use Rattle.kt_sched.proofs.Turns.{of_same, of_other, opens_now, recorded_more, finished_is}
 use Rattle.kt_sched.proofs.Stages.{fresh_inactive, says, undecided_stage, Moves, moves, owed_moves, stage_moves}
@@ -53,7 +53,7 @@ after_event b cases turn active pending ready = record b { cases = cases; turn =
 -- represents the responses `fed` and the event `e`. It has less work left than the state `b`.
 pub record After (plan : List Job) (n : ℕ) (fed : Responses) (b : SchedState) (e : Event) (later : SchedState) : Type 0 where
   pub stands : RepresentsRun plan n (record fed { trace = Then fed.trace e }) later
-  pub less : work later.cases < work b.cases
+  pub less : changes_left later.cases < changes_left b.cases
 
 owing_is : (stage : Stage) (i : ℕ) → is_pending_stage stage ≡ is_pending_case (pending_at stage i) i
 owing_is (PendingCleanup o) i = sym (same_number i)
@@ -77,14 +77,14 @@ module _ {plan : List Job} {n : ℕ} {fed : Responses} {b : SchedState} {e : Eve
   m : Moves was e now
   m = moves job.cleanup was e now s.after
 
-  at : IsStage i job was (of i fed.trace) × (was ≢ Taken → s.moved.job ≡ job)
+  at : IsStage i job was (events_of i fed.trace) × (was ≢ Taken → s.moved.job ≡ job)
   at = at_place h i job s.moved.job was s.place s.moved.found
 
   undecided : job.decided ≡ None
-  undecided = undecided_stage i job was (of i fed.trace) at.0 m.fresh
+  undecided = undecided_stage i job was (events_of i fed.trace) at.0 m.fresh
 
-  now_stands : IsStage i job now (of i (Then fed.trace e))
-  now_stands = subst (IsStage i job now) (sym (of_same i fed.trace e refl)) (stage_moves job was e now (of i fed.trace) at.0 s.after)
+  now_stands : IsStage i job now (events_of i (Then fed.trace e))
+  now_stands = subst (IsStage i job now) (sym (of_same i fed.trace e refl)) (stage_moves job was e now (events_of i fed.trace) at.0 s.after)
 
   found : slice_get later i ≡ Some new
   found = set_here b.cases i _ new s.moved.found
@@ -258,5 +258,5 @@ module _ {plan : List Job} {n : ℕ} {fed : Responses} {b : SchedState} {e : Eve
           has_record = λ k x y. let w = readied k x in has_record k w.0 (m.has_record w.1);
           asked = tt;
         };
-        less = omega (arith, sum_by-set (λ (c : Case). stage_work c.stage) b.cases i _ new s.moved.found, m.works);
+        less = omega (arith, sum_by-set (λ (c : Case). stage_changes_left c.stage) b.cases i _ new s.moved.found, m.works);
       })

@@ -1,5 +1,5 @@
 -- The exits of a run.
-use Rattle.kt_sched.proofs.Common.{Result, Option, Some, None, is_some, Ok, Err, ◌≡◌, ℕ, List, [], refl, append-nil, take, sym, ◌∙◌, ap, subst, arith, Job, SinkFault, Totals, HoldsForEachRun, IsPlan, AreEntries, HoldsAtEachEvent, WaitsWhenBusy, Trace, recorded, body_starts, Responses, IsNext, Follows, RunsPlan, NoEvent, SchedState}
+use Rattle.kt_sched.proofs.Common.{Result, Option, Some, None, is_some, Ok, Err, ◌≡◌, ℕ, List, [], refl, append-nil, take, sym, ◌∙◌, ap, subst, arith, Job, SinkFault, Totals, HoldsForEachRun, IsPlan, AreEntries, HoldsAtEachEvent, WaitsWhenBusy, Trace, recorded, body_starts, Responses, IsNext, HasStepFacts, RunsPlan, NoEvent, SchedState}
 use Rattle.kt_sched.specs.Run.{EndsAs}
 use Rattle.kt_sched.specs.Types.{NoMemory, RunFault, SinkFailed}
 use Rattle.kt_base.specs.declared.no_memory.NoMemory.{NoMemory as Refusal}
@@ -30,7 +30,7 @@ module _ {L S : Type 0} (l : launcher.Ghosts L) (s : sink.Ghosts S) (plan : List
 
 module _ {L S : Type 0} {l : launcher.Ghosts L} {s : sink.Ghosts S} {plan : List Job} {n : ℕ} {old : L} {before : S} {sched : SchedState} {mid : L} {after : S}
     {totals : Totals} {fault : Option SinkFault} (p : IsPlan plan) (k : Loop l s plan n old before sched mid after totals fault)
-    (done : HoldsForEachRun sched (λ plan n fed. IsNext plan n fed next.Done)) (after_done : HoldsForEachRun sched (λ plan n fed. Follows plan n fed next.Done)) where
+    (done : HoldsForEachRun sched (λ plan n fed. IsNext plan n fed next.Done)) (after_done : HoldsForEachRun sched (λ plan n fed. HasStepFacts plan n fed next.Done)) where
   abbrev fed : Responses
   fed = k.fed
 
@@ -40,7 +40,7 @@ module _ {L S : Type 0} {l : launcher.Ghosts L} {s : sink.Ghosts S} {plan : List
   all : IsNext plan n fed next.Done
   all = done plan n fed k.stands
 
-  f : Follows plan n fed next.Done
+  f : HasStepFacts plan n fed next.Done
   f = after_done plan n fed k.stands
 
   -- If `EndsAs` holds of the entries that the sink gained, `RunsPlan` holds.

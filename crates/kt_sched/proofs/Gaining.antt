@@ -2,7 +2,7 @@
 use Rattle.kt_base.specs.Kinds.{good as is_good}
 use Rattle.kt_sched.specs.declared.sink.Sink as sink
 use Rattle.kt_sched.specs.EntryOf as recorded
-use Rattle.kt_sched.proofs.Common.{slice_get, filter, Option, Some, None, map, Result, Ok, is_some, not, ◌≡◌, ◌≢◌, ℕ, ◌≤◌, ◌⊎◌, false, List, [], ◌∷◌, ◌++◌, length, take, refl, sym, ◌∙◌, ap, subst, arith, length-append, inl, inr, length-map, map-append, take-append-le, cases_eq, slice_get_within, Entry, Job, SinkFault, Totals, Event, Trace, Then, position_of, event_count, kind_of_event, history, is_whole, turns, ScheduledPut, scheduled_puts, puts_scheduled_at, jobs_finished_by, recorded, IsEntry, PutsInOrder, IsEntryOf, AreEntries, IsPlan, Responses, has_failed, IsUpToDate, counted, HasFailedPut, Counts, if◌then◌else◌, true, cases_lt, of, EventKind, BodyStarted, BodyRefused, BodyEnded, CleanupStarted, CleanupRefused, CleanupEnded, has_whole_history, AreWhole, WerePutsAllowed, NamesEachOnce, list_all, ◌==◌, Bool, ⊤, Start, End, NoEvent, HoldsAtEachEvent, IsMoment, IsStorable, HasMoment, FitsAt}
+use Rattle.kt_sched.proofs.Common.{slice_get, filter, Option, Some, None, map, Result, Ok, is_some, not, ◌≡◌, ◌≢◌, ℕ, ◌≤◌, ◌⊎◌, false, List, [], ◌∷◌, ◌++◌, length, take, refl, sym, ◌∙◌, ap, subst, arith, length-append, inl, inr, length-map, map-append, take-append-le, cases_eq, slice_get_within, Entry, Job, SinkFault, Totals, Event, Trace, Then, position_of, event_count, kind_of_event, history, is_whole, turns, ScheduledPut, scheduled_puts, puts_scheduled_at, jobs_finished_by, recorded, IsEntry, PutsInOrder, IsEntryOf, AreEntries, IsPlan, Responses, has_failed, IsUpToDate, counted, HasFailedPut, Counts, if◌then◌else◌, true, cases_lt, events_of, EventKind, BodyStarted, BodyRefused, BodyEnded, CleanupStarted, CleanupRefused, CleanupEnded, has_whole_history, AreWhole, WerePutsAllowed, NamesEachOnce, list_all, ◌==◌, Bool, ⊤, Start, End, NoEvent, HoldsAtEachEvent, IsMoment, IsStorable, HasValidTimestamp, FitsAt}
 use Rattle.kt_sched.proofs.Lists.{in_append, append_left, count-cons, count_by-append, mapped_at, none_past, list_all_at, within_some}
 use Rattle.kt_sched.proofs.Turns.{of_other, opens_now}
 use Rattle.kt_sched.proofs.Once.{NotWhole, Recorded, recorded_event, is_done, names_once}
@@ -69,8 +69,8 @@ AreDue plan n fed = (j : ℕ) (p : ScheduledPut) → fed.stored ≤ j → slice_
 -- put.
 abbrev pub GainsUpTo : {S : Type 0} → (S → Entry → Result (Unit {0}) SinkFault → S → Type 0) → List Job → ℕ → Responses → List Entry → Option SinkFault → S → S
     → Type 0
-GainsUpTo puts plan n fed gained None before after = (fed.stopped ≡ None) × PutsInOrder puts gained before after × AreDue plan n fed
-GainsUpTo puts plan n fed gained (Some fault) before after = (f : HasFailedPut puts plan n fed.trace gained fault before after) × (fed.stopped ≡ Some f.next.after)
+GainsUpTo puts plan n fed gained None before after = (fed.failed_put_after ≡ None) × PutsInOrder puts gained before after × AreDue plan n fed
+GainsUpTo puts plan n fed gained (Some fault) before after = (f : HasFailedPut puts plan n fed.trace gained fault before after) × (fed.failed_put_after ≡ Some f.next.after)
 
 -- `Gained s plan n fed totals fault before after`: in the run of `plan` with the width `n`, the
 -- puts among the responses `fed` lead the sink from `before` to `after`. `totals` counts the gained
@@ -144,7 +144,7 @@ whole_short job (BodyStarted ∷ BodyEnded ∷ CleanupStarted ∷ CleanupEnded �
 whole_short job other e = absurd (cc)
 
 -- Each case has at most four events, if each case with an event has a whole history.
-pub four_calls : (plan : List Job) (T : Trace) → IsPlan plan → AreWhole plan T → ((i : ℕ) → length plan ≤ i → of i T ≡ []) → (i : ℕ) → length (of i T) ≤ 4
+pub four_calls : (plan : List Job) (T : Trace) → IsPlan plan → AreWhole plan T → ((i : ℕ) → length plan ≤ i → events_of i T ≡ []) → (i : ℕ) → length (events_of i T) ≤ 4
 four_calls plan T p h b i = elim (cases_lt i (length plan)) [
   | inl l ↦
       let w = within_some plan i l in
@@ -152,7 +152,7 @@ four_calls plan T p h b i = elim (cases_lt i (length plan)) [
         | inl e ↦ omega (arith, ap (λ (es : List Event). length es) e)
         | inr e ↦
             let whole = ap (λ k. is_whole w.0 (history k T)) (sym (p.placed i w.0 w.1)) ∙ e in
-            omega (arith, whole_short w.0 (history i T) whole, length-map (of i T) kind_of_event)
+            omega (arith, whole_short w.0 (history i T) whole, length-map (events_of i T) kind_of_event)
       ]
   | inr l ↦ omega (arith, ap (λ (es : List Event). length es) (b i l))
 ]
@@ -166,7 +166,7 @@ named_once {plan} n T p w o r = names_once n T p r done
     done i job g = grind (arith, o i job g, list_all_at (has_whole_history T) plan i job g w)
 
 abbrev HasGoodMoment : Event → Type 0
-HasGoodMoment (Start i role answer) = HasMoment answer
+HasGoodMoment (Start i role answer) = HasValidTimestamp answer
 HasGoodMoment (End ended) = IsMoment ended.moment
 
 abbrev AreTimely : List Event → Type 0
@@ -181,12 +181,12 @@ good_moment : (plan : List Job) (T : Trace) (e : Event) → FitsAt plan T e → 
 good_moment plan T (Start i role answer) f = f
 good_moment plan T (End ended) f = f.0
 
-timely_of : (plan : List Job) (i : ℕ) (T : Trace) → HoldsAtEachEvent (FitsAt plan) T → AreTimely (of i T)
+timely_of : (plan : List Job) (i : ℕ) (T : Trace) → HoldsAtEachEvent (FitsAt plan) T → AreTimely (events_of i T)
 timely_of plan i NoEvent h = tt
 timely_of plan i (Then T e) h = by (position_of e == i) (timely_of plan i T h.0)
   where
-    by : (b : Bool) → AreTimely (of i T) → AreTimely (if b then of i T ++ e ∷ [] else of i T)
-    by true g = timely_more (of i T) e g (good_moment plan T e h.1)
+    by : (b : Bool) → AreTimely (events_of i T) → AreTimely (if b then events_of i T ++ e ∷ [] else events_of i T)
+    by true g = timely_more (events_of i T) e g (good_moment plan T e h.1)
     by false g = g
 
 storable : (job : Job) (es : List Event) (entry : Entry) → IsEntry job es entry → AreTimely es → IsStorable entry
@@ -198,4 +198,4 @@ storable job _ _ (recorded.cleaned i m e j k f body v w x) t = record { started 
 
 -- An entry is storable if the timestamps of its trace are in the range.
 pub storable_entry : (plan : List Job) (T : Trace) (i : ℕ) (entry : Entry) → HoldsAtEachEvent (FitsAt plan) T → IsEntryOf plan T i entry → IsStorable entry
-storable_entry plan T i entry f w = storable w.job (of i T) entry w.entry_is (timely_of plan i T f)
+storable_entry plan T i entry f w = storable w.job (events_of i T) entry w.entry_is (timely_of plan i T f)

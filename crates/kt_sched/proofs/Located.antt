@@ -1,5 +1,5 @@
 -- The facts that a state implies for one case.
-use Rattle.kt_sched.proofs.Common.{Bool, is_waiting_stage, is_decided_stage, HasExclusiveFlag, HasDecidedFlag, slice_get, Option, Some, None, map, ◌≡◌, ◌≢◌, ℕ, ◌<◌, ◌⊎◌, true, false, List, [], length, refl, sym, ◌∙◌, ap, subst, arith, slice_set, inl, inr, false_from_ne_true, cases_eq, cases_lt, length-map, ◌≤◌, slice_get-map, slice_get_read, slice_get_within, get_or, Role, Body, Cleanup, Job, Next, Stage, PendingCleanup, Taken, EndedBody, Case, Event, Trace, of, kind_of_event, history, is_active, active, turns, Responses, role_runs, runs, stage_runs, SchedState, RepresentsRun, RepresentsCase, IsStage, HasRequested, is_active_stage, is_pending_stage, is_pending_case}
+use Rattle.kt_sched.proofs.Common.{Bool, is_waiting_stage, is_decided_stage, HasExclusiveFlag, HasDecidedFlag, slice_get, Option, Some, None, map, ◌≡◌, ◌≢◌, ℕ, ◌<◌, ◌⊎◌, true, false, List, [], length, refl, sym, ◌∙◌, ap, subst, arith, slice_set, inl, inr, false_from_ne_true, cases_eq, cases_lt, length-map, ◌≤◌, slice_get-map, slice_get_read, slice_get_within, get_or, Role, Body, Cleanup, Job, Next, Stage, PendingCleanup, Taken, EndedBody, Case, Event, Trace, events_of, kind_of_event, history, is_active, active, turns, Responses, role_runs, runs, stage_runs, SchedState, RepresentsRun, RepresentsCase, IsStage, HasRequested, is_active_stage, is_pending_stage, is_pending_case}
 use Rattle.kt_sched.specs.declared.next.Next.TheVariants as next
 use Rattle.kt_sched.proofs.Lists.{within_some, mapped_at, slice_get-set_other, slice_get-set_same, counted_some, counted_one, counted_none, count_alike}
 use Rattle.kt_sched.proofs.Turns.{turn_inside, turn_distinct}
@@ -17,7 +17,7 @@ pub record AtTurn (plan : List Job) (fed : Responses) (b : SchedState) (i : ℕ)
   pub place : slice_get plan i ≡ Some job
   pub case : Case
   pub found : slice_get b.cases i ≡ Some case
-  pub stage : IsStage i job case.stage (of i fed.trace)
+  pub stage : IsStage i job case.stage (events_of i fed.trace)
   pub fresh : is_waiting_stage case.stage ≡ true
   pub kept : case.job ≡ job
 
@@ -26,7 +26,7 @@ pub record AtTurn (plan : List Job) (fed : Responses) (b : SchedState) (i : ℕ)
 pub record Located (plan : List Job) (T : Trace) (i : ℕ) (was : Stage) (had : Job) : Type 0 where
   pub job : Job
   pub place : slice_get plan i ≡ Some job
-  pub stands : IsStage i job was (of i T)
+  pub stands : IsStage i job was (events_of i T)
   pub says : Says job was (history i T)
   pub kept : was ≢ Taken → had ≡ job
 
@@ -42,9 +42,9 @@ module _ (xs : List Case) (i : ℕ) (old new : Case) (g : slice_get xs i ≡ Som
   which k c e = let l = slice_get_within xs i old g in grind (arith, common_steps, gets)
 
   -- After the replacement each case represents its events, if the new case does.
-  pub each_set : (plan : List Job) (T U : Trace) (job : Job) → slice_get plan i ≡ Some job → IsStage i job new.stage (of i U)
+  pub each_set : (plan : List Job) (T U : Trace) (job : Job) → slice_get plan i ≡ Some job → IsStage i job new.stage (events_of i U)
       → (new.stage ≢ Taken → new.job ≡ job)
-      → ((k : ℕ) → k ≢ i → of k U ≡ of k T) → ((k : ℕ) (j : Job) → slice_get plan k ≡ Some j → RepresentsCase T k j xs)
+      → ((k : ℕ) → k ≢ i → events_of k U ≡ events_of k T) → ((k : ℕ) (j : Job) → slice_get plan k ≡ Some j → RepresentsCase T k j xs)
       → (k : ℕ) (j : Job) → slice_get plan k ≡ Some j → RepresentsCase U k j (slice_set xs i new)
   each_set plan T U job p s m o h k j x = elim (cases_eq k i) [
     | inl q ↦
@@ -69,11 +69,11 @@ module _ {plan : List Job} {fed : Responses} {b : SchedState} {i : ℕ} {flag : 
 module _ {plan : List Job} {n : ℕ} {fed : Responses} {b : SchedState} (h : RepresentsRun plan n fed b) where
   -- The stage of a case represents the events of that case.
   pub at_place : (i : ℕ) (job had : Job) (was : Stage) → slice_get plan i ≡ Some job → slice_get b.cases i ≡ Some (record { job = had; stage = was })
-      → IsStage i job was (of i fed.trace) × (was ≢ Taken → had ≡ job)
+      → IsStage i job was (events_of i fed.trace) × (was ≢ Taken → had ≡ job)
   at_place i job had was j g =
       let w = h.cases.each i job j in
       let e : w.case ≡ record { job = had; stage = was } = same_Some _ _ (sym w.found ∙ g) in (
-        subst (λ (c : Case). IsStage i job c.stage (of i fed.trace)) e w.stage,
+        subst (λ (c : Case). IsStage i job c.stage (events_of i fed.trace)) e w.stage,
         λ t. ap (λ (c : Case). c.job) (sym e) ∙ w.kept (λ q. t (ap (λ (c : Case). c.stage) (sym e) ∙ q)),
       )
 
@@ -81,12 +81,12 @@ module _ {plan : List Job} {n : ℕ} {fed : Responses} {b : SchedState} (h : Rep
   located i had was g =
       let j = within_some plan i (omega (arith, slice_get_within b.cases i _ g, h.cases.count)) in
       let s = at_place i j.0 had was j.1 g in
-      record { job = j.0; place = j.1; stands = s.0; says = says i j.0 was (of i fed.trace) s.0; kept = s.1 }
+      record { job = j.0; place = j.1; stands = s.0; says = says i j.0 was (events_of i fed.trace) s.0; kept = s.1 }
 
   pub says_at : (k : ℕ) (job : Job) (g : slice_get plan k ≡ Some job) → Says job (h.cases.each k job g).case.stage (history job.position fed.trace)
   says_at k job g =
       let w = h.cases.each k job g in
-      subst (λ (j : ℕ). Says job w.case.stage (history j fed.trace)) (sym (h.cases.is_plan.placed k job g)) (says k job w.case.stage (of k fed.trace) w.stage)
+      subst (λ (j : ℕ). Says job w.case.stage (history j fed.trace)) (sym (h.cases.is_plan.placed k job g)) (says k job w.case.stage (events_of k fed.trace) w.stage)
 
   -- The state's number of active cases is that of the trace.
   pub active_is : active plan fed.trace ≡ b.active
@@ -174,7 +174,7 @@ module _ {plan : List Job} {n : ℕ} {fed : Responses} {b : SchedState} (h : Rep
     | inl g ↦
         let j = within_some plan i g in
         let w = h.cases.each i j.0 j.1 in
-        (w.case, w.found, sym ((says i j.0 w.case.stage (of i fed.trace) w.stage).runs r) ∙ e)
+        (w.case, w.found, sym ((says i j.0 w.case.stage (events_of i fed.trace) w.stage).runs r) ∙ e)
     | inr g ↦ absurd (cc (ap (λ (es : List Event). role_runs r (map kind_of_event es)) (h.cases.beyond i g) ∙ empty_quiet r, e))
   ]
     where

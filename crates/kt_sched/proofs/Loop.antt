@@ -1,6 +1,6 @@
 -- The run loop: its invariant, and how each response keeps it.
 use Rattle.kt_base.specs.Kinds.{good as is_good}
-use Rattle.kt_sched.proofs.Common.{Bool, option_map, Option, Some, None, is_some, not, Ok, Err, ◌^◌, ◌≡◌, ◌<◌, ℕ, ◌+◌, ◌-◌, true, false, if◌then◌else◌, ◌==◌, List, [], ◌∷◌, ◌++◌, refl, append-nil, append_assoc, length-append, count_by-le-length, false_from_ne_true, filter, take, length, slice_get, slice_get_within, sym, ◌∙◌, ap, subst, arith, Role, Body, Cleanup, Entry, Job, StartAnswer, Ended, SinkFault, Totals, Child, IsEvidence, IsIdle, IsMoment, HasMoment, MayStart, IsPlan, IsEntryOf, AreEntries, IsStorable, Start, End, HoldsAtEachEvent, FitsAt, Trace, event_count, pending_cleanup, is_pending_case, history, is_whole, runs, turns, recorded, ScheduledPut, scheduled_puts, is_put_allowed, running_after_start, running_after_end, pending_after_start, pending_after_end, child_of, CanCount, counted, HasFailedPut, Responses, responses_after_put, no_responses, IsNext, Follows, NoEvent, Case, HoldsForEachRun, SchedState, RepresentsRun, RecordsEvent, stage_runs, Then}
+use Rattle.kt_sched.proofs.Common.{Bool, option_map, Option, Some, None, is_some, not, Ok, Err, ◌^◌, ◌≡◌, ◌<◌, ℕ, ◌+◌, ◌-◌, true, false, if◌then◌else◌, ◌==◌, List, [], ◌∷◌, ◌++◌, refl, append-nil, append_assoc, length-append, count_by-le-length, false_from_ne_true, filter, take, length, slice_get, slice_get_within, sym, ◌∙◌, ap, subst, arith, Role, Body, Cleanup, Entry, Job, StartAnswer, Ended, SinkFault, Totals, Child, IsEvidence, IsIdle, IsMoment, HasValidTimestamp, MayStart, IsPlan, IsEntryOf, AreEntries, IsStorable, Start, End, HoldsAtEachEvent, FitsAt, Trace, event_count, pending_cleanup, is_pending_case, history, is_whole, runs, turns, recorded, ScheduledPut, scheduled_puts, is_put_allowed, running_after_start, running_after_end, pending_after_start, pending_after_end, child_of, CanCount, counted, HasFailedPut, Responses, responses_after_put, no_responses, IsNext, HasStepFacts, NoEvent, Case, HoldsForEachRun, SchedState, RepresentsRun, RecordsEvent, stage_runs, Then}
 use Rattle.kt_sched.specs.declared.next.Next.TheVariants as next
 use Rattle.kt_sched.specs.declared.launcher.Launcher as launcher
 use Rattle.kt_sched.specs.declared.sink.Sink as sink
@@ -22,7 +22,7 @@ pub record Loop {L S : Type 0} (l : launcher.Ghosts L) (s : sink.Ghosts S) (plan
   pub fed : Responses
   pub stands : RepresentsRun plan n fed sched
   pub going : Going l plan n fed.trace old new
-  pub until : Until plan n fed.stopped fed.trace
+  pub until : Until plan n fed.failed_put_after fed.trace
   pub gained : Gained s plan n fed totals fault before after
   pub asked : sched.asked ≡ next.Done
 
@@ -66,7 +66,7 @@ module _ {L S : Type 0} {l : launcher.Ghosts L} {s : sink.Ghosts S} {plan : List
 
   -- The launcher may start the job of the next step.
 
-  startable : (i : ℕ) (role : Role) → IsNext plan n fed (next.Start i role) → Follows plan n fed (next.Start i role)
+  startable : (i : ℕ) (role : Role) → IsNext plan n fed (next.Start i role) → HasStepFacts plan n fed (next.Start i role)
       → Startable (l.running mid) (l.pending mid) plan n fed i role
   startable i Body x f = let none = λ (r : Role). k.going.runs i r ∙ runs_now plan T i r [] f.1 in record {
     may = (none Body, none Cleanup, owes x.2 i);
@@ -88,7 +88,7 @@ module _ {L S : Type 0} {l : launcher.Ghosts L} {s : sink.Ghosts S} {plan : List
   }
 
   module _ (i : ℕ) (role : Role) (x : HoldsForEachRun sched (λ plan n fed. IsNext plan n fed (next.Start i role)))
-      (f : HoldsForEachRun sched (λ plan n fed. Follows plan n fed (next.Start i role)))
+      (f : HoldsForEachRun sched (λ plan n fed. HasStepFacts plan n fed (next.Start i role)))
       (b : SchedState) (y : HoldsForEachRun sched (λ plan n fed. RepresentsRun plan n fed b)) (job : Job) (g : HoldsForEachRun b (λ plan n fed. slice_get plan i ≡ Some job)) where
     place : slice_get plan i ≡ Some job
     place = g plan n fed (y plan n fed k.stands)
@@ -99,7 +99,7 @@ module _ {L S : Type 0} {l : launcher.Ghosts L} {s : sink.Ghosts S} {plan : List
     pub loop_may_start : (j : ℕ) → job.position ≡ j → MayStart (l.running mid) (l.pending mid) j role
     loop_may_start j e = subst (λ j. MayStart (l.running mid) (l.pending mid) j role) (sym (p.placed i job place) ∙ e) t.may
 
-    pub loop_start : (a : StartAnswer) (new : L) (later : SchedState) → l.starts mid job role a new → HasMoment a
+    pub loop_start : (a : StartAnswer) (new : L) (later : SchedState) → l.starts mid job role a new → HasValidTimestamp a
         → ((k : ℕ) (r : Role) → l.running new k r ≡ running_after_start (l.running mid) job role a k r)
         → ((k : ℕ) → l.pending new k ≡ pending_after_start (l.pending mid) job.position role k) → RecordsEvent b (Start i role a) later
         → Loop l s plan n old before later new after totals fault
@@ -112,7 +112,7 @@ module _ {L S : Type 0} {l : launcher.Ghosts L} {s : sink.Ghosts S} {plan : List
         owes = λ j. v j ∙ (ap (λ y. pending_after_start (l.pending mid) y role j) (p.placed i job place) ∙ t.clears j);
         rules = (k.going.rules, t.fair a m);
       };
-      until = until_more plan n fed.stopped T (Start i role a) k.until (λ z. tt) (t.quiet a);
+      until = until_more plan n fed.failed_put_after T (Start i role a) k.until (λ z. tt) (t.quiet a);
       gained = gained_event k.gained (Start i role a) p k.stands.puts.stored t.due
           (λ y g. ap (λ (y : Job). is_whole y (history i T)) (same_Some y t.now.job (sym g ∙ t.now.place)) ∙ t.now.unfinished);
       asked = z.asked;
@@ -120,7 +120,7 @@ module _ {L S : Type 0} {l : launcher.Ghosts L} {s : sink.Ghosts S} {plan : List
 
   -- If the next step is a wait, a child runs.
 
-  pub loop_may_wait : HoldsForEachRun sched (λ plan n fed. Follows plan n fed next.Wait) → (i : ℕ) × (role : Role) × (child : Child) × (l.running mid i role ≡ Some child)
+  pub loop_may_wait : HoldsForEachRun sched (λ plan n fed. HasStepFacts plan n fed next.Wait) → (i : ℕ) × (role : Role) × (child : Child) × (l.running mid i role ≡ Some child)
   loop_may_wait f =
       let w = f plan n fed k.stands in
       let shown = ap (λ (b : Bool). if b then child_at plan w.0 else None) w.3 ∙ ap (option_map child_of) w.4 in
@@ -150,7 +150,7 @@ module _ {L S : Type 0} {l : launcher.Ghosts L} {s : sink.Ghosts S} {plan : List
             let y = subst (λ (c : Child). IsEvidence c.interface e.role e.evidence) one.1.2 w.2 in
             (k.going.rules, record { fits = (m, (one.1.0, one.1.1, y)); width = tt; exclusive = tt; prompt = rw x.1 tt });
       };
-      until = until_more plan n fed.stopped T (End e) k.until x.2 (λ y. refl);
+      until = until_more plan n fed.failed_put_after T (End e) k.until x.2 (λ y. refl);
       gained = gained_event k.gained (End e) p k.stands.puts.stored x.0
           (λ job g. false_from_ne_true _ (λ y. cc (whole_quiet job e.role (history e.position T) y, one.0)));
       asked = z.asked;
@@ -215,7 +215,7 @@ module _ {L S : Type 0} {l : launcher.Ghosts L} {s : sink.Ghosts S} {plan : List
           fed = responses_after_put fed true;
           stands = z plan n fed now;
           going = k.going;
-          until = until_now plan n fed.stopped T x.0 k.until;
+          until = until_now plan n fed.failed_put_after T x.0 k.until;
           gained = record {
             gained = g.gained;
             count = g.count;
@@ -229,7 +229,7 @@ module _ {L S : Type 0} {l : launcher.Ghosts L} {s : sink.Ghosts S} {plan : List
         }
           where
             by : (fault : Option SinkFault) → GainsUpTo s.puts plan n fed k.gained.gained fault before after
-                → GainsUpTo s.puts plan n (record fed { stopped = Some (event_count T) }) k.gained.gained (Some cause) before new
+                → GainsUpTo s.puts plan n (record fed { failed_put_after = Some (event_count T) }) k.gained.gained (Some cause) before new
             by None y =
                 let m = mapped_at (λ (q : ScheduledPut). q.position) (scheduled_puts plan n T) fed.stored i x.1 in
                 let one : HasFailedPut s.puts plan n T k.gained.gained cause before new = record {

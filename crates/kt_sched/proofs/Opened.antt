@@ -1,5 +1,5 @@
 -- A decided case becomes ready, and the response to a put.
-use Rattle.kt_sched.proofs.Common.{◌==◌, ◌<◌, nat_lt, nat_tests, if◌then◌else◌, not, get_or, slice_get, Option, Some, None, filter, is_some, ◌≡◌, ℕ, ◌+◌, responses_after_put, Bool, true, false, List, ◌∷◌, refl, sym, ◌∙◌, ap, subst, arith, inl, inr, append-nil, cases_eq, VerdictValue, Job, Stage, Decided, Case, CaseRecord, of, active, turns, is_put_allowed, Responses, has_failed, SchedState, RepresentsRun, IsStage, HasRecord, HasTurn, TracksAllowedPuts, is_decided, is_undecided, unstarted_record, record_in, positions, allowed_puts, slice_get_within, ◌≤◌, ◌++◌, length, drop, recorded, option_to_list, option_map}
+use Rattle.kt_sched.proofs.Common.{◌==◌, ◌<◌, nat_lt, nat_tests, if◌then◌else◌, not, get_or, slice_get, Option, Some, None, filter, is_some, ◌≡◌, ℕ, ◌+◌, responses_after_put, Bool, true, false, List, ◌∷◌, refl, sym, ◌∙◌, ap, subst, arith, inl, inr, append-nil, cases_eq, VerdictValue, Job, Stage, Decided, Case, CaseRecord, events_of, active, turns, is_put_allowed, Responses, has_failed, SchedState, RepresentsRun, IsStage, HasRecord, HasTurn, TracksAllowedPuts, is_decided, is_undecided, unstarted_record, record_in, positions, allowed_puts, slice_get_within, ◌≤◌, ◌++◌, length, drop, recorded, option_to_list, option_map}
 use Rattle.kt_sched.specs.declared.next.Next.TheVariants as next
 use Rattle.kt_sched.proofs.Lists.{slice_get-drop, drop_at, take_filter}
 use Rattle.kt_sched.proofs.Located.{AtTurn, has_turn, turn_found, active_is, one_place, asked_as}
@@ -23,7 +23,7 @@ module _ {plan : List Job} {n : ℕ} {fed : Responses} {b : SchedState} {i : ℕ
   ripe : (a.case.stage ≡ Decided) × (is_decided a.job ≡ true) × (is_put_allowed plan n fed.trace a.job ≡ true)
   ripe =
       let z = ap (λ (c : Case). c.stage) (same_Some a.case case (sym a.found ∙ turn_found h i case t.1 at)) ∙ is in
-      let P : Stage → Type 0 = λ x. IsStage i a.job x (of i fed.trace) in
+      let P : Stage → Type 0 = λ x. IsStage i a.job x (events_of i fed.trace) in
       let s = subst P z a.stage in
       let l : active plan fed.trace < n = omega (arith, t.2, h.cases.width_is, active_is h) in
       let m = room_at (active plan fed.trace) n a.job.exclusive l (λ e. active_is h ∙ exclusive_needs_none h t.1 a.place t.3 e) in

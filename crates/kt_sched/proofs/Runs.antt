@@ -1,5 +1,5 @@
 -- The running children and the owed cleanups after a trace, and the rules that a trace keeps.
-use Rattle.kt_sched.proofs.Common.{is_some, IfSome, append-nil, ◌≤◌, arith, nat_tests, MayStart, HasMoment, NoEvent, Leads, first, event_count, body_starts, body_start_of, HoldsAtEachEvent, KeepsWidth, KeepsExclusive, StartsPendingCleanup, WaitsWhenBusy, Responses, FitsAt, has_failed, IsUpToDate, MayStartNow, pending_after_start, slice_get, Option, Some, None, if◌then◌else◌, ◌&&◌, ◌≡◌, ◌≢◌, ℕ, ◌==◌, Bool, true, false, List, [], ◌∷◌, ◌++◌, refl, sym, ◌∙◌, ap, subst, option_map, Role, Body, Cleanup, Job, StartAnswer, Ended, Child, child_of, is_same_role, running_after_start, running_after_end, pending_after_end, has_declared_cleanup, Event, Start, End, Trace, Then, position_of, EventKind, BodyStarted, BodyEnded, CleanupStarted, kind_of_event, end_kind, history, pending_cleanup, case_declares_cleanup, is_pending_case, role_runs, runs}
+use Rattle.kt_sched.proofs.Common.{is_some, IfSome, append-nil, ◌≤◌, arith, nat_tests, MayStart, HasValidTimestamp, NoEvent, Leads, first_events, event_count, body_starts, body_start_of, HoldsAtEachEvent, KeepsWidth, KeepsExclusive, KeepsCleanupNext, WaitsWhenBusy, Responses, FitsAt, has_failed, IsUpToDate, MayStartNow, pending_after_start, slice_get, Option, Some, None, if◌then◌else◌, ◌&&◌, ◌≡◌, ◌≢◌, ℕ, ◌==◌, Bool, true, false, List, [], ◌∷◌, ◌++◌, refl, sym, ◌∙◌, ap, subst, option_map, Role, Body, Cleanup, Job, StartAnswer, Ended, Child, child_of, is_same_role, running_after_start, running_after_end, pending_after_end, has_declared_cleanup, Event, Start, End, Trace, Then, position_of, EventKind, BodyStarted, BodyEnded, CleanupStarted, kind_of_event, end_kind, history, pending_cleanup, case_declares_cleanup, is_pending_case, role_runs, runs}
 use Rattle.kt_sched.specs.declared.job.StartAnswer.TheVariants as start
 use Rattle.kt_sched.specs.declared.launcher.Launcher as launcher
 use Rattle.kt_sched.proofs.Turns.{history_same, history_other}
@@ -123,7 +123,7 @@ runs_true plan T i r child g = by (runs i r T) (slice_get plan i) refl refl g
 -- failed.
 abbrev pub up_to : Option ℕ → Trace → Trace
 up_to None T = T
-up_to (Some k) T = first k T
+up_to (Some k) T = first_events k T
 
 -- `Fair plan n T e`: the event `e` after the events `T` keeps the rules for each event, in the run
 -- of `plan` with the width `n`.
@@ -131,7 +131,7 @@ pub record Fair (plan : List Job) (n : ℕ) (T : Trace) (e : Event) : Type 0 whe
   pub fits : FitsAt plan T e
   pub width : KeepsWidth plan n T e
   pub exclusive : KeepsExclusive plan T e
-  pub prompt : StartsPendingCleanup plan T e
+  pub prompt : KeepsCleanupNext plan T e
 
 pub each_of : {P Q : Trace → Event → Type 0} (T : Trace) → ((U : Trace) (e : Event) → P U e → Q U e) → HoldsAtEachEvent P T → HoldsAtEachEvent Q T
 each_of NoEvent f h = tt
@@ -145,10 +145,10 @@ pub record Until (plan : List Job) (n : ℕ) (stopped : Option ℕ) (T : Trace) 
   pub begun : body_starts T ≡ body_starts (up_to stopped T)
   pub passed : IfSome stopped (λ k. k ≤ event_count T)
 
-first_past : (k : ℕ) (T : Trace) (e : Event) → k ≤ event_count T → first k (Then T e) ≡ first k T
+first_past : (k : ℕ) (T : Trace) (e : Event) → k ≤ event_count T → first_events k (Then T e) ≡ first_events k T
 first_past k T e h = grind (arith, nat_tests)
 
-first_all : (T : Trace) → first (event_count T) T ≡ T
+first_all : (T : Trace) → first_events (event_count T) T ≡ T
 first_all NoEvent = refl
 first_all (Then T e) = grind (arith, nat_tests)
 
@@ -186,6 +186,6 @@ pub record Startable (running : ℕ → Role → Option Child) (pending : ℕ �
   pub now : MayStartNow plan fed.trace i role
   pub history_is : history i fed.trace ≡ history_before role
   pub clears : (k : ℕ) → pending_after_start pending i role k ≡ false
-  pub fair : (a : StartAnswer) → HasMoment a → Fair plan n fed.trace (Start i role a)
+  pub fair : (a : StartAnswer) → HasValidTimestamp a → Fair plan n fed.trace (Start i role a)
   pub quiet : (a : StartAnswer) → has_failed fed ≡ true → body_start_of (Start i role a) ≡ []
   pub due : has_failed fed ≡ false → IsUpToDate plan n fed

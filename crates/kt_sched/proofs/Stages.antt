@@ -1,5 +1,5 @@
 -- The history that a stage represents, and the stage after an event.
-use Rattle.kt_sched.proofs.Common.{false_from_ne_true, and_right, not, None, is_none, is_some, map, not, ◌&&◌, ◌≡◌, ◌≢◌, ℕ, Bool, true, false, List, [], ◌∷◌, refl, sym, ◌∙◌, ap, list_any, Role, Body, Cleanup, Job, Stage, Waiting, Decided, Running, PendingCleanup, Cleaning, Finished, Taken, EndedBody, Event, EventKind, BodyStarted, BodyEnded, CleanupStarted, kind_of_event, is_whole, is_body_started, role_runs, stage_runs, IsStage, is_over, is_active_stage, is_pending_stage, is_waiting_stage, is_decided_stage, slice_get, Some, ◌<◌, ◌⊎◌, ◌-◌, ◌++◌, subst, arith, inl, inr, and_from, CleanupRefused, end_kind, CaseRecord, ended_body, Start, End, Trace, Then, position_of, body_start_of, empty_output, IsEntry, ended, refused, uncleaned, cleaned, ChangesStage, case_declares_cleanup, pending_cleanup, pending_at, entry_with, record_after_cleanup, stage_work}
+use Rattle.kt_sched.proofs.Common.{false_from_ne_true, and_right, not, None, is_none, is_some, map, not, ◌&&◌, ◌≡◌, ◌≢◌, ℕ, Bool, true, false, List, [], ◌∷◌, refl, sym, ◌∙◌, ap, list_any, Role, Body, Cleanup, Job, Stage, Waiting, Decided, Running, PendingCleanup, Cleaning, Finished, Taken, EndedBody, Event, EventKind, BodyStarted, BodyEnded, CleanupStarted, kind_of_event, is_whole, is_body_started, role_runs, stage_runs, IsStage, is_over, is_active_stage, is_pending_stage, is_waiting_stage, is_decided_stage, slice_get, Some, ◌<◌, ◌⊎◌, ◌-◌, ◌++◌, subst, arith, inl, inr, and_from, CleanupRefused, end_kind, CaseRecord, ended_body, Start, End, Trace, Then, position_of, body_start_of, empty_output, IsEntry, ended, refused, uncleaned, cleaned, ChangesStage, case_declares_cleanup, pending_cleanup, pending_at, entry_with, record_after_cleanup, stage_changes_left}
 use Rattle.kt_sched.specs.declared.job.StartAnswer.TheVariants as start
 
 abbrev pub marks_active : Job → List EventKind → Bool
@@ -97,7 +97,7 @@ owing_stage stage e = absurd (cc)
 -- `now`, which has less work left.
 pub record Moves (was : Stage) (e : Event) (now : Stage) : Type 0 where
   pub fresh : is_over was ≡ false
-  pub works : stage_work now < stage_work was
+  pub works : stage_changes_left now < stage_changes_left was
   pub begins : is_waiting_stage now ≡ false
   pub has_record : is_over now ≡ true → (t : CaseRecord) × (now ≡ Finished t)
   pub kind : ((is_waiting_stage was ≡ true) × (body_start_of e ≡ position_of e ∷ [])) ⊎ ((is_active_stage was ≡ true) × (body_start_of e ≡ []))

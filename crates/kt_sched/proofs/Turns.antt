@@ -1,5 +1,5 @@
 -- The turn order, which has each case once and exclusive cases last, and one more event.
-use Rattle.kt_sched.proofs.Common.{ne_eqb, nat_tests, ◌⊎◌, slice_get, count_by, filter, Some, not, ◌==◌, ◌≡◌, ◌≢◌, ℕ, ◌+◌, ◌<◌, ◌≤◌, Bool, true, false, cond, List, length, refl, ◌∙◌, ap, arith, inl, inr, false_from_ne_true, sum_by-filter_both, cases_eq, slice_get_within, Job, turns, None, is_none, map, ◌&&◌, [], ◌∷◌, ◌++◌, sym, map-append, Event, Trace, Then, position_of, of, event_count, kind_of_event, history, is_whole, has_whole_history, ScheduledPut, scheduled_puts, puts_scheduled_at, jobs_finished_by, is_put_allowed, was_put_allowed, recorded, IsPlan, positions}
+use Rattle.kt_sched.proofs.Common.{ne_eqb, nat_tests, ◌⊎◌, slice_get, count_by, filter, Some, not, ◌==◌, ◌≡◌, ◌≢◌, ℕ, ◌+◌, ◌<◌, ◌≤◌, Bool, true, false, cond, List, length, refl, ◌∙◌, ap, arith, inl, inr, false_from_ne_true, sum_by-filter_both, cases_eq, slice_get_within, Job, turns, None, is_none, map, ◌&&◌, [], ◌∷◌, ◌++◌, sym, map-append, Event, Trace, Then, position_of, events_of, event_count, kind_of_event, history, is_whole, has_whole_history, ScheduledPut, scheduled_puts, puts_scheduled_at, jobs_finished_by, is_put_allowed, was_put_allowed, recorded, IsPlan, positions}
 use Rattle.kt_sched.proofs.Lists.{counted_one, counted_some, count_by-append, counted_only, counted_two, filter_in, in_append, pick, filter_only}
 use Rattle.kt_base.proofs.Lists.{same_number}
 
@@ -63,15 +63,15 @@ turn_covers plan h i job g =
     (w.0, w.2 ∙ (sym (turn_inside plan h w.0 w.1 w.2) ∙ (ap (slice_get plan) (e ∙ h i job g) ∙ g)))
 
 -- An event is added to the events of its case, and to the events of no other case.
-pub of_same : (i : ℕ) (T : Trace) (e : Event) → position_of e ≡ i → of i (Then T e) ≡ of i T ++ e ∷ []
+pub of_same : (i : ℕ) (T : Trace) (e : Event) → position_of e ≡ i → events_of i (Then T e) ≡ events_of i T ++ e ∷ []
 of_same i T e h = rw (h, same_number i) refl
 
-pub of_other : (i k : ℕ) (T : Trace) (e : Event) → position_of e ≡ i → k ≢ i → of k (Then T e) ≡ of k T
+pub of_other : (i k : ℕ) (T : Trace) (e : Event) → position_of e ≡ i → k ≢ i → events_of k (Then T e) ≡ events_of k T
 of_other i k T e h n = rw (h, ne_eqb i k (λ q. n (sym q))) refl
 
 -- An event is added to the history of its case, and to no other history.
 pub history_same : (i : ℕ) (T : Trace) (e : Event) → position_of e ≡ i → history i (Then T e) ≡ history i T ++ kind_of_event e ∷ []
-history_same i T e h = ap (map kind_of_event) (of_same i T e h) ∙ map-append kind_of_event (of i T) (e ∷ [])
+history_same i T e h = ap (map kind_of_event) (of_same i T e h) ∙ map-append kind_of_event (events_of i T) (e ∷ [])
 
 pub history_other : (i k : ℕ) (T : Trace) (e : Event) → position_of e ≡ i → k ≢ i → history k (Then T e) ≡ history k T
 history_other i k T e h n = ap (map kind_of_event) (of_other i k T e h n)

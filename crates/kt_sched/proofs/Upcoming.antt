@@ -1,5 +1,5 @@
 -- The case at the turn, the next body in turn order, and exclusive cases, which run alone.
-use Rattle.kt_sched.proofs.Common.{slice_get, Some, None, take, drop, filter, is_none, ◌≡◌, ℕ, ◌+◌, true, List, [], ◌++◌, length, refl, sym, ◌∙◌, ap, subst, arith, take-append_seam, drop-append_seam, length-map, take-append-drop, filter-append, Job, Stage, Waiting, Case, of, turns, body_starts, undecided_turns, next_to_start, Responses, SchedState, RepresentsRun, IsStage, HasTurn, IsSettled, Order, positions, is_undecided, ◌||◌, ◌<◌, ◌⊎◌, false, inl, inr, cases_Bool, or_left, or_right, cases_lt, cases_eq, Body, Cleanup, has_whole_history, pending_cleanup, IsQuiet, IsExclusiveAtStart, is_active_stage, HasExclusiveFlag}
+use Rattle.kt_sched.proofs.Common.{slice_get, Some, None, take, drop, filter, is_none, ◌≡◌, ℕ, ◌+◌, true, List, [], ◌++◌, length, refl, sym, ◌∙◌, ap, subst, arith, take-append_seam, drop-append_seam, length-map, take-append-drop, filter-append, Job, Stage, Waiting, Case, events_of, turns, body_starts, undecided_turns, next_to_start, Responses, SchedState, RepresentsRun, IsStage, HasTurn, IsSettled, Order, positions, is_undecided, ◌||◌, ◌<◌, ◌⊎◌, false, inl, inr, cases_Bool, or_left, or_right, cases_lt, cases_eq, Body, Cleanup, has_whole_history, pending_cleanup, MayStartExclusive, IsExclusiveAtStart, is_active_stage, HasExclusiveFlag}
 use Rattle.kt_sched.proofs.Lists.{drop_at, filter_in, get_drop, slice_get-drop, counted_two, list_all_from}
 use Rattle.kt_sched.proofs.Stages.{waiting_stage, fresh_inactive, over_stage}
 use Rattle.kt_sched.proofs.Located.{AtTurn, decided_is, exclusive_is, has_turn, at_turn, active_is, inactive, owes, says_at}
@@ -43,11 +43,11 @@ module _ {plan : List Job} {n : ℕ} {fed : Responses} {b : SchedState} (h : Rep
 
   -- The case at the turn waits, if no decided case can be put.
   pub upcoming : (i : ℕ) → b.ready ≡ None → IsSettled b → HasTurn b i
-      → (a : AtTurn plan fed b i) × (a.case.stage ≡ Waiting) × (of i fed.trace ≡ []) × (a.job.decided ≡ None)
+      → (a : AtTurn plan fed b i) × (a.case.stage ≡ Waiting) × (events_of i fed.trace ≡ []) × (a.job.decided ≡ None)
   upcoming i r s t =
       let a = has_turn h i t.1 in
       let z = waiting_stage a.case.stage a.fresh (decided_is a (s r i t)) in
-      let P : Stage → Type 0 = λ x. IsStage i a.job x (of i fed.trace) in
+      let P : Stage → Type 0 = λ x. IsStage i a.job x (events_of i fed.trace) in
       let q = subst P z a.stage in
       (a, z, q.0, q.1)
 
@@ -74,7 +74,7 @@ module _ {plan : List Job} {n : ℕ} {fed : Responses} {b : SchedState} (h : Rep
     turn_is : slice_get (turns plan) b.turn ≡ Some job
     turn_is = (has_turn h i o).turn ∙ ap Some same
 
-    quiet_start : job.exclusive ≡ true → b.active ≡ 0 → IsQuiet plan fed.trace
+    quiet_start : job.exclusive ≡ true → b.active ≡ 0 → MayStartExclusive plan fed.trace
     quiet_start e a = (
       active_is h ∙ a,
       list_all_from (λ (j : Job). j.exclusive || has_whole_history fed.trace j) plan (λ k j x.

@@ -4,7 +4,7 @@ use Rattle.kt_sched.specs.Types.{Body, Cleanup, Ended, Entry, Job, VerdictValue,
 use Rattle.kt_base.specs.declared.failed_start.Refused.{Refused as Cause}
 use Rattle.kt_status.specs.declared.cleanup_end.CleanupEnd.TheVariants as cleanup
 use Rattle.kt_status.specs.Tables.{IsVerdict, IsVerdictOfRefusal, IsVerdictAfterCleanup}
-use Rattle.kt_sched.specs.Trace.{Event, Start, End, Trace, of}
+use Rattle.kt_sched.specs.Trace.{Event, Start, End, Trace, events_of}
 use Rattle.kt_sched.specs.History.{history, is_whole}
 
 -- `empty_output`: the output of a child that didn't run.
@@ -54,7 +54,7 @@ pub record IsEntryOf (plan : List Job) (T : Trace) (i : ℕ) (entry : Entry) : T
   pub job : Job
   pub place : slice_get plan i ≡ Some job
   pub whole : is_whole job (history i T) ≡ true
-  pub entry_is : IsEntry job (of i T) entry
+  pub entry_is : IsEntry job (events_of i T) entry
 
 -- `AreEntries plan T positions entries`: `entries` are, in order, the entries of the cases of
 -- `plan` at `positions`. Each of these cases is over after the trace `T` (`is_whole`).

@@ -2,7 +2,7 @@
 use Rattle.std.specs.Prelude.{ℕ, Bool, true, false, List, [], ◌∷◌, ◌&&◌, not, map, count_by, is_some, is_none}
 use Rattle.std.specs.List.{list_any}
 use Rattle.kt_sched.specs.Types.{Body, Cleanup, Job, Refused, Role, Started}
-use Rattle.kt_sched.specs.Trace.{Event, Start, End, Trace, of}
+use Rattle.kt_sched.specs.Trace.{Event, Start, End, Trace, events_of}
 
 -- `EventKind`: the kind of an event of a case: a start, a refused start or an end, of its body or
 -- its cleanup.
@@ -29,7 +29,7 @@ kind_of_event (End ended) = end_kind ended.role
 
 -- `history i T`: the kinds of the events of case `i` in the trace `T`, in order.
 abbrev pub history : ℕ → Trace → List EventKind
-history i T = map kind_of_event (of i T)
+history i T = map kind_of_event (events_of i T)
 
 -- `is_whole job history`: `history` is a whole history of the case of `job`: the case is over, and
 -- no more events of it follow. For a decided case, the history is empty. For another case, either

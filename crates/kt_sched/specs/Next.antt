@@ -3,7 +3,7 @@ use Rattle.std.specs.Prelude.{ℕ, true, false, List, [], ◌∷◌, ◌≡◌, 
 use Rattle.std.specs.List.{list_all}
 use Rattle.kt_sched.specs.Types.{Body, Cleanup, Job, Next, Role}
 use Rattle.kt_sched.specs.declared.next.Next.TheVariants as next
-use Rattle.kt_sched.specs.Trace.{Trace, of}
+use Rattle.kt_sched.specs.Trace.{Trace, events_of}
 use Rattle.kt_sched.specs.History.{BodyStarted, BodyEnded, history, is_whole, has_whole_history, active}
 use Rattle.kt_sched.specs.TurnOrder.{next_to_start}
 use Rattle.kt_sched.specs.ScheduleRules.{pending_cleanup, IsBusy, IsExclusiveAtStart}
@@ -52,23 +52,23 @@ pub record MayStartNow (plan : List Job) (T : Trace) (i : ℕ) (role : Role) : T
 -- `AreWhole plan T`: each case of `plan` that has an event in the trace `T` is over: its history in
 -- `T` is whole (`is_whole`).
 abbrev pub AreWhole : List Job → Trace → Type 0
-AreWhole plan T = (i : ℕ) (job : Job) → slice_get plan i ≡ Some job → (of i T ≡ []) ⊎ (has_whole_history T job ≡ true)
+AreWhole plan T = (i : ℕ) (job : Job) → slice_get plan i ≡ Some job → (events_of i T ≡ []) ⊎ (has_whole_history T job ≡ true)
 
 -- `WerePutsAllowed plan n T`: with the width `n`, the entry of each decided case of `plan` could be
 -- put after the events `T` or a prefix of `T` (`was_put_allowed`).
 abbrev pub WerePutsAllowed : List Job → ℕ → Trace → Type 0
 WerePutsAllowed plan n T = (i : ℕ) (job : Job) → slice_get plan i ≡ Some job → is_some job.decided ≡ true → was_put_allowed plan n T job ≡ true
 
--- `Follows plan n fed next`: the facts that hold after the responses `fed`, in the run of `plan`
+-- `HasStepFacts plan n fed next`: the facts that hold after the responses `fed`, in the run of `plan`
 -- with the width `n`, if `next` is the next step. A case to be started may start now
 -- (`MayStartNow`). A body starts as the first event of its case, and a cleanup right after the end
 -- of its body. At a wait, a child runs. At the end of the run, each case with an event is over. If
 -- no put failed, each case of `plan` is over, and each decided case could be put
 -- (`WerePutsAllowed`).
-abbrev pub Follows : List Job → ℕ → Responses → Next → Type 0
-Follows plan n fed (next.Put i) = ⊤
-Follows plan n fed (next.Start i Body) = MayStartNow plan fed.trace i Body × (history i fed.trace ≡ [])
-Follows plan n fed (next.Start i Cleanup) = MayStartNow plan fed.trace i Cleanup × (history i fed.trace ≡ BodyStarted ∷ BodyEnded ∷ [])
-Follows plan n fed next.Wait = (i : ℕ) × (role : Role) × (job : Job) × (runs i role fed.trace ≡ true) × (slice_get plan i ≡ Some job)
-Follows plan n fed next.Done =
+abbrev pub HasStepFacts : List Job → ℕ → Responses → Next → Type 0
+HasStepFacts plan n fed (next.Put i) = ⊤
+HasStepFacts plan n fed (next.Start i Body) = MayStartNow plan fed.trace i Body × (history i fed.trace ≡ [])
+HasStepFacts plan n fed (next.Start i Cleanup) = MayStartNow plan fed.trace i Cleanup × (history i fed.trace ≡ BodyStarted ∷ BodyEnded ∷ [])
+HasStepFacts plan n fed next.Wait = (i : ℕ) × (role : Role) × (job : Job) × (runs i role fed.trace ≡ true) × (slice_get plan i ≡ Some job)
+HasStepFacts plan n fed next.Done =
     AreWhole plan fed.trace × (has_failed fed ≡ false → (list_all (has_whole_history fed.trace) plan ≡ true) × WerePutsAllowed plan n fed.trace)

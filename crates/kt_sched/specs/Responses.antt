@@ -7,19 +7,19 @@ use Rattle.kt_sched.specs.Trace.{Start, End, Trace, NoEvent, Then, event_count}
 use Rattle.kt_sched.specs.History.{EventKind, BodyStarted, BodyEnded, CleanupStarted, history}
 
 -- `Responses`: the responses in a run so far: the trace of the launcher, and the number of stored
--- entries. If a put failed, `stopped` is the number of events before this put, else `None`.
+-- entries. If a put failed, `failed_put_after` is the number of events before this put, else `None`.
 pub record Responses : Type 0 where
   pub trace : Trace
   pub stored : ℕ
-  pub stopped : Option ℕ
+  pub failed_put_after : Option ℕ
 
 -- `no_responses`: the responses at the start of a run: no event, no stored entry and no failed put.
 abbrev pub no_responses : Responses
-no_responses = record { trace = NoEvent; stored = 0; stopped = None }
+no_responses = record { trace = NoEvent; stored = 0; failed_put_after = None }
 
 -- `has_failed fed`: one of the responses `fed` reports a failed put.
 abbrev pub has_failed : Responses → Bool
-has_failed fed = is_some fed.stopped
+has_failed fed = is_some fed.failed_put_after
 
 -- `responses_after fed asked answer`: the responses `fed`, followed by the response `answer` to the
 -- step `asked`. The result is `fed` if `answer` does not fit this step.
@@ -28,7 +28,7 @@ responses_after fed (next.Start i role) (answer.Started moment) = record fed { t
 responses_after fed (next.Start i role) (answer.Refused cause) = record fed { trace = Then fed.trace (Start i role (Refused cause)) }
 responses_after fed next.Wait (answer.Ended ended) = record fed { trace = Then fed.trace (End ended) }
 responses_after fed (next.Put i) answer.Stored = record fed { stored = fed.stored + 1 }
-responses_after fed (next.Put i) answer.StoreFailed = record fed { stopped = Some (event_count fed.trace) }
+responses_after fed (next.Put i) answer.StoreFailed = record fed { failed_put_after = Some (event_count fed.trace) }
 responses_after fed asked other = fed
 
 -- `role_runs role history`: a case with the history `history` has a running child in the role

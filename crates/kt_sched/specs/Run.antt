@@ -4,7 +4,7 @@ use Rattle.kt_sched.specs.Types.{Entry, Job, NoMemory, RunFault, SinkFailed, Sin
 use Rattle.kt_base.specs.Kinds.{good as is_good}
 use Rattle.kt_sched.specs.declared.launcher.Launcher as launcher
 use Rattle.kt_sched.specs.declared.sink.Sink as sink
-use Rattle.kt_sched.specs.Trace.{Event, Start, End, HasMoment, Trace, NoEvent, Leads, of}
+use Rattle.kt_sched.specs.Trace.{Event, Start, End, HasValidTimestamp, Trace, NoEvent, Leads, events_of}
 use Rattle.kt_sched.specs.ScheduleRules.{HoldsAtEachEvent, Legal, Stopped}
 use Rattle.kt_sched.specs.RecordOrder.{ScheduledPut, scheduled_puts, recorded}
 use Rattle.kt_sched.specs.EntryOf.{PutsInOrder, IsEntryOf, AreEntries}
@@ -15,7 +15,7 @@ use Rattle.kt_base.specs.Moments.{IsMoment}
 -- the end of a child, its evidence fits the interface of its job in `plan`. The rule doesn't depend
 -- on `T`, the events before `event`.
 abbrev pub FitsAt : List Job → Trace → Event → Type 0
-FitsAt plan T (Start i role answer) = HasMoment answer
+FitsAt plan T (Start i role answer) = HasValidTimestamp answer
 FitsAt plan T (End ended) =
     IsMoment ended.moment × ((job : Job) × (slice_get plan ended.position ≡ Some job) × IsEvidence job.interface ended.role ended.evidence)
 
@@ -91,7 +91,7 @@ module _ {L S : Type 0} (l : launcher.Ghosts L) (s : sink.Ghosts S) where
     pub trace : Trace
     pub leads : Leads l.starts l.waits plan trace old new
     pub fits : HoldsAtEachEvent (FitsAt plan) trace
-    pub calls : (i : ℕ) → length (of i trace) ≤ 4
+    pub calls : (i : ℕ) → length (events_of i trace) ≤ 4
     pub once : (i : ℕ) → count_by (λ p. p == i) (recorded plan n trace) ≤ 1
     pub gained : List Entry
     pub are : AreEntries plan trace (take (length gained) (recorded plan n trace)) gained

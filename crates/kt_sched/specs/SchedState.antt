@@ -4,7 +4,7 @@ use Rattle.std.specs.Option.{option_map, option_to_list}
 use Rattle.kt_sched.specs.Types.{Answer, Body, Case, CaseRecord, Cleaning, Cleanup, Decided, Ended, EndedBody, Entry, Finished, Job, VerdictValue, Next, PendingCleanup, Running, Stage, Started, Taken, Waiting}
 use Rattle.kt_sched.specs.declared.next.Next.TheVariants as next
 use Rattle.kt_status.specs.Tables.{IsVerdict}
-use Rattle.kt_sched.specs.Trace.{Event, Start, End, Trace, Then, of}
+use Rattle.kt_sched.specs.Trace.{Event, Start, End, Trace, Then, events_of}
 use Rattle.kt_sched.specs.History.{kind_of_event, is_whole}
 use Rattle.kt_sched.specs.TurnOrder.{body_starts, turns}
 use Rattle.kt_sched.specs.ScheduleRules.{pending_cleanup}
@@ -39,30 +39,30 @@ is_active_stage (PendingCleanup b) = true
 is_active_stage (Cleaning b) = true
 is_active_stage _ = false
 
--- `stage_work stage`: the greatest number of changes of the stage that may follow for a case in the
+-- `stage_changes_left stage`: the greatest number of changes of the stage that may follow for a case in the
 -- stage `stage`, until the stage is `Taken`.
-abbrev pub stage_work : Stage → ℕ
-stage_work Waiting = 5
-stage_work Decided = 1
-stage_work (Running m) = 4
-stage_work (PendingCleanup b) = 3
-stage_work (Cleaning b) = 2
-stage_work (Finished t) = 1
-stage_work Taken = 0
+abbrev pub stage_changes_left : Stage → ℕ
+stage_changes_left Waiting = 5
+stage_changes_left Decided = 1
+stage_changes_left (Running m) = 4
+stage_changes_left (PendingCleanup b) = 3
+stage_changes_left (Cleaning b) = 2
+stage_changes_left (Finished t) = 1
+stage_changes_left Taken = 0
 
--- `work cases`: the greatest number of changes of a stage that may follow for all `cases` together
--- (`stage_work`).
-abbrev pub work : List Case → ℕ
-work cases = sum_by (λ c. stage_work c.stage) cases
+-- `changes_left cases`: the greatest number of changes of a stage that may follow for all `cases` together
+-- (`stage_changes_left`).
+abbrev pub changes_left : List Case → ℕ
+changes_left cases = sum_by (λ c. stage_changes_left c.stage) cases
 
--- `ReducesWork next old new`: `old` and `new` are the greatest numbers of changes of a stage that
--- may follow (`work`), before and after the response to the step `next`. The response to a put
+-- `ReducesChangesLeft next old new`: `old` and `new` are the greatest numbers of changes of a stage that
+-- may follow (`changes_left`), before and after the response to the step `next`. The response to a put
 -- keeps this number, and the response to a start or a wait reduces it. `Done` has no condition.
-abbrev pub ReducesWork : Next → ℕ → ℕ → Type 0
-ReducesWork (next.Put i) old new = new ≡ old
-ReducesWork (next.Start i role) old new = new < old
-ReducesWork next.Wait old new = new < old
-ReducesWork next.Done old new = ⊤
+abbrev pub ReducesChangesLeft : Next → ℕ → ℕ → Type 0
+ReducesChangesLeft (next.Put i) old new = new ≡ old
+ReducesChangesLeft (next.Start i role) old new = new < old
+ReducesChangesLeft next.Wait old new = new < old
+ReducesChangesLeft next.Done old new = ⊤
 
 -- `unstarted_record verdict`: the `CaseRecord` of a case that was not started and has the verdict
 -- `verdict`.
@@ -105,7 +105,7 @@ IsStage i job Taken es = is_whole job (map kind_of_event es) ≡ true
 pub record RepresentsCase (T : Trace) (i : ℕ) (job : Job) (cases : List Case) : Type 0 where
   pub case : Case
   pub found : slice_get cases i ≡ Some case
-  pub stage : IsStage i job case.stage (of i T)
+  pub stage : IsStage i job case.stage (events_of i T)
   pub kept : case.stage ≢ Taken → case.job ≡ job
 
 -- `HasExclusiveFlag cases i flag`: case `i` of `cases` is exclusive if `flag` is true, and is not
@@ -208,7 +208,7 @@ pub record RepresentCases (plan : List Job) (n : ℕ) (T : Trace) (cases : List 
   pub pending_is : pending ≡ pending_cleanup plan T
   pub count : length cases ≡ length plan
   pub each : (i : ℕ) (job : Job) → slice_get plan i ≡ Some job → RepresentsCase T i job cases
-  pub beyond : (i : ℕ) → length plan ≤ i → of i T ≡ []
+  pub beyond : (i : ℕ) → length plan ≤ i → events_of i T ≡ []
   pub active : a ≡ count_by (λ c. is_active_stage c.stage) cases
   pub most : a ≤ n
   pub lone : (k : ℕ) (j : Job) (c : Case) → slice_get plan k ≡ Some j → slice_get cases k ≡ Some c → j.exclusive ≡ true → is_active_stage c.stage ≡ true → a ≡ 1
@@ -264,8 +264,8 @@ IsAnswer b answer = (plan : List Job) × (n : ℕ) × (fed : Responses) × Repre
 
 -- `RecordsEvent old e new`: the event `e` leads the scheduler from the state `old` to `new`. If
 -- `old` represents a run, `new` represents this run with `e` as one more event. Fewer changes of a
--- stage may follow than before (`work`), and no step is requested.
+-- stage may follow than before (`changes_left`), and no step is requested.
 pub record RecordsEvent (old : SchedState) (e : Event) (new : SchedState) : Type 0 where
   pub stands : HoldsForEachRun old (λ plan n fed. RepresentsRun plan n (record fed { trace = Then fed.trace e }) new)
-  pub less : work new.cases < work old.cases
+  pub less : changes_left new.cases < changes_left old.cases
   pub asked : new.asked ≡ next.Done

@@ -3,7 +3,7 @@ use Rattle.std.specs.Prelude.{ℕ, Bool, true, false, List, [], ◌&&◌, ◌||�
 use Rattle.std.specs.List.{list_all}
 use Rattle.kt_sched.specs.Types.{Body, Cleanup, Job, Role}
 use Rattle.kt_sched.specs.Children.{is_same_role}
-use Rattle.kt_sched.specs.Trace.{Event, Start, End, Trace, NoEvent, Then, of, first}
+use Rattle.kt_sched.specs.Trace.{Event, Start, End, Trace, NoEvent, Then, events_of, first_events}
 use Rattle.kt_sched.specs.History.{has_whole_history, is_active, active}
 use Rattle.kt_sched.specs.TurnOrder.{body_starts, undecided_turns, next_to_start}
 
@@ -24,17 +24,17 @@ abbrev pub KeepsWidth : List Job → ℕ → Trace → Event → Type 0
 KeepsWidth plan n T (Start i Body answer) = active plan T < n
 KeepsWidth plan n T other = ⊤
 
--- `IsQuiet plan T`: after the events `T`, no case of `plan` is active, and each case that is not
+-- `MayStartExclusive plan T`: after the events `T`, no case of `plan` is active, and each case that is not
 -- exclusive is over (`is_whole`).
-abbrev pub IsQuiet : List Job → Trace → Type 0
-IsQuiet plan T = (active plan T ≡ 0) × (list_all (λ (job : Job). job.exclusive || has_whole_history T job) plan ≡ true)
+abbrev pub MayStartExclusive : List Job → Trace → Type 0
+MayStartExclusive plan T = (active plan T ≡ 0) × (list_all (λ (job : Job). job.exclusive || has_whole_history T job) plan ≡ true)
 
 -- `IsExclusiveAtStart plan T i role`: the rule of exclusive cases allows the start of case `i` of
 -- `plan` in the role `role` after the events `T`. An exclusive body starts only if no case is
--- active and each case that is not exclusive is over (`IsQuiet`). While an exclusive case is
+-- active and each case that is not exclusive is over (`MayStartExclusive`). While an exclusive case is
 -- active, only its own cleanup starts.
 pub record IsExclusiveAtStart (plan : List Job) (T : Trace) (i : ℕ) (role : Role) : Type 0 where
-  pub quiet : (job : Job) → slice_get plan i ≡ Some job → job.exclusive ≡ true → role ≡ Body → IsQuiet plan T
+  pub quiet : (job : Job) → slice_get plan i ≡ Some job → job.exclusive ≡ true → role ≡ Body → MayStartExclusive plan T
   pub own : (job : Job) (k : ℕ) → slice_get plan k ≡ Some job → job.exclusive ≡ true → is_active T job ≡ true → (k ≡ i) × (role ≡ Cleanup)
 
 -- `KeepsExclusive plan T event`: if `event` is a start of a case of `plan`, the rule of exclusive
@@ -54,15 +54,15 @@ pending_cleanup plan NoEvent = None
 pending_cleanup plan (Then T (Start i role answer)) = None
 pending_cleanup plan (Then T (End ended)) = if is_same_role ended.role Body && case_declares_cleanup plan ended.position then Some ended.position else None
 
--- `IsCleanupStart event owing`: `event` is the start of the cleanup of case `owing`.
+-- `IsCleanupStart event position`: `event` is the start of the cleanup of case `position`.
 abbrev pub IsCleanupStart : Event → ℕ → Type 0
-IsCleanupStart (Start i role answer) owing = (i ≡ owing) × (role ≡ Cleanup)
-IsCleanupStart (End ended) owing = ⊥
+IsCleanupStart (Start i role answer) position = (i ≡ position) × (role ≡ Cleanup)
+IsCleanupStart (End ended) position = ⊥
 
--- `StartsPendingCleanup plan T event`: if the last event of `T` ended a body of `plan` with a
+-- `KeepsCleanupNext plan T event`: if the last event of `T` ended a body of `plan` with a
 -- declared cleanup, `event` is the start of this cleanup.
-abbrev pub StartsPendingCleanup : List Job → Trace → Event → Type 0
-StartsPendingCleanup plan T e = IfSome (pending_cleanup plan T) (IsCleanupStart e)
+abbrev pub KeepsCleanupNext : List Job → Trace → Event → Type 0
+KeepsCleanupNext plan T e = IfSome (pending_cleanup plan T) (IsCleanupStart e)
 
 -- `IsBusy plan n T`: no body of `plan` may be started after the events `T` with the width `n`.
 -- Either `n` cases are active, no body is left, or the next body is exclusive and a case is active.
@@ -84,7 +84,7 @@ pub record Legal (plan : List Job) (n : ℕ) (T : Trace) : Type 0 where
   pub order : Order plan T
   pub width : HoldsAtEachEvent (KeepsWidth plan n) T
   pub exclusive : HoldsAtEachEvent (KeepsExclusive plan) T
-  pub prompt : HoldsAtEachEvent (StartsPendingCleanup plan) T
+  pub prompt : HoldsAtEachEvent (KeepsCleanupNext plan) T
   pub busy : HoldsAtEachEvent (WaitsWhenBusy plan n) T
 
 -- `Stopped plan n T k`: `T` is the trace of a run of `plan` with the width `n`, in which a put
@@ -92,10 +92,10 @@ pub record Legal (plan : List Job) (n : ℕ) (T : Trace) : Type 0 where
 -- over (`is_whole`). The rules of order, width, exclusiveness and cleanups hold. The rule of waits
 -- holds for the first `k` events only.
 pub record Stopped (plan : List Job) (n : ℕ) (T : Trace) (k : ℕ) : Type 0 where
-  pub starts : body_starts T ≡ body_starts (first k T)
-  pub whole : (job : Job) (i : ℕ) → slice_get plan i ≡ Some job → (of i T ≡ []) ⊎ (has_whole_history T job ≡ true)
+  pub starts : body_starts T ≡ body_starts (first_events k T)
+  pub whole : (job : Job) (i : ℕ) → slice_get plan i ≡ Some job → (events_of i T ≡ []) ⊎ (has_whole_history T job ≡ true)
   pub order : Order plan T
   pub width : HoldsAtEachEvent (KeepsWidth plan n) T
   pub exclusive : HoldsAtEachEvent (KeepsExclusive plan) T
-  pub prompt : HoldsAtEachEvent (StartsPendingCleanup plan) T
-  pub busy : HoldsAtEachEvent (WaitsWhenBusy plan n) (first k T)
+  pub prompt : HoldsAtEachEvent (KeepsCleanupNext plan) T
+  pub busy : HoldsAtEachEvent (WaitsWhenBusy plan n) (first_events k T)

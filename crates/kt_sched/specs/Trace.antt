@@ -8,11 +8,11 @@ pub data Event : Type 0 where
   Start : (position : ℕ) (role : Role) (answer : StartAnswer) → Event
   End : (ended : Ended) → Event
 
--- `HasMoment answer`: if `answer` reports a start, the timestamp of the start is before the year
+-- `HasValidTimestamp answer`: if `answer` reports a start, the timestamp of the start is before the year
 -- 10000.
-abbrev pub HasMoment : StartAnswer → Type 0
-HasMoment (Started moment) = IsMoment moment
-HasMoment (Refused cause) = ⊤
+abbrev pub HasValidTimestamp : StartAnswer → Type 0
+HasValidTimestamp (Started moment) = IsMoment moment
+HasValidTimestamp (Refused cause) = ⊤
 
 -- `Trace`: the responses of a launcher in order.
 pub data Trace : Type 0 where
@@ -34,17 +34,17 @@ abbrev pub event_count : Trace → ℕ
 event_count NoEvent = 0
 event_count (Then T e) = event_count T + 1
 
--- `first k T`: the first `k` events of `T`, or all its events if it has fewer.
-abbrev pub first : ℕ → Trace → Trace
-first k NoEvent = NoEvent
-first k (Then T e) = if nat_le (event_count T + 1) k then Then T e else first k T
+-- `first_events k T`: the first `k` events of `T`, or all its events if it has fewer.
+abbrev pub first_events : ℕ → Trace → Trace
+first_events k NoEvent = NoEvent
+first_events k (Then T e) = if nat_le (event_count T + 1) k then Then T e else first_events k T
 
 -- `position_of event`: the position in the plan of the case to which `event` belongs.
 abbrev pub position_of : Event → ℕ
 position_of (Start i role answer) = i
 position_of (End ended) = ended.position
 
--- `of i T`: the events of case `i` in the trace `T`, in order.
-abbrev pub of : ℕ → Trace → List Event
-of i NoEvent = []
-of i (Then T e) = if position_of e == i then of i T ++ e ∷ [] else of i T
+-- `events_of i T`: the events of case `i` in the trace `T`, in order.
+abbrev pub events_of : ℕ → Trace → List Event
+events_of i NoEvent = []
+events_of i (Then T e) = if position_of e == i then events_of i T ++ e ∷ [] else events_of i T

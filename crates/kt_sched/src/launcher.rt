@@ -13,8 +13,8 @@ pub trait Launcher {
     ghost use Rattle.kt_sched.specs.declared.job.Ended.{Ended};
     ghost use Rattle.kt_sched.specs.Children.{Child, MayStart, IsEvidence, running_after_start, running_after_end, pending_after_start, pending_after_end};
     ghost use Rattle.kt_base.specs.Moments.{IsMoment};
-    ghost use Rattle.kt_sched.specs.Trace.{HasMoment};
-    ghost use Rattle.kt_sched.specs.Plan.{IsFit};
+    ghost use Rattle.kt_sched.specs.Trace.{HasValidTimestamp};
+    ghost use Rattle.kt_sched.specs.Plan.{IsStartableJob};
 
     /// The running child of the case at a position in the plan, in a role, or `None` if no such
     /// child runs. A child is described by the interface of its case, and by whether the case
@@ -39,10 +39,10 @@ pub trait Launcher {
     /// child of its case runs and no cleanup of its case is pending. A cleanup may start only once,
     /// after its body ended.
     fn start(&mut self, job: &Job, role: Role) -> StartAnswer
-        requires fit { IsFit job.now }
+        requires fit { IsStartableJob job.now }
         requires may { MayStart (running self.old) (pending self.old) job.now.position role }
         ensures leads { starts self.old job.now role result self.new }
-        ensures moment { HasMoment result }
+        ensures moment { HasValidTimestamp result }
         ensures running { (k : ℕ) (r : Role) → running self.new k r
             ≡ running_after_start (running self.old) job.now role result k r }
         ensures pending { (k : ℕ) → pending self.new k

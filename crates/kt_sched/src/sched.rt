@@ -74,7 +74,7 @@ impl Model for Sched {
 
 impl Sched {
     ghost use Rattle.std.specs.Prelude.{◌≡◌, ℕ, length, ◌^◌, Some, slice_get, IfOk, ◌<◌, ◌+◌, true, false};
-    ghost use Rattle.kt_sched.specs.Common.{Next, Start, End, Case, Role, IsPlan, IsWidth, responses_after_put, responses_after, no_responses, IsNext, Follows, IsEntryOf, IsChosen, IsStartableCase, stage_runs, HoldsForEachRun, SchedState, RepresentsRun, IsAnswer, IsSettled, HasRecord, IsNotTaken, RecordsEvent, work, ReducesWork};
+    ghost use Rattle.kt_sched.specs.Common.{Next, Start, End, Case, Role, IsPlan, IsWidth, responses_after_put, responses_after, no_responses, IsNext, HasStepFacts, IsEntryOf, IsChosen, IsStartableCase, stage_runs, HoldsForEachRun, SchedState, RepresentsRun, IsAnswer, IsSettled, HasRecord, IsNotTaken, RecordsEvent, changes_left, ReducesChangesLeft};
 
     /// Creates a scheduler of `plan` that has no response yet.
     ///
@@ -124,7 +124,7 @@ impl Sched {
     pub fn take(&mut self, position: u32) -> Entry
         requires asked { self.old.asked ≡ Next.Put position }
         requires has_record { HasRecord self.old.cases position }
-        ensures less { work self.new.cases < work self.old.cases }
+        ensures less { changes_left self.new.cases < changes_left self.old.cases }
         ensures asked { self.new.asked ≡ Next.Put position }
         ensures stands { HoldsForEachRun self.old (λ plan n fed. RepresentsRun plan n fed self.new) }
         ensures entry { HoldsForEachRun self.old (λ plan _ fed. IsEntryOf plan fed.trace position
@@ -140,7 +140,7 @@ impl Sched {
     /// and has the effect of `record_start`, `record_end` or `record_put`.
     pub fn feed(&mut self, answer: Answer)
         requires { IsAnswer self.old answer }
-        ensures works { ReducesWork self.old.asked (work self.old.cases) (work self.new.cases) }
+        ensures works { ReducesChangesLeft self.old.asked (changes_left self.old.cases) (changes_left self.new.cases) }
         ensures asked { self.new.asked ≡ Next.Done }
         ensures stands { HoldsForEachRun self.old
             (λ plan n fed. RepresentsRun plan n (responses_after fed self.old.asked answer)
@@ -201,9 +201,9 @@ impl Sched {
         ensures next { HoldsForEachRun self.old (λ plan n fed. IsNext plan n fed result) }
         ensures only { HoldsForEachRun self.old
             (λ plan n fed. (other : Next) → IsNext plan n fed other → other ≡ result) }
-        ensures follows { HoldsForEachRun self.old (λ plan n fed. Follows plan n fed result) }
+        ensures follows { HoldsForEachRun self.old (λ plan n fed. HasStepFacts plan n fed result) }
         ensures stands { HoldsForEachRun self.old (λ plan n fed. RepresentsRun plan n fed self.new) }
-        ensures same { work self.new.cases ≡ work self.old.cases }
+        ensures same { changes_left self.new.cases ≡ changes_left self.old.cases }
         ensures asked { self.new.asked ≡ result }
         ensures lends { (i : ℕ) (role : Role) → result ≡ Next.Start i role
             → IsNotTaken self.new.cases i }

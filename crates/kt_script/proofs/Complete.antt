@@ -1,6 +1,6 @@
 -- The parser accepts each script and returns its statements.
 use Rattle.std.proofs.Common.{arith, ◌≡◌, ℕ, true, false, List, [], ◌∷◌, ◌++◌, Option, Some, None, refl, ap, sym, ◌∙◌, append_assoc, option_map, option_and_then}
-use Rattle.kt_script.proofs.Common.{append-nil, Token, TokenKind, Name, Quoted, OpenParen, CloseParen, OpenBrace, CloseBrace, Equals, Semicolon, ScriptState, Start, AfterStatement, InStatement, Pair, Stmt, Literal, Action, Call, Assign, Table, AfterName, Pairs, AfterPair, AfterPath, Transition, Advance, Accept, literal_kind, pair, IsKey, by_name, by_text, IsSeparator, comma, semicolon, no_pairs, last_pair, pair_and, ArePathParts, no_parts, named_part, quoted_part, IsStatement, call, call_table, call_text, bare_table, assign, token_kinds, statement_of_tokens, Script, no_stmts, stmt_and, ended_and, literal_of, closed, with_pair, step, next, transition_of_step, option_to_list, run, IsBetweenStatements}
+use Rattle.kt_script.proofs.Common.{append-nil, Token, TokenKind, Name, Quoted, OpenParen, CloseParen, OpenBrace, CloseBrace, Equals, Semicolon, ScriptState, Start, AfterStatement, InStatement, Pair, Stmt, Literal, Action, Call, Assign, Table, AfterName, Pairs, AfterPair, AfterPath, Transition, Advance, Accept, literal_kind, pair, IsKey, by_name, by_text, IsSeparator, comma, semicolon, no_pairs, last_pair, pair_and, ArePathParts, no_parts, named_part, quoted_part, IsStatement, call, call_table, call_text, bare_table, assign, token_kinds, statement_of_tokens, Script, no_stmts, stmt_and, ended_and, literal_of, transition_after_table, with_pair, step, next, transition_of_step, option_to_list, transition_of_tokens, IsBetweenStatements}
 use Rattle.kt_script.specs.declared.syntax.Literal.TheVariants as literal
 use Rattle.kt_script.specs.declared.syntax.Arg.TheVariants as arg
 use Rattle.kt_script.specs.Grammar as grammar
@@ -32,24 +32,24 @@ separator_walks s comma t rest = refl
 separator_walks s semicolon t rest = refl
 
 pairs_walk : (words : List TokenKind) (pairs : List Pair) → grammar.Pairs words pairs → (t : Table) (rest : List TokenKind)
-    → walk (Advance (Pairs t)) (words ++ CloseBrace ∷ rest) ≡ walk (closed (with_pairs t pairs)) rest
-pairs_walk words pairs no_pairs t rest = ap (λ (ps : List Pair). walk (closed (record t { pairs = ps })) rest) (sym (append-nil t.pairs))
-pairs_walk words pairs (last_pair {words = w} {key = key} is v) t rest = pair_walks w key is t v (CloseBrace ∷ rest)
-pairs_walk words pairs (pair_and {words = w} {rest = others} {key = key} {s = s} {pairs = ps} is v sep more) t rest =
+    → walk (Advance (Pairs t)) (words ++ CloseBrace ∷ rest) ≡ walk (transition_after_table (with_pairs t pairs)) rest
+pairs_walk words pairs no_pairs t rest = ap (λ (ps : List Pair). walk (transition_after_table (record t { pairs = ps })) rest) (sym (append-nil t.pairs))
+pairs_walk words pairs (last_pair {kinds = w} {key = key} is v) t rest = pair_walks w key is t v (CloseBrace ∷ rest)
+pairs_walk words pairs (pair_and {kinds = w} {rest = others} {key = key} {s = s} {pairs = ps} is v sep more) t rest =
     let regrouped : (w ++ Equals ∷ literal_kind v ∷ s ∷ others) ++ CloseBrace ∷ rest ≡ (w ++ Equals ∷ literal_kind v ∷ []) ++ s ∷ (others ++ CloseBrace ∷ rest) = simp append_assoc in
     ap (walk (Advance (Pairs t))) regrouped
     ∙ pair_walks w key is t v (s ∷ (others ++ CloseBrace ∷ rest))
     ∙ separator_walks s sep (with_pair t key v) (others ++ CloseBrace ∷ rest)
     ∙ pairs_walk others ps more (with_pair t key v) rest
-    ∙ ap (λ (all : List Pair). walk (closed (record t { pairs = all })) rest) (append_assoc t.pairs (pair key v ∷ []) ps)
+    ∙ ap (λ (all : List Pair). walk (transition_after_table (record t { pairs = all })) rest) (append_assoc t.pairs (pair key v ∷ []) ps)
 
 -- ---- paths
 
 parts_walk : (words : List TokenKind) (parts : List (List ℕ)) → ArePathParts words parts → (path : List (List ℕ)) (v : Literal)
     → walk (Advance (AfterPath path)) (words ++ Equals ∷ literal_kind v ∷ []) ≡ Some (Accept (Assign (path ++ parts) v))
 parts_walk words parts no_parts path v = rw literal_of-literal_kind (ap (λ (all : List (List ℕ)). Some (Accept (Assign all v))) (sym (append-nil path)))
-parts_walk words parts (named_part {words = w} {parts = ps} n more) path v = parts_walk w ps more (path ++ n ∷ []) v ∙ ap (λ (all : List (List ℕ)). Some (Accept (Assign all v))) (append_assoc path (n ∷ []) ps)
-parts_walk words parts (quoted_part {words = w} {parts = ps} t more) path v = parts_walk w ps more (path ++ t ∷ []) v ∙ ap (λ (all : List (List ℕ)). Some (Accept (Assign all v))) (append_assoc path (t ∷ []) ps)
+parts_walk words parts (named_part {kinds = w} {parts = ps} n more) path v = parts_walk w ps more (path ++ n ∷ []) v ∙ ap (λ (all : List (List ℕ)). Some (Accept (Assign all v))) (append_assoc path (n ∷ []) ps)
+parts_walk words parts (quoted_part {kinds = w} {parts = ps} t more) path v = parts_walk w ps more (path ++ t ∷ []) v ∙ ap (λ (all : List (List ℕ)). Some (Accept (Assign all v))) (append_assoc path (t ∷ []) ps)
 
 -- the tokens after a path's first name have the same result from a name and from a path
 first_part_walks : (words : List TokenKind) (parts : List (List ℕ)) → ArePathParts words parts → (n : List ℕ) (v : Literal)
@@ -73,12 +73,12 @@ call_walks n v = refl
 
 pub statement_walks : (words : List TokenKind) (a : Action) → IsStatement words a → Walks words a
 statement_walks words a (call n v) = record { name = n; rest = OpenParen ∷ literal_kind v ∷ CloseParen ∷ []; parts = refl; ends = call_walks n v }
-statement_walks words a (call_table {words = w} {pairs = ps} n table) =
+statement_walks words a (call_table {kinds = w} {pairs = ps} n table) =
     record { name = n; rest = OpenParen ∷ OpenBrace ∷ w ++ CloseBrace ∷ CloseParen ∷ []; parts = refl; ends = pairs_walk w ps table (record { name = n; in_parens = true; pairs = [] }) (CloseParen ∷ []) }
 statement_walks words a (call_text n t) = record { name = n; rest = Quoted t ∷ []; parts = refl; ends = refl }
-statement_walks words a (bare_table {words = w} {pairs = ps} n table) =
+statement_walks words a (bare_table {kinds = w} {pairs = ps} n table) =
     record { name = n; rest = OpenBrace ∷ w ++ CloseBrace ∷ []; parts = refl; ends = pairs_walk w ps table (record { name = n; in_parens = false; pairs = [] }) [] }
-statement_walks words a (assign {words = w} {parts = ps} n more v) =
+statement_walks words a (assign {kinds = w} {parts = ps} n more v) =
     record { name = n; rest = w ++ Equals ∷ literal_kind v ∷ []; parts = refl; ends = first_part_walks w ps more n v ∙ parts_walk w ps more (n ∷ []) v }
 
 -- ---- tokens
@@ -108,26 +108,26 @@ joined_none (Some end) = refl
 abbrev pub reached : ℕ → Transition → ScriptState × List Stmt
 reached line s = ((transition_of_step line s).0, option_to_list (transition_of_step line s).1)
 
--- `run` over the tokens after a statement's name reaches the step that `walk` reaches
+-- `transition_of_tokens` over the tokens after a statement's name reaches the step that `walk` reaches
 steps_run : (ts : List Token) (line : ℕ) (s r : Transition) → walk s (token_kinds ts) ≡ Some r
-    → option_map (joined (option_to_list (transition_of_step line s).1)) (run (transition_of_step line s).0 ts) ≡ Some (reached line r)
+    → option_map (joined (option_to_list (transition_of_step line s).1)) (transition_of_tokens (transition_of_step line s).0 ts) ≡ Some (reached line r)
 steps_run [] line (Advance q) r e = ap (λ (s : Transition). Some (reached line s)) (same_Some (Advance q) r e)
 steps_run [] line (Accept a) r e = ap (λ (s : Transition). Some (reached line s)) (same_Some (Accept a) r e)
 steps_run (t ∷ ts) line (Advance q) r e =
     let b = bind_some (step q t.kind) (λ s. walk s (token_kinds ts)) r e in
-    joined_none (run (InStatement line q) (t ∷ ts)) ∙ rw b.1 (steps_run ts line b.0 r b.2)
+    joined_none (transition_of_tokens (InStatement line q) (t ∷ ts)) ∙ rw b.1 (steps_run ts line b.0 r b.2)
 steps_run (t ∷ ts) line (Accept a) r e = absurd cc
 
-pub run-append : (xs : List Token) (p q : ScriptState) (ys : List Token) (ss : List Stmt) → run p xs ≡ Some (q, ss) → run p (xs ++ ys) ≡ option_map (joined ss) (run q ys)
-run-append [] p q ys ss e =
+pub transition_of_tokens-append : (xs : List Token) (p q : ScriptState) (ys : List Token) (ss : List Stmt) → transition_of_tokens p xs ≡ Some (q, ss) → transition_of_tokens p (xs ++ ys) ≡ option_map (joined ss) (transition_of_tokens q ys)
+transition_of_tokens-append [] p q ys ss e =
     let same = same_Some (p, []) (q, ss) e in
-    sym (joined_none (run p ys)) ∙ ap (λ (x : ScriptState × List Stmt). option_map (joined x.1) (run x.0 ys)) same
-run-append (t ∷ xs) p q ys ss e =
-    let b = bind_some (next p t) (λ to. option_map (joined (option_to_list to.1)) (run to.0 xs)) (q, ss) e in
-    let m = map_some (run b.0.0 xs) (joined (option_to_list b.0.1)) (q, ss) b.2 in
-    let later = run-append xs b.0.0 m.0.0 ys m.0.1 m.1 in
-    rw b.1 (ap (option_map (joined (option_to_list b.0.1))) later ∙ joined_twice (option_to_list b.0.1) m.0.1 (run m.0.0 ys)
-    ∙ ap (λ (x : ScriptState × List Stmt). option_map (joined x.1) (run x.0 ys)) m.2)
+    sym (joined_none (transition_of_tokens p ys)) ∙ ap (λ (x : ScriptState × List Stmt). option_map (joined x.1) (transition_of_tokens x.0 ys)) same
+transition_of_tokens-append (t ∷ xs) p q ys ss e =
+    let b = bind_some (next p t) (λ to. option_map (joined (option_to_list to.1)) (transition_of_tokens to.0 xs)) (q, ss) e in
+    let m = map_some (transition_of_tokens b.0.0 xs) (joined (option_to_list b.0.1)) (q, ss) b.2 in
+    let later = transition_of_tokens-append xs b.0.0 m.0.0 ys m.0.1 m.1 in
+    rw b.1 (ap (option_map (joined (option_to_list b.0.1))) later ∙ joined_twice (option_to_list b.0.1) m.0.1 (transition_of_tokens m.0.0 ys)
+    ∙ ap (λ (x : ScriptState × List Stmt). option_map (joined x.1) (transition_of_tokens x.0 ys)) m.2)
 
 -- ---- scripts
 
@@ -136,13 +136,13 @@ name_from_resting Start t n r e = rw e refl
 name_from_resting AfterStatement t n r e = rw e refl
 name_from_resting (InStatement line q) t n r e = elim r [ ]
 
--- `run` over a statement's name and the tokens after it reaches the step that `walk` reaches
+-- `transition_of_tokens` over a statement's name and the tokens after it reaches the step that `walk` reaches
 pub named_runs : (t : Token) (ts : List Token) (p : ScriptState) (n : List ℕ) (s : Transition) → IsBetweenStatements p → t.kind ≡ Name n
     → walk (Advance (AfterName n)) (token_kinds ts) ≡ Some s
-    → run p (t ∷ ts) ≡ Some (reached t.line s)
+    → transition_of_tokens p (t ∷ ts) ≡ Some (reached t.line s)
 named_runs t ts p n s r first leads = rw (name_from_resting p t n r first) (steps_run ts t.line (Advance (AfterName n)) s leads)
 
-phrase_runs : (phrase : List Token) (p : ScriptState) (a : Action) → IsBetweenStatements p → IsStatement (token_kinds phrase) a → run p phrase ≡ Some (AfterStatement, statement_of_tokens phrase a ∷ [])
+phrase_runs : (phrase : List Token) (p : ScriptState) (a : Action) → IsBetweenStatements p → IsStatement (token_kinds phrase) a → transition_of_tokens p phrase ≡ Some (AfterStatement, statement_of_tokens phrase a ∷ [])
 phrase_runs [] p a r st = let w = statement_walks [] a st in let e = w.parts in absurd cc
 phrase_runs (t ∷ ts) p a r st =
     let w = statement_walks (token_kinds (t ∷ ts)) a st in
@@ -155,7 +155,7 @@ phrase_runs (t ∷ ts) p a r st =
 pub record Rests (p : ScriptState) (ts : List Token) (stmts : List Stmt) : Type 0 where
   pub place : ScriptState
   pub rests : IsBetweenStatements place
-  pub runs : run p ts ≡ Some (place, stmts)
+  pub runs : transition_of_tokens p ts ≡ Some (place, stmts)
 
 semicolon_after : (t : Token) → t.kind ≡ Semicolon → next AfterStatement t ≡ Some (Start, None)
 semicolon_after t e = rw e refl
@@ -164,11 +164,11 @@ pub script_runs : (ts : List Token) (stmts : List Stmt) → Script ts stmts → 
 script_runs ts stmts no_stmts p r = record { place = p; rests = r; runs = refl }
 script_runs ts stmts (stmt_and phrase {rest = rest} {a = a} {stmts = others} st more) p r =
     let later = script_runs rest others more AfterStatement tt in
-    record { place = later.place; rests = later.rests; runs = run-append phrase p AfterStatement rest (statement_of_tokens phrase a ∷ []) (phrase_runs phrase p a r st) ∙ rw later.runs refl }
+    record { place = later.place; rests = later.rests; runs = transition_of_tokens-append phrase p AfterStatement rest (statement_of_tokens phrase a ∷ []) (phrase_runs phrase p a r st) ∙ rw later.runs refl }
 script_runs ts stmts (ended_and phrase {rest = rest} {a = a} {stmts = others} t st is more) p r =
     let later = script_runs rest others more Start tt in
     record {
       place = later.place;
       rests = later.rests;
-      runs = run-append phrase p AfterStatement (t ∷ rest) (statement_of_tokens phrase a ∷ []) (phrase_runs phrase p a r st) ∙ rw (semicolon_after t is, later.runs) refl;
+      runs = transition_of_tokens-append phrase p AfterStatement (t ∷ rest) (statement_of_tokens phrase a ∷ []) (phrase_runs phrase p a r st) ∙ rw (semicolon_after t is, later.runs) refl;
     }

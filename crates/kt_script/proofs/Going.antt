@@ -1,6 +1,6 @@
 -- The tokens that were read, and the rest of the text.
 use Rattle.std.proofs.Common.{◌≡◌, ℕ, ◌+◌, ◌<◌, ◌≤◌, List, [], ◌∷◌, ◌++◌, length, take, drop, Option, Some, None, Result, Ok, Err, refl, ap, sym, ◌∙◌, subst, append_assoc, arith, length-take, length-drop, IfOk, IfErr}
-use Rattle.kt_script.proofs.Common.{append-nil, ScriptFault, NoMemory, Token, TokenKind, Lexeme, ScriptState, Start, AfterStatement, InStatement, Parser, State, Stmt, Script, run, IsBetweenStatements, IfFault, IsFaultOf, last, open_bracket_lines, end_fault, HasRead, IsUnexpectedToken, lexeme_at, tokens, tokens_in, line_at_end}
+use Rattle.kt_script.proofs.Common.{append-nil, ScriptFault, NoMemory, Token, TokenKind, Lexeme, ScriptState, Start, AfterStatement, InStatement, Parser, State, Stmt, Script, transition_of_tokens, IsBetweenStatements, IfFault, IsFaultOf, last, open_bracket_lines, end_fault, HasRead, IsUnexpectedToken, lexeme_at, tokens, tokens_in, line_at_end}
 use Rattle.kt_script.specs.Inner.Automaton.{IsInStatement}
 use Rattle.kt_script.proofs.Sound.{accepted, misfit, unfinished}
 use Rattle.kt_script.proofs.PieceTokens.{tokens-piece, tokens-end}
@@ -77,7 +77,7 @@ ends_fault (Ok stmts) place parser line rest text h none given = tt
 ends_fault (Err f) place parser line rest text h none given =
     let done = all_read place parser line rest text h none in
     let w = within_is place given.0 given.1 in
-    let runs : run Start (tokens 1 0 text) ≡ Some (InStatement given.0 w.0, parser.statements) = done.runs ∙ ap (λ (p : ScriptState). Some (p, parser.statements)) w.1 in
+    let runs : transition_of_tokens Start (tokens 1 0 text) ≡ Some (InStatement given.0 w.0, parser.statements) = done.runs ∙ ap (λ (p : ScriptState). Some (p, parser.statements)) w.1 in
     let fault = unfinished (tokens 1 0 text) given.0 w.0 parser.statements runs in
     let same : end_fault (last (open_bracket_lines [] (tokens 1 0 text))) given.0 ≡ f = sym (given.2 ∙ ap (λ (lines : List ℕ). end_fault (last lines) given.0) done.brackets) in
     some_fault (List Stmt) f (λ f. IsFaultOf (tokens 1 0 text) f) (subst (λ (x : ScriptFault). IsFaultOf (tokens 1 0 text) x) same fault)

@@ -1,7 +1,7 @@
 -- Each text has exactly one result: its statements or its fault.
 use Rattle.std.proofs.Common.{◌≡◌, ℕ, ◌≤◌, List, [], ◌∷◌, ◌++◌, length, Option, Some, None, Result, Ok, Err, refl, ap, sym, ◌∙◌, subst, append_assoc, arith, inl, inr, IfOk, IsUtf8}
-use Rattle.kt_script.proofs.Common.{is_utf8, tokens, cases_lt, cases_Bool, false≢true, append-nil, IsUtf8-from_is_utf8, is_utf8-from_IsUtf8, ScriptFault, NoMemory, NotUtf8, TooLong, Token, ScriptState, Start, AfterStatement, InStatement, Stmt, Script, IfFault, IsFaultOf, fault_of, next, option_to_list, run, script_length_limit, Spells, HasFault, ReturnsFault, IsResultOf}
-use Rattle.kt_script.proofs.Sound.{accepted, misfit, unfinished, one_script, run-push}
+use Rattle.kt_script.proofs.Common.{is_utf8, tokens, cases_lt, cases_Bool, false≢true, append-nil, IsUtf8-from_is_utf8, is_utf8-from_IsUtf8, ScriptFault, NoMemory, NotUtf8, TooLong, Token, ScriptState, Start, AfterStatement, InStatement, Stmt, Script, IfFault, IsFaultOf, fault_of, next, option_to_list, transition_of_tokens, script_length_limit, Spells, HasFault, ReturnsFault, IsResultOf}
+use Rattle.kt_script.proofs.Sound.{accepted, misfit, unfinished, one_script, transition_of_tokens-push}
 use Rattle.kt_script.proofs.OneFault.{one_fault}
 use Rattle.kt_script.proofs.OneReading.{same_tokens}
 use Rattle.kt_script.proofs.SomeReading.{some_reading}
@@ -49,23 +49,23 @@ pub TokensGive : List Token → Result (List Stmt) ScriptFault → Type 0
 TokensGive ts (Ok stmts) = Script ts stmts
 TokensGive ts (Err fault) = IsFaultOf ts fault
 
-at_end : (ts : List Token) (p : ScriptState) (ss : List Stmt) → run Start ts ≡ Some (p, ss) → (a : Result (List Stmt) ScriptFault) × TokensGive ts a
+at_end : (ts : List Token) (p : ScriptState) (ss : List Stmt) → transition_of_tokens Start ts ≡ Some (p, ss) → (a : Result (List Stmt) ScriptFault) × TokensGive ts a
 unfolding TokensGive
 at_end ts Start ss e = (Ok ss, accepted ts Start ss e tt)
 at_end ts AfterStatement ss e = (Ok ss, accepted ts AfterStatement ss e tt)
 at_end ts (InStatement line q) ss e = (Err _, unfinished ts line q ss e)
 
-goes_through : (ts front : List Token) (p : ScriptState) (ss : List Stmt) → run Start front ≡ Some (p, ss) → (a : Result (List Stmt) ScriptFault) × TokensGive (front ++ ts) a
+goes_through : (ts front : List Token) (p : ScriptState) (ss : List Stmt) → transition_of_tokens Start front ≡ Some (p, ss) → (a : Result (List Stmt) ScriptFault) × TokensGive (front ++ ts) a
 unfolding TokensGive
-goes_through [] front p ss e = at_end (front ++ []) p ss (ap (run Start) (append-nil front) ∙ e)
+goes_through [] front p ss e = at_end (front ++ []) p ss (ap (transition_of_tokens Start) (append-nil front) ∙ e)
 goes_through (t ∷ ts) front p ss e = at_token t ts front p ss e (λ q rs h. goes_through ts (front ++ t ∷ []) q rs h) (next p t) refl
   where
-    at_token : (t : Token) (ts front : List Token) (p : ScriptState) (ss : List Stmt) → run Start front ≡ Some (p, ss)
-        → ((q : ScriptState) (rs : List Stmt) → run Start (front ++ t ∷ []) ≡ Some (q, rs) → (a : Result (List Stmt) ScriptFault) × TokensGive ((front ++ t ∷ []) ++ ts) a)
+    at_token : (t : Token) (ts front : List Token) (p : ScriptState) (ss : List Stmt) → transition_of_tokens Start front ≡ Some (p, ss)
+        → ((q : ScriptState) (rs : List Stmt) → transition_of_tokens Start (front ++ t ∷ []) ≡ Some (q, rs) → (a : Result (List Stmt) ScriptFault) × TokensGive ((front ++ t ∷ []) ++ ts) a)
         → (o : Option (ScriptState × Option Stmt)) → next p t ≡ o → (a : Result (List Stmt) ScriptFault) × TokensGive (front ++ t ∷ ts) a
     at_token t ts front p ss e later None stuck = (Err (fault_of t), misfit front t ts p ss e stuck)
     at_token t ts front p ss e later (Some to) step =
-        let h = later to.0 (ss ++ option_to_list to.1) (run-push front t p ss to e step) in
+        let h = later to.0 (ss ++ option_to_list to.1) (transition_of_tokens-push front t p ss to e step) in
         (h.0, subst (λ (xs : List Token). TokensGive xs h.0) (append_assoc front (t ∷ []) ts) h.1)
 
 answer_of_tokens : (text : List ℕ) → length text ≤ script_length_limit → IsUtf8 text → (a : Result (List Stmt) ScriptFault) → TokensGive (tokens 1 0 text) a → IsResultOf text a

@@ -1,7 +1,7 @@
 -- Tokens that are not a script have exactly one fault.
 use Rattle.std.proofs.Common.{◌≡◌, ℕ, List, [], ◌∷◌, ◌++◌, Option, Some, refl, ap, sym, ◌∙◌, subst, append_assoc, ◌⊎◌, inl, inr, option_map}
-use Rattle.kt_script.proofs.Common.{append-nil, ScriptFault, Token, TokenKind, ScriptState, Start, InStatement, Stmt, Action, State, AfterName, Transition, Advance, Accept, IsStatement, token_kinds, first_token_line, statement_of_tokens, Script, IsScriptPrefix, fault_of, last, open_bracket_lines, end_fault, HasUnexpectedToken, HasUnfinishedStatement, IsFaultOf, step, run, IsBetweenStatements}
-use Rattle.kt_script.proofs.Complete.{walk, bind_some, joined, run-append, named_runs, statement_walks, script_runs}
+use Rattle.kt_script.proofs.Common.{append-nil, ScriptFault, Token, TokenKind, ScriptState, Start, InStatement, Stmt, Action, State, AfterName, Transition, Advance, Accept, IsStatement, token_kinds, first_token_line, statement_of_tokens, Script, IsScriptPrefix, fault_of, last, open_bracket_lines, end_fault, HasUnexpectedToken, HasUnfinishedStatement, IsFaultOf, step, transition_of_tokens, IsBetweenStatements}
+use Rattle.kt_script.proofs.Complete.{walk, bind_some, joined, transition_of_tokens-append, named_runs, statement_walks, script_runs}
 use Rattle.kt_script.proofs.Standing.{Script-append, one_stmt, begins_from, token_kinds-append}
 
 -- ---- a token that the grammar does not allow
@@ -61,11 +61,11 @@ walk_front (x ∷ xs) k ys (Accept a) r e = absurd cc
 pub record Leads (ts : List Token) (line : ℕ) : Type 0 where
   pub state : State
   pub done : List Stmt
-  pub runs : run Start ts ≡ Some (InStatement line state, done)
+  pub runs : transition_of_tokens Start ts ≡ Some (InStatement line state, done)
 
 -- the first tokens of a statement lead to a position within it
 phrase_leads : (t : Token) (b : List Token) (m : Token) (ms : List Token) (p : ScriptState) (a : Action) → IsBetweenStatements p → IsStatement (token_kinds ((t ∷ b) ++ m ∷ ms)) a
-    → (r : State) × (run p (t ∷ b) ≡ Some (InStatement t.line r, []))
+    → (r : State) × (transition_of_tokens p (t ∷ b) ≡ Some (InStatement t.line r, []))
 phrase_leads t b m ms p a rests st =
     let w = statement_walks (token_kinds ((t ∷ b) ++ m ∷ ms)) a st in
     let parts = w.parts in
@@ -85,9 +85,9 @@ leads ts g u never (t ∷ b) (m ∷ ms) begun is =
     let s = script_runs u.whole u.stmts u.script Start tt in
     let st : IsStatement (token_kinds ((t ∷ b) ++ m ∷ ms)) u.action = rw (begun, is) at u.statement in
     let r = phrase_leads t b m ms s.place u.action s.rests st in
-    let all : run Start (u.whole ++ t ∷ b) ≡ Some (InStatement t.line r.0, u.stmts ++ []) = run-append u.whole Start s.place (t ∷ b) u.stmts s.runs ∙ ap (option_map (joined u.stmts)) r.1 in
+    let all : transition_of_tokens Start (u.whole ++ t ∷ b) ≡ Some (InStatement t.line r.0, u.stmts ++ []) = transition_of_tokens-append u.whole Start s.place (t ∷ b) u.stmts s.runs ∙ ap (option_map (joined u.stmts)) r.1 in
     let whole : ts ≡ u.whole ++ t ∷ b = u.parts ∙ ap (λ (xs : List Token). u.whole ++ xs) begun in
-    record { state = r.0; done = u.stmts ++ []; runs = ap (run Start) whole ∙ all }
+    record { state = r.0; done = u.stmts ++ []; runs = ap (transition_of_tokens Start) whole ∙ all }
 
 line_of : Option (ScriptState × List Stmt) → ℕ
 line_of (Some (InStatement line q, done)) = line

@@ -1,6 +1,6 @@
 -- The tokens of a text by the rules are the tokens that the lexer returns.
 use Rattle.std.proofs.Common.{◌≡◌, ℕ, suc, ◌+◌, ◌-◌, ◌<◌, Bool, true, false, cond, List, [], ◌∷◌, ◌++◌, length, drop, Option, Some, None, refl, ap, sym, subst, ◌∙◌, arith, length-append, IfSome}
-use Rattle.kt_script.proofs.Common.{prefix_len, take-append_seam, drop-append_seam, append-nil, Flaw, TokenKind, Token, is_space, token, broken, begins_with_name_start, decimal_from, punctuation_kind_of, line_after, line_at_end, IsBlank, space, line_comment, long_comment, HasFlaw, large_number, lettered_number, endless_string, bad_escape, endless_comment, leveled_comment, lone_dash, invalid_first_byte, IsToken, name_token, number_token, string_token, punctuation_token, broken_token, AreTokens, no_text, blank_first, token_first, lexeme_at, tokens, tokens_in}
+use Rattle.kt_script.proofs.Common.{prefix_len, take-append_seam, drop-append_seam, append-nil, Flaw, TokenKind, Token, is_space, token, invalid_lexeme, begins_with_name_start, decimal_from, punctuation_kind_of, line_after, line_at_end, IsBlank, space, line_comment, long_comment, HasFlaw, large_number, lettered_number, endless_string, bad_escape, endless_comment, leveled_comment, lone_dash, invalid_first_byte, IsToken, name_token, number_token, string_token, punctuation_token, invalid_token, AreTokens, no_text, blank_first, token_first, lexeme_at, tokens, tokens_in}
 use Rattle.kt_script.proofs.PieceTokens.{tokens-end, tokens-piece}
 use Rattle.kt_script.proofs.ReadWords.{at_strange, every_mark, name_is, digits_are, number_is, large_is, lettered_is}
 use Rattle.kt_script.proofs.ReadStrings.{string_is, endless_is, bad_escape_is, long_is, endless_comment_is, leveled_is, line_is, dash_is}
@@ -11,7 +11,7 @@ pub record IsRead (bytes after : List ℕ) (kind : Option TokenKind) : Type 0 wh
   pub piece : lexeme_at (bytes ++ after) ≡ record { length = length bytes; kind = kind }
   pub some : 0 < length bytes
 
-flaw_read : (text : List ℕ) (flaw : Flaw) → HasFlaw text flaw → (lexeme_at text ≡ broken text flaw) × (0 < length text)
+flaw_read : (text : List ℕ) (flaw : Flaw) → HasFlaw text flaw → (lexeme_at text ≡ invalid_lexeme text flaw) × (0 < length text)
 flaw_read text flaw (large_number c cs after each stop large) =
     (digits_are c cs after each stop ∙ large_is ((c ∷ cs) ++ after) (length (c ∷ cs)) (begins_with_name_start after) (decimal_from 0 (c ∷ cs)) large, omega arith)
 flaw_read text flaw (lettered_number c d cs after each letter) = (lettered_is c d cs after each letter, omega arith)
@@ -32,7 +32,7 @@ word_read bytes after kind (number_token {c = c} {cs = cs} {after = rest} each s
 word_read bytes after kind (string_token {quote = q} {words = w} {bytes = b} {after = rest} quote inside) = record { piece = string_is q w b rest quote inside; some = omega arith }
 word_read bytes after kind (punctuation_token {c = c} {kind = k} {after = rest} is) =
     record { piece = subst (λ (o : Option TokenKind). IfSome o (λ x. lexeme_at (c ∷ rest) ≡ token 1 x)) is (mark_read c rest); some = omega arith }
-word_read bytes after kind (broken_token {text = t} {flaw = f} flaw) =
+word_read bytes after kind (invalid_token {text = t} {flaw = f} flaw) =
     let r = flaw_read t f flaw in
     record { piece = ap lexeme_at (append-nil t) ∙ r.0; some = r.1 }
 

@@ -1,7 +1,7 @@
 -- A lexeme is not empty and ends at a character boundary: ASCII precedes or follows its end, or the
 -- text ends there.
 use Rattle.std.proofs.Common.{◌≡◌, ℕ, ◌+◌, ◌<◌, Bool, true, false, eqb, ◌||◌, List, [], ◌∷◌, ◌++◌, length, get_or, Option, Some, None, refl, ap, sym, subst, ◌∙◌, arith, append_assoc, length-append, inl, inr, IsUtf8}
-use Rattle.kt_script.proofs.Common.{nat_tests, append-nil, IsCharBoundary, prefix_len, eqb-true, not-false, IsCharBoundary-end, IsCharBoundary-after_ascii, IsCharBoundary-from_rest, TokenKind, Lexeme, is_space, is_name_byte, is_digit, punctuation_kind_of, lexeme_at, AllSatisfy, StopsAt, is_not_newline, Closes, not_yet, IsBlank, space, line_comment, long_comment, IsToken, name_token, number_token, string_token, punctuation_token, broken_token}
+use Rattle.kt_script.proofs.Common.{nat_tests, append-nil, IsCharBoundary, prefix_len, eqb-true, not-false, IsCharBoundary-end, IsCharBoundary-after_ascii, IsCharBoundary-from_rest, TokenKind, Lexeme, is_space, is_name_byte, is_digit, punctuation_kind_of, lexeme_at, AllSatisfy, StopsAt, is_not_newline, Closes, not_yet, IsBlank, space, line_comment, long_comment, IsToken, name_token, number_token, string_token, punctuation_token, invalid_token}
 use Rattle.std.proofs.lemmas.List.{get_or_at}
 use Rattle.kt_script.specs.TokenRules.{closed}
 use Rattle.kt_script.proofs.Cuts.{passing_cut, stopping_cut, space_small, digit_small, word_small}
@@ -42,7 +42,7 @@ word_cut bytes after kind (number_token {c = c} {cs = cs} {after = rest} each st
 word_cut bytes after kind (string_token {quote = q} {words = w} {after = rest} quote inside) u =
     last_cut (q ∷ w) q rest (omega (arith, (quote_range q quote).1)) u
 word_cut bytes after kind (punctuation_token {c = c} {kind = k} {after = rest} is) u = last_cut [] c rest (mark_small c k is) u
-word_cut bytes after kind (broken_token {text = t} flaw) u =
+word_cut bytes after kind (invalid_token {text = t} flaw) u =
     subst (λ (xs : List ℕ). IsCharBoundary xs (length t)) (sym (append-nil t)) (IsCharBoundary-end t)
 
 -- ---- blanks

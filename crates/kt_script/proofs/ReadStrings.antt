@@ -1,6 +1,6 @@
 -- `lexeme_at` returns the string or comment at the beginning of a text.
 use Rattle.std.proofs.Common.{◌≡◌, ℕ, suc, ◌+◌, Bool, true, false, cond, eqb, List, [], ◌∷◌, ◌++◌, length, Some, None, Result, Ok, Err, refl, ap, sym, ◌∙◌, arith, append_assoc, length-append, nat_eq, codes, option_map}
-use Rattle.kt_script.proofs.Common.{nat_tests, chars, prefix_len, starts_with, append-nil, Flaw, Bad, LeveledComment, Unterminated, Quoted, blank, token, broken, with_prefix, string_at, decoded_string, quoted_token, long_comment_end, comment_at, lexeme_at, AllSatisfy, StopsAt, is_quote, is_not_newline, IsStringContent, nothing, itself, escape, HasNoEscape, Closes, not_yet, HasNoCommentEnd, opens_long_comment, opens_leveled_comment}
+use Rattle.kt_script.proofs.Common.{nat_tests, chars, prefix_len, starts_with, append-nil, Flaw, Bad, LeveledComment, Unterminated, Quoted, blank, token, invalid_lexeme, with_prefix, string_at, decoded_string, quoted_token, long_comment_end, comment_at, lexeme_at, AllSatisfy, StopsAt, is_quote, is_not_newline, IsStringContent, nothing, itself, escape, HasNoEscape, Closes, not_yet, HasNoCommentEnd, opens_long_comment, opens_leveled_comment}
 use Rattle.kt_script.specs.Inner.Comments.{long_comment}
 use Rattle.kt_script.specs.TokenRules.{closed}
 use Rattle.kt_script.proofs.StringRuns.{with_front_twice, with_front_none, plain_is}
@@ -38,13 +38,13 @@ string_is quote words bytes after q inside =
     ap lexeme_at regrouped ∙ string_piece quote words bytes (quote ∷ after) (Ok ([], 1)) q inside end
     ∙ ap (λ (xs : List ℕ). token (length words + 1 + 1) (Quoted (chars xs))) (append-nil bytes) ∙ ap (λ (n : ℕ). token n (Quoted (chars bytes))) len
 
-pub endless_is : (quote : ℕ) (words bytes after : List ℕ) → is_quote quote ≡ true → IsStringContent quote words bytes → StopsAt is_not_newline after → lexeme_at (quote ∷ words ++ after) ≡ broken (quote ∷ words ++ after) Unterminated
+pub endless_is : (quote : ℕ) (words bytes after : List ℕ) → is_quote quote ≡ true → IsStringContent quote words bytes → StopsAt is_not_newline after → lexeme_at (quote ∷ words ++ after) ≡ invalid_lexeme (quote ∷ words ++ after) Unterminated
 endless_is quote words bytes [] q inside stop = string_piece quote words bytes [] (Err Unterminated) q inside refl
 endless_is quote words bytes (c ∷ after) q inside stop =
     let end : string_at quote false (c ∷ after) ≡ Err Unterminated = grind (arith, nat_tests, no_newline quote q, stop) in
     string_piece quote words bytes (c ∷ after) (Err Unterminated) q inside end
 
-pub bad_escape_is : (quote : ℕ) (words bytes after : List ℕ) → is_quote quote ≡ true → IsStringContent quote words bytes → HasNoEscape after → lexeme_at (quote ∷ words ++ 92 ∷ after) ≡ broken (quote ∷ words ++ 92 ∷ after) Bad
+pub bad_escape_is : (quote : ℕ) (words bytes after : List ℕ) → is_quote quote ≡ true → IsStringContent quote words bytes → HasNoEscape after → lexeme_at (quote ∷ words ++ 92 ∷ after) ≡ invalid_lexeme (quote ∷ words ++ 92 ∷ after) Bad
 bad_escape_is quote words bytes after q inside none = string_piece quote words bytes (92 ∷ after) (Err Bad) q inside (slash_end quote after (no_slash quote q) none)
   where
     slash_end : (quote : ℕ) (after : List ℕ) → eqb 92 quote ≡ false → HasNoEscape after → string_at quote false (92 ∷ after) ≡ Err Bad
@@ -66,10 +66,10 @@ long_is words after h =
     let len : length words + 4 ≡ length (45 ∷ 45 ∷ 91 ∷ 91 ∷ words) = omega arith in
     at_dash (45 ∷ 91 ∷ 91 ∷ (words ++ after)) ∙ ap (long_comment (45 ∷ 45 ∷ 91 ∷ 91 ∷ (words ++ after))) (closes_is words after h) ∙ ap blank len
 
-pub endless_comment_is : (text : List ℕ) → HasNoCommentEnd text → lexeme_at (45 ∷ 45 ∷ 91 ∷ 91 ∷ text) ≡ broken (45 ∷ 45 ∷ 91 ∷ 91 ∷ text) Unterminated
+pub endless_comment_is : (text : List ℕ) → HasNoCommentEnd text → lexeme_at (45 ∷ 45 ∷ 91 ∷ 91 ∷ text) ≡ invalid_lexeme (45 ∷ 45 ∷ 91 ∷ 91 ∷ text) Unterminated
 endless_comment_is text h = at_dash (45 ∷ 91 ∷ 91 ∷ text) ∙ ap (long_comment (45 ∷ 45 ∷ 91 ∷ 91 ∷ text)) (never_is text h)
 
-pub leveled_is : (text : List ℕ) → opens_long_comment text ≡ false → opens_leveled_comment text ≡ true → lexeme_at (45 ∷ 45 ∷ text) ≡ broken (45 ∷ 45 ∷ text) LeveledComment
+pub leveled_is : (text : List ℕ) → opens_long_comment text ≡ false → opens_leveled_comment text ≡ true → lexeme_at (45 ∷ 45 ∷ text) ≡ invalid_lexeme (45 ∷ 45 ∷ text) LeveledComment
 leveled_is text a b = at_dash (45 ∷ text) ∙ rw (a, b) refl
 
 pub line_is : (words after : List ℕ) → opens_long_comment (words ++ after) ≡ false → opens_leveled_comment (words ++ after) ≡ false → AllSatisfy is_not_newline words → StopsAt is_not_newline after
@@ -79,6 +79,6 @@ line_is words after a b each stop =
     let here : comment_at (45 ∷ 45 ∷ (words ++ after)) ≡ blank (2 + prefix_len is_not_newline (words ++ after)) = rw (a, b) refl in
     at_dash (45 ∷ (words ++ after)) ∙ here ∙ ap (λ (n : ℕ). blank (2 + n)) (each_run is_not_newline words after each stop) ∙ ap blank len
 
-pub dash_is : (text : List ℕ) → starts_with nat_eq text (codes "-") ≡ false → lexeme_at (45 ∷ text) ≡ broken (45 ∷ text) Bad
+pub dash_is : (text : List ℕ) → starts_with nat_eq text (codes "-") ≡ false → lexeme_at (45 ∷ text) ≡ invalid_lexeme (45 ∷ text) Bad
 dash_is [] e = at_dash []
 dash_is (c ∷ cs) e = at_dash (c ∷ cs) ∙ grind (arith, nat_tests, e)

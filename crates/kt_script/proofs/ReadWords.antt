@@ -1,6 +1,6 @@
 -- `lexeme_at` returns the name or number at the beginning of a text.
 use Rattle.std.proofs.Common.{◌≡◌, ℕ, ◌+◌, ◌<◌, ◌≤◌, ◌^◌, Bool, true, false, cond, eqb, ◌||◌, List, [], ◌∷◌, ◌++◌, length, take, Option, Some, None, refl, ap, sym, subst, ◌∙◌, arith, IfSome}
-use Rattle.kt_script.proofs.Common.{nat_tests, or_parts, prefix_len, take-append_seam, drop-append_seam, eqb-true, Bad, TokenKind, Number, OpenParen, CloseParen, OpenBrace, CloseBrace, OpenBracket, CloseBracket, Equals, Comma, Semicolon, Dot, punctuation_kind_of, is_space, is_name_start, is_name_byte, is_digit, decimal_from, fits, token, broken, word, AllSatisfy, StopsAt, is_quote, IsInvalidFirstByte, name_at, number, number_at, begins_with_name_start, quoted_at, comment_at, lexeme_at}
+use Rattle.kt_script.proofs.Common.{nat_tests, or_parts, prefix_len, take-append_seam, drop-append_seam, eqb-true, Bad, TokenKind, Number, OpenParen, CloseParen, OpenBrace, CloseBrace, OpenBracket, CloseBracket, Equals, Comma, Semicolon, Dot, punctuation_kind_of, is_space, is_name_start, is_name_byte, is_digit, decimal_from, number_in_64_bits, token, invalid_lexeme, kind_of_word, AllSatisfy, StopsAt, is_quote, IsInvalidFirstByte, name_at, number_lexeme, number_at, begins_with_name_start, quoted_at, comment_at, lexeme_at}
 
 -- ---- classes
 
@@ -56,7 +56,7 @@ pub at_dash : (cs : List ℕ) → lexeme_at (45 ∷ cs) ≡ comment_at (45 ∷ c
 unfolding lexeme_at
 at_dash cs = refl
 
-pub at_strange : (c : ℕ) (cs : List ℕ) → IsInvalidFirstByte c → lexeme_at (c ∷ cs) ≡ broken (c ∷ cs) Bad
+pub at_strange : (c : ℕ) (cs : List ℕ) → IsInvalidFirstByte c → lexeme_at (c ∷ cs) ≡ invalid_lexeme (c ∷ cs) Bad
 unfolding lexeme_at
 at_strange c cs s =
     let a = s.no_space in let b = s.no_letter in let d = s.no_digit in let q = s.no_quote in let m = s.no_dash in let n = s.no_mark in
@@ -64,14 +64,14 @@ at_strange c cs s =
 
 -- ---- names and numbers
 
-pub name_is : (c : ℕ) (cs after : List ℕ) → is_name_start c ≡ true → AllSatisfy is_name_byte cs → StopsAt is_name_byte after → lexeme_at ((c ∷ cs) ++ after) ≡ token (length (c ∷ cs)) (word (c ∷ cs))
+pub name_is : (c : ℕ) (cs after : List ℕ) → is_name_start c ≡ true → AllSatisfy is_name_byte cs → StopsAt is_name_byte after → lexeme_at ((c ∷ cs) ++ after) ≡ token (length (c ∷ cs)) (kind_of_word (c ∷ cs))
 name_is c cs after e each stop =
     let first : is_name_byte c ≡ true = ap (λ (b : Bool). b || is_digit c) e in
-    at_letter c (cs ++ after) e ∙ ap (λ (n : ℕ). token n (word (take n ((c ∷ cs) ++ after)))) (each_run is_name_byte (c ∷ cs) after (first, each) stop)
-    ∙ ap (λ (letters : List ℕ). token (length (c ∷ cs)) (word letters)) (take-append_seam (c ∷ cs) after)
+    at_letter c (cs ++ after) e ∙ ap (λ (n : ℕ). token n (kind_of_word (take n ((c ∷ cs) ++ after)))) (each_run is_name_byte (c ∷ cs) after (first, each) stop)
+    ∙ ap (λ (letters : List ℕ). token (length (c ∷ cs)) (kind_of_word letters)) (take-append_seam (c ∷ cs) after)
 
 pub digits_are : (c : ℕ) (cs after : List ℕ) → AllSatisfy is_digit (c ∷ cs) → StopsAt is_digit after
-    → lexeme_at ((c ∷ cs) ++ after) ≡ number ((c ∷ cs) ++ after) (length (c ∷ cs)) (begins_with_name_start after) (fits (decimal_from 0 (c ∷ cs)))
+    → lexeme_at ((c ∷ cs) ++ after) ≡ number_lexeme ((c ∷ cs) ++ after) (length (c ∷ cs)) (begins_with_name_start after) (number_in_64_bits (decimal_from 0 (c ∷ cs)))
 digits_are c cs after each stop =
     at_digit c (cs ++ after) each.0
     ∙ rw (each_run is_digit (c ∷ cs) after each stop, drop-append_seam (c ∷ cs) after, take-append_seam (c ∷ cs) after) refl
@@ -88,12 +88,12 @@ number_is c cs after each stop small =
     let no_letter = s.1 in
     digits_are c cs after each s.0 ∙ rw no_letter (grind (arith, nat_tests, small))
 
-pub large_is : (text : List ℕ) (n : ℕ) (b : Bool) (v : ℕ) → 2 ^ 64 ≤ v → number text n b (fits v) ≡ broken text Bad
+pub large_is : (text : List ℕ) (n : ℕ) (b : Bool) (v : ℕ) → 2 ^ 64 ≤ v → number_lexeme text n b (number_in_64_bits v) ≡ invalid_lexeme text Bad
 large_is text n b v large = grind (arith, nat_tests)
 
 letter_no_digit : (d : ℕ) → is_name_start d ≡ true → is_digit d ≡ false
 letter_no_digit d e = grind (arith, nat_tests, e)
 
-pub lettered_is : (c d : ℕ) (cs after : List ℕ) → AllSatisfy is_digit (c ∷ cs) → is_name_start d ≡ true → lexeme_at ((c ∷ cs) ++ d ∷ after) ≡ broken ((c ∷ cs) ++ d ∷ after) Bad
+pub lettered_is : (c d : ℕ) (cs after : List ℕ) → AllSatisfy is_digit (c ∷ cs) → is_name_start d ≡ true → lexeme_at ((c ∷ cs) ++ d ∷ after) ≡ invalid_lexeme ((c ∷ cs) ++ d ∷ after) Bad
 lettered_is c d cs after each letter =
-    digits_are c cs (d ∷ after) each (letter_no_digit d letter) ∙ ap (λ (b : Bool). number ((c ∷ cs) ++ d ∷ after) (length (c ∷ cs)) b (fits (decimal_from 0 (c ∷ cs)))) letter
+    digits_are c cs (d ∷ after) each (letter_no_digit d letter) ∙ ap (λ (b : Bool). number_lexeme ((c ∷ cs) ++ d ∷ after) (length (c ∷ cs)) b (number_in_64_bits (decimal_from 0 (c ∷ cs)))) letter

@@ -1,6 +1,6 @@
 -- The meaning of a parser's position: a script is complete, or a statement has begun.
 use Rattle.std.proofs.Common.{◌≡◌, ℕ, List, [], ◌∷◌, ◌++◌, Option, Some, None, refl, ap, sym, ◌∙◌, subst, append_assoc, ◌⊎◌, inl, inr, option_map}
-use Rattle.kt_script.proofs.Common.{append-nil, Token, TokenKind, Name, Semicolon, ScriptState, Start, AfterStatement, InStatement, Stmt, Action, State, AfterName, Transition, Advance, Accept, IsStatement, token_kinds, statement_of_tokens, Script, no_stmts, stmt_and, ended_and, IsScriptPrefix, step, begin_statement, transition_after_statement, next, transition_of_step, option_to_list, run}
+use Rattle.kt_script.proofs.Common.{append-nil, Token, TokenKind, Name, Semicolon, ScriptState, Start, AfterStatement, InStatement, Stmt, Action, State, AfterName, Transition, Advance, Accept, IsStatement, token_kinds, statement_of_tokens, Script, no_stmts, stmt_and, ended_and, IsScriptPrefix, step, begin_statement, transition_after_statement, next, transition_of_step, option_to_list, transition_of_tokens}
 use Rattle.kt_script.proofs.Complete.{walk, bind_some, map_some, joined}
 use Rattle.kt_script.proofs.Ending.{walk-append, statement_is, some_end}
 use Rattle.std.proofs.lemmas.List.{map-append}
@@ -123,20 +123,20 @@ stands_next (InStatement line q) done ts t to h e =
     let m = map_some (step q t.kind) (transition_of_step line) to e in
     at_place to done (ts ++ t ∷ []) (transition_of_step line m.0) (sym m.2) (lands m.0 line q done ts t h m.1)
 
-stands_run : (ts : List Token) (p q : ScriptState) (done ss : List Stmt) (front : List Token) → Stands p done front → run p ts ≡ Some (q, ss) → Stands q (done ++ ss) (front ++ ts)
+stands_run : (ts : List Token) (p q : ScriptState) (done ss : List Stmt) (front : List Token) → Stands p done front → transition_of_tokens p ts ≡ Some (q, ss) → Stands q (done ++ ss) (front ++ ts)
 stands_run [] p q done ss front h e =
     let same = same_Some (p, []) (q, ss) e in
     let here : Stands p (done ++ []) (front ++ []) = rw (append-nil, append-nil) h in
     subst (λ (x : ScriptState × List Stmt). Stands x.0 (done ++ x.1) (front ++ [])) same here
 stands_run (t ∷ ts) p q done ss front h e =
-    let b = bind_some (next p t) (λ to. option_map (joined (option_to_list to.1)) (run to.0 ts)) (q, ss) e in
-    let m = map_some (run b.0.0 ts) (joined (option_to_list b.0.1)) (q, ss) b.2 in
+    let b = bind_some (next p t) (λ to. option_map (joined (option_to_list to.1)) (transition_of_tokens to.0 ts)) (q, ss) e in
+    let m = map_some (transition_of_tokens b.0.0 ts) (joined (option_to_list b.0.1)) (q, ss) b.2 in
     let here = stands_next p done front t b.0 h b.1 in
     let later : Stands m.0.0 ((done ++ option_to_list b.0.1) ++ m.0.1) ((front ++ t ∷ []) ++ ts) = stands_run ts b.0.0 m.0.0 (done ++ option_to_list b.0.1) m.0.1 (front ++ t ∷ []) here m.1 in
     let regrouped : Stands m.0.0 (done ++ (option_to_list b.0.1 ++ m.0.1)) (front ++ t ∷ ts) = rw (append_assoc, append_assoc) at later in
     subst (λ (x : ScriptState × List Stmt). Stands x.0 (done ++ x.1) (front ++ t ∷ ts)) m.2 regrouped
 
-pub from_start : (ts : List Token) (q : ScriptState) (ss : List Stmt) → run Start ts ≡ Some (q, ss) → Stands q ss ts
+pub from_start : (ts : List Token) (q : ScriptState) (ss : List Stmt) → transition_of_tokens Start ts ≡ Some (q, ss) → Stands q ss ts
 from_start ts q ss e = stands_run ts Start q [] ss [] no_stmts e
 
 -- ---- each position has a script that continues from it

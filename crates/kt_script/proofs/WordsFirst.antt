@@ -1,6 +1,6 @@
 -- Texts that begin with a name, a number or a string.
 use Rattle.std.proofs.Common.{◌≡◌, ℕ, ◌<◌, ◌^◌, Bool, true, false, eqb, not, ◌||◌, List, [], ◌∷◌, ◌++◌, length, Option, Some, None, refl, ap, sym, subst, ◌∙◌, arith, append_assoc, inl, inr}
-use Rattle.kt_script.proofs.Common.{cases_Bool, cases_lt, eqb-true, append-nil, Flaw, Bad, Unterminated, TokenKind, Broken, is_name_start, is_name_byte, escape_of, is_plain, is_digit, decimal_from, AllSatisfy, StopsAt, is_quote, is_not_newline, IsStringContent, nothing, itself, escape, HasNoEscape, IsBlank, HasFlaw, large_number, lettered_number, endless_string, bad_escape, IsToken, name_token, number_token, string_token, broken_token}
+use Rattle.kt_script.proofs.Common.{cases_Bool, cases_lt, eqb-true, append-nil, Flaw, Bad, Unterminated, TokenKind, Invalid, is_name_start, is_name_byte, escape_of, is_plain, is_digit, decimal_from, AllSatisfy, StopsAt, is_quote, is_not_newline, IsStringContent, nothing, itself, escape, HasNoEscape, IsBlank, HasFlaw, large_number, lettered_number, endless_string, bad_escape, IsToken, name_token, number_token, string_token, invalid_token}
 
 -- ---- the first lexeme of a text
 
@@ -39,7 +39,7 @@ run p (c ∷ cs) =
     ]
 
 pub flawed : (text whole : List ℕ) (flaw : Flaw) → text ≡ whole → 0 < length whole → HasFlaw whole flaw → WordFirst text
-flawed text whole flaw parts some h = record { front = whole; rest = []; parts = parts ∙ sym (append-nil whole); some = some; kind = Broken flaw; is = broken_token h }
+flawed text whole flaw parts some h = record { front = whole; rest = []; parts = parts ∙ sym (append-nil whole); some = some; kind = Invalid flaw; is = invalid_token h }
 
 -- ---- names and numbers
 

@@ -1,6 +1,6 @@
 -- The faults of tokens that are not a script.
 use Rattle.std.specs.Prelude.{◌≡◌, ℕ, ◌-◌, length, take, slice_get, List, [], ◌∷◌, ◌++◌, Option, Some, None, Result, Ok, Err, ◌⊎◌}
-use Rattle.kt_script.specs.Types.{Action, Bad, BadToken, Broken, CloseBrace, CloseBracket, CloseParen, Unterminated, TokenKind, NoMemory, NotLiteral, OpenBrace, OpenBracket, OpenParen, ScriptFault, Stmt, Token, Unclosed}
+use Rattle.kt_script.specs.Types.{Action, Bad, BadToken, Invalid, CloseBrace, CloseBracket, CloseParen, Unterminated, TokenKind, NoMemory, NotLiteral, OpenBrace, OpenBracket, OpenParen, ScriptFault, Stmt, Token, Unclosed}
 use Rattle.kt_script.specs.Grammar.{IsStatement, Script, token_kinds, first_token_line}
 
 -- `IfFault result P`: if `result` is a fault and not a failed allocation, the fault satisfies the
@@ -17,8 +17,8 @@ IsScriptPrefix ts = (more : List Token) × (stmts : List Stmt) × Script (ts ++ 
 -- `token_kind_fault line kind`: the fault of a script in which the grammar does not allow a token
 -- of the kind `kind` on the line `line`.
 abbrev pub token_kind_fault : ℕ → TokenKind → ScriptFault
-token_kind_fault line (Broken Bad) = BadToken line
-token_kind_fault line (Broken Unterminated) = Unclosed line
+token_kind_fault line (Invalid Bad) = BadToken line
+token_kind_fault line (Invalid Unterminated) = Unclosed line
 token_kind_fault line _ = NotLiteral line
 
 -- `fault_of t`: the fault of a script in which the grammar does not allow the token `t`.

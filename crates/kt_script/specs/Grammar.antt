@@ -11,7 +11,7 @@ literal_kind (literal.Text t) = Quoted t
 literal_kind (literal.Number n) = Number n
 literal_kind (literal.Truth b) = Truth b
 
--- `IsKey words key`: tokens of the kinds `words` are a key of a table. The text of the key is
+-- `IsKey kinds key`: tokens of the kinds `kinds` are a key of a table. The text of the key is
 -- `key`.
 -- key = name | "[" string "]"
 pub data IsKey : List TokenKind → List ℕ → Type 0 where
@@ -28,34 +28,34 @@ pub data IsSeparator : TokenKind → Type 0 where
   comma : IsSeparator Comma
   semicolon : IsSeparator Semicolon
 
--- `Pairs words pairs`: tokens of the kinds `words` between the braces of a table represent the
+-- `Pairs kinds pairs`: tokens of the kinds `kinds` between the braces of a table represent the
 -- pairs `pairs`.
 -- pairs = [ pair { ("," | ";") pair } [ "," | ";" ] ], pair = (name | "[" string "]") "=" value
 pub data Pairs : List TokenKind → List Pair → Type 0 where
   no_pairs : Pairs [] []
-  last_pair : {words : List TokenKind} {key : List ℕ} → IsKey words key → (v : Literal) → Pairs (words ++ Equals ∷ literal_kind v ∷ []) (pair key v ∷ [])
-  pair_and : {words rest : List TokenKind} {key : List ℕ} {s : TokenKind} {pairs : List Pair} → IsKey words key → (v : Literal) → IsSeparator s → Pairs rest pairs
-      → Pairs (words ++ Equals ∷ literal_kind v ∷ s ∷ rest) (pair key v ∷ pairs)
+  last_pair : {kinds : List TokenKind} {key : List ℕ} → IsKey kinds key → (v : Literal) → Pairs (kinds ++ Equals ∷ literal_kind v ∷ []) (pair key v ∷ [])
+  pair_and : {kinds rest : List TokenKind} {key : List ℕ} {s : TokenKind} {pairs : List Pair} → IsKey kinds key → (v : Literal) → IsSeparator s → Pairs rest pairs
+      → Pairs (kinds ++ Equals ∷ literal_kind v ∷ s ∷ rest) (pair key v ∷ pairs)
 
--- `ArePathParts words parts`: tokens of the kinds `words`, which follow the first name of a
+-- `ArePathParts kinds parts`: tokens of the kinds `kinds`, which follow the first name of a
 -- variable's path, represent `parts`, the other parts of the path.
 -- parts = { "." name | "[" string "]" }
 pub data ArePathParts : List TokenKind → List (List ℕ) → Type 0 where
   no_parts : ArePathParts [] []
-  named_part : {words : List TokenKind} {parts : List (List ℕ)} (n : List ℕ) → ArePathParts words parts → ArePathParts (Dot ∷ Name n ∷ words) (n ∷ parts)
-  quoted_part : {words : List TokenKind} {parts : List (List ℕ)} (t : List ℕ) → ArePathParts words parts → ArePathParts (OpenBracket ∷ Quoted t ∷ CloseBracket ∷ words) (t ∷ parts)
+  named_part : {kinds : List TokenKind} {parts : List (List ℕ)} (n : List ℕ) → ArePathParts kinds parts → ArePathParts (Dot ∷ Name n ∷ kinds) (n ∷ parts)
+  quoted_part : {kinds : List TokenKind} {parts : List (List ℕ)} (t : List ℕ) → ArePathParts kinds parts → ArePathParts (OpenBracket ∷ Quoted t ∷ CloseBracket ∷ kinds) (t ∷ parts)
 
--- `IsStatement words action`: tokens of the kinds `words` are a statement with the action `action`.
+-- `IsStatement kinds action`: tokens of the kinds `kinds` are a statement with the action `action`.
 -- stmt = name "(" (value | table) ")" | name string | name table | path "=" value
 pub data IsStatement : List TokenKind → Action → Type 0 where
   call : (n : List ℕ) (v : Literal) → IsStatement (Name n ∷ OpenParen ∷ literal_kind v ∷ CloseParen ∷ []) (Call n (Value v))
-  call_table : {words : List TokenKind} {pairs : List Pair} (n : List ℕ) → Pairs words pairs
-      → IsStatement (Name n ∷ OpenParen ∷ OpenBrace ∷ words ++ CloseBrace ∷ CloseParen ∷ []) (Call n (Table pairs))
+  call_table : {kinds : List TokenKind} {pairs : List Pair} (n : List ℕ) → Pairs kinds pairs
+      → IsStatement (Name n ∷ OpenParen ∷ OpenBrace ∷ kinds ++ CloseBrace ∷ CloseParen ∷ []) (Call n (Table pairs))
   call_text : (n t : List ℕ) → IsStatement (Name n ∷ Quoted t ∷ []) (Call n (Value (literal.Text t)))
-  bare_table : {words : List TokenKind} {pairs : List Pair} (n : List ℕ) → Pairs words pairs
-      → IsStatement (Name n ∷ OpenBrace ∷ words ++ CloseBrace ∷ []) (Call n (Table pairs))
-  assign : {words : List TokenKind} {parts : List (List ℕ)} (n : List ℕ) → ArePathParts words parts → (v : Literal)
-      → IsStatement (Name n ∷ words ++ Equals ∷ literal_kind v ∷ []) (Assign (n ∷ parts) v)
+  bare_table : {kinds : List TokenKind} {pairs : List Pair} (n : List ℕ) → Pairs kinds pairs
+      → IsStatement (Name n ∷ OpenBrace ∷ kinds ++ CloseBrace ∷ []) (Call n (Table pairs))
+  assign : {kinds : List TokenKind} {parts : List (List ℕ)} (n : List ℕ) → ArePathParts kinds parts → (v : Literal)
+      → IsStatement (Name n ∷ kinds ++ Equals ∷ literal_kind v ∷ []) (Assign (n ∷ parts) v)
 
 -- `token_kinds ts`: the kinds of the tokens `ts`.
 abbrev pub token_kinds : List Token → List TokenKind
@@ -66,15 +66,15 @@ abbrev pub first_token_line : List Token → ℕ
 first_token_line [] = 0
 first_token_line (t ∷ ts) = t.line
 
--- `statement_of_tokens phrase a`: the statement whose tokens are `phrase` and whose action is `a`.
+-- `statement_of_tokens tokens a`: the statement whose tokens are `tokens` and whose action is `a`.
 -- The line of the statement is that of its first token.
 abbrev pub statement_of_tokens : List Token → Action → Stmt
-statement_of_tokens phrase a = record { line = first_token_line phrase; action = a }
+statement_of_tokens tokens a = record { line = first_token_line tokens; action = a }
 
 -- `Script ts stmts`: the tokens `ts` are a script, which consists of the statements `stmts`.
 -- script = { stmt [";"] }
 pub data Script : List Token → List Stmt → Type 0 where
   no_stmts : Script [] []
-  stmt_and : (phrase : List Token) {rest : List Token} {a : Action} {stmts : List Stmt} → IsStatement (token_kinds phrase) a → Script rest stmts → Script (phrase ++ rest) (statement_of_tokens phrase a ∷ stmts)
-  ended_and : (phrase : List Token) {rest : List Token} {a : Action} {stmts : List Stmt} (t : Token) → IsStatement (token_kinds phrase) a → t.kind ≡ Semicolon → Script rest stmts
-      → Script (phrase ++ t ∷ rest) (statement_of_tokens phrase a ∷ stmts)
+  stmt_and : (tokens : List Token) {rest : List Token} {a : Action} {stmts : List Stmt} → IsStatement (token_kinds tokens) a → Script rest stmts → Script (tokens ++ rest) (statement_of_tokens tokens a ∷ stmts)
+  ended_and : (tokens : List Token) {rest : List Token} {a : Action} {stmts : List Stmt} (t : Token) → IsStatement (token_kinds tokens) a → t.kind ≡ Semicolon → Script rest stmts
+      → Script (tokens ++ t ∷ rest) (statement_of_tokens tokens a ∷ stmts)

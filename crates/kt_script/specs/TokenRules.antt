@@ -1,7 +1,7 @@
 -- The rules for the tokens of a text. A text is a sequence of white space, comments and tokens.
 use Rattle.std.specs.Prelude.{◌≡◌, ℕ, ◌+◌, ◌<◌, ◌≤◌, ◌^◌, ◌==◌, ◌||◌, ◌&&◌, Bool, true, false, not, nat_eq, bytes_eq, codes, List, [], ◌∷◌, ◌++◌, drop, Option, Some, None, chars, if◌then◌else◌}
 use Rattle.std.specs.List.{starts_with, prefix_len}
-use Rattle.kt_script.specs.Types.{Bad, Broken, CloseBrace, CloseBracket, CloseParen, Comma, Dot, Unterminated, Equals, Flaw, TokenKind, LeveledComment, Name, Number, OpenBrace, OpenBracket, OpenParen, Quoted, Semicolon, Token, Truth}
+use Rattle.kt_script.specs.Types.{Bad, Invalid, CloseBrace, CloseBracket, CloseParen, Comma, Dot, Unterminated, Equals, Flaw, TokenKind, LeveledComment, Name, Number, OpenBrace, OpenBracket, OpenParen, Quoted, Semicolon, Token, Truth}
 use Rattle.kt_base.specs.Characters.{is_space}
 use Rattle.kt_base.specs.Digits.{is_digit, decimal_from}
 use Rattle.kt_script.specs.Letters.{is_name_start, is_name_byte, is_plain, escape_of}
@@ -17,10 +17,10 @@ punctuation_kind_of c =
     else if c == 59 then Some Semicolon else if c == 46 then Some Dot
     else None
 
--- `word letters`: the kind of the token with the bytes `letters`: a truth value for `true` and
+-- `kind_of_word letters`: the kind of the token with the bytes `letters`: a truth value for `true` and
 -- `false`, otherwise a name.
-abbrev pub word : List ℕ → TokenKind
-word letters = if bytes_eq letters (codes "true") then Truth true else if bytes_eq letters (codes "false") then Truth false else Name (chars letters)
+abbrev pub kind_of_word : List ℕ → TokenKind
+kind_of_word letters = if bytes_eq letters (codes "true") then Truth true else if bytes_eq letters (codes "false") then Truth false else Name (chars letters)
 
 -- `has_bracket_level text`: `text` begins with one or more `=`, followed by `[`.
 abbrev pub has_bracket_level : List ℕ → Bool
@@ -118,11 +118,11 @@ pub data HasFlaw : List ℕ → Flaw → Type 0 where
 -- `IsToken bytes after kind`: the bytes `bytes` are a token of the kind `kind`, if the bytes
 -- `after` follow them.
 pub data IsToken : List ℕ → List ℕ → TokenKind → Type 0 where
-  name_token : {c : ℕ} {cs after : List ℕ} → is_name_start c ≡ true → AllSatisfy is_name_byte cs → StopsAt is_name_byte after → IsToken (c ∷ cs) after (word (c ∷ cs))
+  name_token : {c : ℕ} {cs after : List ℕ} → is_name_start c ≡ true → AllSatisfy is_name_byte cs → StopsAt is_name_byte after → IsToken (c ∷ cs) after (kind_of_word (c ∷ cs))
   number_token : {c : ℕ} {cs after : List ℕ} → AllSatisfy is_digit (c ∷ cs) → StopsAt is_name_byte after → decimal_from 0 (c ∷ cs) < 2 ^ 64 → IsToken (c ∷ cs) after (Number (decimal_from 0 (c ∷ cs)))
   string_token : {quote : ℕ} {words bytes after : List ℕ} → is_quote quote ≡ true → IsStringContent quote words bytes → IsToken (quote ∷ words ++ quote ∷ []) after (Quoted (chars bytes))
   punctuation_token : {c : ℕ} {kind : TokenKind} {after : List ℕ} → punctuation_kind_of c ≡ Some kind → IsToken (c ∷ []) after kind
-  broken_token : {text : List ℕ} {flaw : Flaw} → HasFlaw text flaw → IsToken text [] (Broken flaw)
+  invalid_token : {text : List ℕ} {flaw : Flaw} → HasFlaw text flaw → IsToken text [] (Invalid flaw)
 
 -- `AreTokens line text ts`: `text`, which begins on the line `line`, consists of the tokens `ts`,
 -- and of white space and comments around them.

@@ -11,6 +11,6 @@ pub use Rattle.kt_script.specs.declared.syntax.Stmt.{Stmt}
 pub use Rattle.kt_script.specs.declared.token.Flaw.{Flaw}
 pub use Rattle.kt_script.specs.declared.token.Flaw.TheVariants.{Bad, Unterminated, LeveledComment}
 pub use Rattle.kt_script.specs.declared.token.TokenKind.{TokenKind}
-pub use Rattle.kt_script.specs.declared.token.TokenKind.TheVariants.{Broken, CloseBrace, CloseBracket, CloseParen, Comma, Dot, Equals, Name, Number, OpenBrace, OpenBracket, OpenParen, Quoted, Semicolon, Truth}
+pub use Rattle.kt_script.specs.declared.token.TokenKind.TheVariants.{Invalid, CloseBrace, CloseBracket, CloseParen, Comma, Dot, Equals, Name, Number, OpenBrace, OpenBracket, OpenParen, Quoted, Semicolon, Truth}
 pub use Rattle.kt_script.specs.declared.token.Lexeme.{Lexeme}
 pub use Rattle.kt_script.specs.declared.token.Token.{Token}

@@ -1,7 +1,7 @@
 //! The states of the parser within a statement, and the transitions between them.
 
 ghost use Rattle.std.specs.Prelude.{◌≡◌, [], ◌∷◌, ◌++◌, IfOk};
-ghost use Rattle.kt_script.specs.Inner.Automaton.{closed, step, literal_of};
+ghost use Rattle.kt_script.specs.Inner.Automaton.{transition_after_table, step, literal_of};
 
 use crate::token::TokenKind;
 use crate::{Action, Arg, Literal, Pair};
@@ -204,7 +204,7 @@ impl Table {
     /// If the table is in parentheses, a `)` must follow. Otherwise, the `}` completes the
     /// statement.
     fn close(self) -> Transition
-        ensures { result ≡ closed self }
+        ensures { result ≡ transition_after_table self }
     {
         let call = Action::Call(self.name, Arg::Table(self.pairs));
         if self.in_parens {

@@ -36,7 +36,7 @@ pub enum TokenKind {
     Semicolon,
     Dot,
     /// An invalid token, with the reason. The grammar does not allow it anywhere.
-    Broken(Flaw),
+    Invalid(Flaw),
 }
 
 /// A token of a script, with the line on which it begins.
@@ -56,8 +56,8 @@ impl Token {
         ensures { result ≡ fault_of self.now }
     {
         match self.kind {
-            TokenKind::Broken(Flaw::Bad) => ScriptFault::BadToken(self.line),
-            TokenKind::Broken(Flaw::Unterminated) => ScriptFault::Unclosed(self.line),
+            TokenKind::Invalid(Flaw::Bad) => ScriptFault::BadToken(self.line),
+            TokenKind::Invalid(Flaw::Unterminated) => ScriptFault::Unclosed(self.line),
             _ => ScriptFault::NotLiteral(self.line),
         }
     }
@@ -73,7 +73,7 @@ pub struct Lexeme {
 }
 
 impl Lexeme {
-    ghost use Rattle.kt_script.specs.Inner.Pieces.{blank, token, broken};
+    ghost use Rattle.kt_script.specs.Inner.Pieces.{blank, token, invalid_lexeme};
 
     /// Creates a lexeme of `length` bytes that is white space or a comment.
     pub fn blank(length: usize) -> Lexeme
@@ -95,9 +95,9 @@ impl Lexeme {
     /// Creates an invalid token that consists of all bytes of `text`. `flaw` is the reason why the
     /// token is invalid.
     pub fn invalid(text: &[u8], flaw: Flaw) -> Lexeme
-        ensures { result ≡ broken text.now flaw }
+        ensures { result ≡ invalid_lexeme text.now flaw }
     {
-        Lexeme::token(text.len(), TokenKind::Broken(flaw))
+        Lexeme::token(text.len(), TokenKind::Invalid(flaw))
     }
 }
 

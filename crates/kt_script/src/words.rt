@@ -1,7 +1,7 @@
 //! Names, truth values and the classes of their bytes.
 
 ghost use Rattle.std.specs.Prelude.{◌≡◌, ◌≤◌, length, IfOk};
-ghost use Rattle.kt_script.specs.Common.{prefix_len, is_name_start, is_name_byte, word, name_at, is_space};
+ghost use Rattle.kt_script.specs.Common.{prefix_len, is_name_start, is_name_byte, kind_of_word, name_at, is_space};
 
 use crate::token::{Lexeme, TokenKind};
 use kt_base::{NoMemory, Text, is_digit};
@@ -40,7 +40,7 @@ fn name_length(text: &[u8]) -> usize
 ///
 /// The token is a truth value if `letters` is `true` or `false`.
 fn kind_of_letters(alloc: Global, letters: &str) -> Result<TokenKind, NoMemory>
-    ensures { IfOk result (λ kind. kind ≡ word letters.now) }
+    ensures { IfOk result (λ kind. kind ≡ kind_of_word letters.now) }
 {
     if letters.as_bytes() == b"true".as_slice() {
         return Ok(TokenKind::Truth(true));

@@ -1,6 +1,6 @@
 -- The rows of the tables of failed starts and of cleanups.
 use Rattle.std.proofs.Common.{◌≡◌, ℕ, ◌<◌, Bool, true, false, refl, sym, subst, arith, codes, nat_eq, if◌then◌else◌}
-use Rattle.kt_status.proofs.Common.{Outcome, Exited, Signaled, TimedOut, WaitFailed, VerdictValue, RefusalRow, CleanupRow, IsVerdictOfRefusal, IsVerdictAfterCleanup, verdict_of_refusal, verdict_if_body_good, verdict_after_cleanup}
+use Rattle.kt_status.proofs.Common.{Outcome, Exited, Signaled, TimedOut, WaitFailed, VerdictValue, RefusalRow, CleanupRow, IsVerdictOfRefusal, IsVerdictAfterCleanup, verdict_of_refusal, verdict_after_good_body, verdict_after_cleanup}
 use Rattle.kt_base.specs.declared.failed_start.Refused.{Refused}
 use Rattle.kt_base.specs.Kinds.{good}
 use Rattle.kt_status.specs.declared.cleanup_end.CleanupEnd.{CleanupEnd}
@@ -50,7 +50,7 @@ end_row cleanup.Refused = 5
 abbrev pub cleanup_row : VerdictValue → CleanupEnd → ℕ
 cleanup_row body end = if good body.kind then end_row end else 1
 
-pub end_fits : (body : VerdictValue) (end : CleanupEnd) → CleanupRow (end_row end) body end (verdict_if_body_good body end)
+pub end_fits : (body : VerdictValue) (end : CleanupEnd) → CleanupRow (end_row end) body end (verdict_after_good_body body end)
 end_fits body (cleanup.Ended (Exited code)) = at_equal 2 4 code 0 _ _ (λ n v. CleanupRow n body (cleanup.Ended (Exited code)) v)
     (λ is. subst (λ (x : ℕ). CleanupRow 2 body (cleanup.Ended (Exited x)) body) (sym is) (row.cleaned_up body)) (row.cleanup_failed body (Exited code))
 end_fits body (cleanup.Ended TimedOut) = row.cleanup_timed_out body
@@ -58,11 +58,11 @@ end_fits body (cleanup.Ended (Signaled s core)) = row.cleanup_failed body (Signa
 end_fits body (cleanup.Ended WaitFailed) = row.cleanup_failed body WaitFailed
 end_fits body cleanup.Refused = row.cleanup_not_started body
 
-pub cleanup_fits_at : (t : Bool) (body : VerdictValue) (end : CleanupEnd) → good body.kind ≡ t → CleanupRow (if t then end_row end else 1) body end (if t then verdict_if_body_good body end else body)
+pub cleanup_fits_at : (t : Bool) (body : VerdictValue) (end : CleanupEnd) → good body.kind ≡ t → CleanupRow (if t then end_row end else 1) body end (if t then verdict_after_good_body body end else body)
 cleanup_fits_at true body end e = end_fits body end
 cleanup_fits_at false body end e = row.body_is_bad body end e
 
-pub end_least : (body : VerdictValue) (ending : Outcome) → IsLeastRow (end_row (cleanup.Ended ending)) (verdict_if_body_good body (cleanup.Ended ending)) 4 (verdict.broken (codes "Test case cleanup did not terminate successfully"))
+pub end_least : (body : VerdictValue) (outcome : Outcome) → IsLeastRow (end_row (cleanup.Ended outcome)) (verdict_after_good_body body (cleanup.Ended outcome)) 4 (verdict.broken (codes "Test case cleanup did not terminate successfully"))
 end_least body (Exited code) = next 2 4 code 0 _ _ (omega arith)
 end_least body TimedOut = (omega arith, λ e. absurd (omega arith))
 end_least body (Signaled s core) = here _ _
@@ -81,7 +81,7 @@ pub cleanup_least : (n : ℕ) (body : VerdictValue) (end : CleanupEnd) (v : Verd
 cleanup_least _ _ _ _ (row.body_is_bad body end bad) = bad_row body end bad
 cleanup_least _ _ _ _ (row.cleaned_up body) = if_good (good body.kind) 2 2 body body body (omega arith) (here 2 body)
 cleanup_least _ _ _ _ (row.cleanup_timed_out body) = if_good (good body.kind) 3 3 _ body _ (omega arith) (here 3 _)
-cleanup_least _ _ _ _ (row.cleanup_failed body ending) = if_good (good body.kind) (end_row (cleanup.Ended ending)) 4 _ body _ (omega arith) (end_least body ending)
+cleanup_least _ _ _ _ (row.cleanup_failed body outcome) = if_good (good body.kind) (end_row (cleanup.Ended outcome)) 4 _ body _ (omega arith) (end_least body outcome)
 cleanup_least _ _ _ _ (row.cleanup_not_started body) = if_good (good body.kind) 5 5 _ body _ (omega arith) (here 5 _)
 
 pub cleanup_only : (body : VerdictValue) (end : CleanupEnd) (v : VerdictValue) → v ≡ verdict_after_cleanup body end

@@ -117,7 +117,7 @@ pub data CleanupRow : ℕ → VerdictValue → CleanupEnd → VerdictValue → T
   body_is_bad : (body : VerdictValue) (end : CleanupEnd) → good body.kind ≡ false → CleanupRow 1 body end body
   cleaned_up : (body : VerdictValue) → CleanupRow 2 body (cleanup.Ended (Exited 0)) body
   cleanup_timed_out : (body : VerdictValue) → CleanupRow 3 body (cleanup.Ended TimedOut) (verdict.broken (codes "Test case cleanup timed out"))
-  cleanup_failed : (body : VerdictValue) (ending : Outcome) → CleanupRow 4 body (cleanup.Ended ending) (verdict.broken (codes "Test case cleanup did not terminate successfully"))
+  cleanup_failed : (body : VerdictValue) (outcome : Outcome) → CleanupRow 4 body (cleanup.Ended outcome) (verdict.broken (codes "Test case cleanup did not terminate successfully"))
   cleanup_not_started : (body : VerdictValue) → CleanupRow 5 body cleanup.Refused (verdict.broken (codes "Test case cleanup could not be started"))
 
 -- `IsFirstRow Row verdict`: the first row of the table `Row` that fits gives `verdict`.
@@ -130,9 +130,9 @@ pub record IsFirstRow (Row : ℕ → VerdictValue → Type 0) (verdict : Verdict
 -- `IsVerdict evidence outcome verdict`: `verdict` is the verdict on a body with this `evidence` and
 -- `outcome`, by the table for ATF, TAP or plain programs.
 abbrev pub IsVerdict : Evidence → Outcome → VerdictValue → Type 0
-IsVerdict (evidence.Atf claim) ending verdict = IsFirstRow (λ n v. AtfRow n claim ending v) verdict
-IsVerdict (evidence.Tap tap) ending verdict = IsFirstRow (λ n v. TapRow n tap ending v) verdict
-IsVerdict evidence.Plain ending verdict = IsFirstRow (λ n v. PlainRow n ending v) verdict
+IsVerdict (evidence.Atf claim) outcome verdict = IsFirstRow (λ n v. AtfRow n claim outcome v) verdict
+IsVerdict (evidence.Tap tap) outcome verdict = IsFirstRow (λ n v. TapRow n tap outcome v) verdict
+IsVerdict evidence.Plain outcome verdict = IsFirstRow (λ n v. PlainRow n outcome v) verdict
 
 -- `IsVerdictOfRefusal refused verdict`: `verdict` is the verdict on a case whose start failed with
 -- the error `refused`.

@@ -1,5 +1,5 @@
 ghost use Rattle.std.specs.Prelude.{◌≡◌};
-ghost use Rattle.kt_status.specs.Common.{VerdictValue, IsVerdictAfterCleanup, verdict_if_body_good};
+ghost use Rattle.kt_status.specs.Common.{VerdictValue, IsVerdictAfterCleanup, verdict_after_good_body};
 
 use crate::CleanupEnd;
 use kt_base::{Outcome, Phrase, Reason, Verdict};
@@ -8,8 +8,8 @@ use kt_base::{Outcome, Phrase, Reason, Verdict};
 ///
 /// `end` is the result of the cleanup. The verdict is `body` if the cleanup exited with 0,
 /// otherwise `broken`.
-fn verdict_if_body_good(body: Verdict, end: CleanupEnd) -> Verdict
-    ensures { result ≡ verdict_if_body_good body end }
+fn verdict_after_good_body(body: Verdict, end: CleanupEnd) -> Verdict
+    ensures { result ≡ verdict_after_good_body body end }
 {
     let phrase = match end {
         CleanupEnd::Ended(Outcome::Exited(0)) => return body,
@@ -31,7 +31,7 @@ pub fn with_cleanup(body: Verdict, end: CleanupEnd) -> Verdict
         → result ≡ verdict }
 {
     if body.kind().good() {
-        verdict_if_body_good(body, end)
+        verdict_after_good_body(body, end)
     } else {
         body
     }

@@ -21,12 +21,12 @@ fn fault_phrase(fault: TapFault) -> Phrase
 
 /// Returns the verdict on the case of a TAP program (this profile).
 ///
-/// `tap` is the summary of the program's TAP output, and `ending` is the outcome of the program.
+/// `tap` is the summary of the program's TAP output, and `outcome` is the outcome of the program.
 /// The first matching row of the TAP table (`TapRow`) decides. The call doesn't allocate.
-pub fn tap_verdict(tap: Tap, ending: Outcome) -> Verdict
-    ensures { result ≡ tap_verdict tap ending }
+pub fn tap_verdict(tap: Tap, outcome: Outcome) -> Verdict
+    ensures { result ≡ tap_verdict tap outcome }
 {
-    match (tap, ending) {
+    match (tap, outcome) {
         (_, Outcome::WaitFailed) => Verdict::broken(Reason::Fixed(Phrase::CaseNotWaitedFor)),
         (_, Outcome::TimedOut) => Verdict::broken(Reason::Fixed(Phrase::CaseTimedOut)),
         (_, Outcome::Signaled(signal, _)) => {

@@ -6,13 +6,13 @@ use crate::tap::tap_verdict;
 use kt_base::{Outcome, Phrase, Reason, Refused, Verdict};
 use kt_claim::Evidence;
 
-/// Returns the verdict on the case of a plain program with the outcome `ending` (this profile).
+/// Returns the verdict on the case of a plain program with the outcome `outcome` (this profile).
 ///
 /// The case passed if the program exited with 0. The call doesn't allocate.
-pub fn plain_verdict(ending: Outcome) -> Verdict
-    ensures { result ≡ plain_verdict ending }
+pub fn plain_verdict(outcome: Outcome) -> Verdict
+    ensures { result ≡ plain_verdict outcome }
 {
-    match ending {
+    match outcome {
         Outcome::WaitFailed => Verdict::broken(Reason::Fixed(Phrase::CaseNotWaitedFor)),
         Outcome::TimedOut => Verdict::broken(Reason::Fixed(Phrase::CaseTimedOut)),
         Outcome::Signaled(signal, _) => {
@@ -25,18 +25,18 @@ pub fn plain_verdict(ending: Outcome) -> Verdict
     }
 }
 
-/// Returns the verdict on a body with this `evidence` and the outcome `ending` (this profile).
+/// Returns the verdict on a body with this `evidence` and the outcome `outcome` (this profile).
 ///
 /// The kind of `evidence` selects the table of rules: that of ATF, TAP or plain programs. The call
 /// doesn't allocate.
-pub fn body_verdict(evidence: Evidence, ending: Outcome) -> Verdict
-    ensures row { IsVerdict evidence ending result }
-    ensures only { (verdict : VerdictValue) → IsVerdict evidence ending verdict → result ≡ verdict }
+pub fn body_verdict(evidence: Evidence, outcome: Outcome) -> Verdict
+    ensures row { IsVerdict evidence outcome result }
+    ensures only { (verdict : VerdictValue) → IsVerdict evidence outcome verdict → result ≡ verdict }
 {
     match evidence {
-        Evidence::Atf(claim) => atf_verdict(claim, ending),
-        Evidence::Tap(tap) => tap_verdict(tap, ending),
-        Evidence::Plain => plain_verdict(ending),
+        Evidence::Atf(claim) => atf_verdict(claim, outcome),
+        Evidence::Tap(tap) => tap_verdict(tap, outcome),
+        Evidence::Plain => plain_verdict(outcome),
     }
 }
 

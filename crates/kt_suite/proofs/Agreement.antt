@@ -1,6 +1,6 @@
 -- Two lists of a tree's marks are equal up to a call with two results.
 use Rattle.std.proofs.Common.{Option, Some, None, Result, Ok, Err, Bool, ◌≡◌, ℕ, List, [], ◌∷◌, ◌++◌, refl, sym, subst, ap, ◌∙◌}
-use Rattle.kt_suite.proofs.Common.{ScriptFault, Stmt, Spells, HasFault, ReadFault, SuiteCause, NoSyntax, Script, Meaning, Program, Asked, Read, Exists, IsSameCall, fault_at, read_fault, script_line, meaning_of, opening_fault, sibling_of, Site, site_fault, lookup_mark, Mark, CallMark, File, Fault, Part, OneMark, Includes, statement_parts, suite_after, StatementsGive, none, one, FileGivesParts, fault_of_read, no_script, no_statement, unopened, opened, Unfolds, end, says, refused, entered, TreeGives}
+use Rattle.kt_suite.proofs.Common.{ScriptFault, Stmt, Spells, HasFault, ReadFault, SuiteCause, NoSyntax, Script, Meaning, Program, Asked, Read, Exists, IsSameCall, fault_at, read_fault, script_line, meaning_of, opening_cause, sibling_of, Site, site_fault, lookup_mark, Mark, CallMark, File, Fault, Part, OneMark, Includes, statement_parts, suite_after, HaveStatementParts, none, one, HasFileParts, fault_of_read, no_script, no_statement, unopened, opened, Unfolds, end, says, refused, entered, HasTreeMarks}
 use Rattle.kt_suite.specs.declared.meaning.Meaning.TheVariants as meaning
 use Rattle.kt_script.proofs.OneAnswer.{two_spelled, two_due, not_both}
 
@@ -40,7 +40,7 @@ said_agree at t u (meaning.Program interface name suite props) ps qs a =
     parts_ask (Exists (sibling_of at.file name) t) (Exists (sibling_of at.file name) u) (OneMark (lookup_mark at p t) ∷ ps) (OneMark (lookup_mark at p u) ∷ qs) refl
     (λ e. subst (λ (b : Bool). AgreeParts (OneMark (lookup_mark at p t) ∷ ps) (OneMark (lookup_mark at p b) ∷ qs)) (ap (λ (x : Asked). exists_in x t) e) (same_part (OneMark (lookup_mark at p t)) ps qs a))
 
-statements_agree : (file : List ℕ) (suite : Option (List ℕ)) (stmts : List Stmt) (ps qs : List Part) → StatementsGive file suite stmts ps → StatementsGive file suite stmts qs → AgreeParts ps qs
+statements_agree : (file : List ℕ) (suite : Option (List ℕ)) (stmts : List Stmt) (ps qs : List Part) → HaveStatementParts file suite stmts ps → HaveStatementParts file suite stmts qs → AgreeParts ps qs
 statements_agree file suite [] _ _ (none _) (none _) = no_parts
 statements_agree file suite (stmt ∷ rest) _ _ (one _ _ _ t ps h) (one _ _ _ u qs k) =
     said_agree (record { file = file; line = stmt.line }) t u (meaning_of suite stmt.action) ps qs (statements_agree file (suite_after suite (meaning_of suite stmt.action)) rest ps qs h k)
@@ -49,8 +49,8 @@ statements_agree file suite (stmt ∷ rest) _ _ (one _ _ _ t ps h) (one _ _ _ u 
 -- returned the statements `stmts`.
 data AfterStatements (file : List ℕ) : List Stmt → List Part → Type 0 where
   a_none : AfterStatements file [] (OneMark (Fault (fault_at file 1 NoSyntax)) ∷ [])
-  a_wrong : (first : Stmt) (rest : List Stmt) (cause : SuiteCause) → opening_fault first.action ≡ Some cause → AfterStatements file (first ∷ rest) (OneMark (Fault (fault_at file first.line cause)) ∷ [])
-  a_right : (first : Stmt) (rest : List Stmt) (parts : List Part) → opening_fault first.action ≡ None → StatementsGive file None rest parts → AfterStatements file (first ∷ rest) parts
+  a_wrong : (first : Stmt) (rest : List Stmt) (cause : SuiteCause) → opening_cause first.action ≡ Some cause → AfterStatements file (first ∷ rest) (OneMark (Fault (fault_at file first.line cause)) ∷ [])
+  a_right : (first : Stmt) (rest : List Stmt) (parts : List Part) → opening_cause first.action ≡ None → HaveStatementParts file None rest parts → AfterStatements file (first ∷ rest) parts
 
 data AfterAnswer (file : List ℕ) : Result (List ℕ) ReadFault → List Part → Type 0 where
   b_unread : (why : ReadFault) → AfterAnswer file (Err why) (OneMark (Fault (read_fault file why)) ∷ [])
@@ -60,7 +60,7 @@ data AfterAnswer (file : List ℕ) : Result (List ℕ) ReadFault → List Part �
 data Answering (file : List ℕ) : List Part → Type 0 where
   by : (answer : Result (List ℕ) ReadFault) (parts : List Part) → AfterAnswer file answer parts → Answering file (OneMark (CallMark (Read file answer)) ∷ parts)
 
-answering : (file : List ℕ) (ps : List Part) → FileGivesParts file ps → Answering file ps
+answering : (file : List ℕ) (ps : List Part) → HasFileParts file ps → Answering file ps
 answering file _ (fault_of_read why) = by (Err why) _ (b_unread why)
 answering file _ (no_script text why i) = by (Ok text) _ (b_faulty text why i)
 answering file _ (no_statement text s) = by (Ok text) _ (b_script text [] _ s a_none)
@@ -90,7 +90,7 @@ both_answering file _ _ (by a ps h) (by b qs k) =
     parts_ask (Read file a) (Read file b) ps qs refl
     (λ e. behind_answer file a ps qs h (subst (λ (x : Result (List ℕ) ReadFault). AfterAnswer file x qs) (sym (ap (λ (x : Asked). read_in x a) e)) k))
 
-files_agree : (file : List ℕ) (ps qs : List Part) → FileGivesParts file ps → FileGivesParts file qs → AgreeParts ps qs
+files_agree : (file : List ℕ) (ps qs : List Part) → HasFileParts file ps → HasFileParts file qs → AgreeParts ps qs
 files_agree file ps qs h k = both_answering file ps qs (answering file ps h) (answering file qs k)
 
 unfolds_agree : (files : List (List ℕ)) (ps qs : List Part) (ms ns : List Mark) → AgreeParts ps qs → Unfolds files ps ms → Unfolds files qs ns → Agree ms ns
@@ -105,5 +105,5 @@ unfolds_agree files _ _ _ _ (same_part _ ps qs a) (entered _ at path own inner _
     same_mark (File at) (inner ++ ms) (inner' ++ ns) (agree-append inner inner' ms ns (unfolds_agree (files ++ path ∷ []) own own' inner inner' (files_agree path own own' s t) i j) (unfolds_agree files ps qs ms ns a u v))
 unfolds_agree files _ _ _ _ (parts_ask q r ps qs s f) (says _ _ _ ms u) (says _ _ _ ns v) = both_ask q r ms ns s (λ e. unfolds_agree files ps qs ms ns (f e) u v)
 
-pub trees_agree : (root : List ℕ) (ms ns : List Mark) → TreeGives root ms → TreeGives root ns → Agree ms ns
+pub trees_agree : (root : List ℕ) (ms ns : List Mark) → HasTreeMarks root ms → HasTreeMarks root ns → Agree ms ns
 trees_agree root ms ns g h = unfolds_agree [] _ _ ms ns (same_part (Includes (record { file = root; line = 0 }) root) [] [] no_parts) g h

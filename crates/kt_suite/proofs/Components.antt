@@ -1,6 +1,6 @@
 -- A path whose components are appended one by one.
 use Rattle.std.proofs.Common.{arith, ◌≡◌, ℕ, Bool, true, false, List, [], ◌∷◌, ◌++◌, refl, ◌∙◌, cond, if◌then◌else◌, append_assoc, filter}
-use Rattle.kt_suite.proofs.Common.{join_with_byte, with_component, counts}
+use Rattle.kt_suite.proofs.Common.{join_with_byte, with_component, is_kept_component}
 
 -- `with_components path parts`: the path `path` with the components `parts` appended, except those
 -- that are empty or `.`.
@@ -21,18 +21,18 @@ glued-first : (part : List ℕ) (parts : List (List ℕ)) → glued part parts �
 glued-first part [] = refl
 glued-first part (next ∷ parts) = refl
 
-with-glued : (c : ℕ) (path : List ℕ) (parts : List (List ℕ)) → with_components (c ∷ path) parts ≡ glued (c ∷ path) (filter counts parts)
+with-glued : (c : ℕ) (path : List ℕ) (parts : List (List ℕ)) → with_components (c ∷ path) parts ≡ glued (c ∷ path) (filter is_kept_component parts)
 with-glued c path [] = refl
 with-glued c path (part ∷ parts) =
-    grind (arith, with-glued c (path ++ 47 ∷ part) parts ∙ glued-more (c ∷ path) part (filter counts parts), with-glued c path parts)
+    grind (arith, with-glued c (path ++ 47 ∷ part) parts ∙ glued-more (c ∷ path) part (filter is_kept_component parts), with-glued c path parts)
 
-first_part : (part : List ℕ) (parts : List (List ℕ)) (b : Bool) → counts part ≡ b → with_components [] parts ≡ join_with_byte 47 (filter counts parts)
-    → with_components (if b then part else []) parts ≡ join_with_byte 47 (cond b (part ∷ filter counts parts) (filter counts parts))
+first_part : (part : List ℕ) (parts : List (List ℕ)) (b : Bool) → is_kept_component part ≡ b → with_components [] parts ≡ join_with_byte 47 (filter is_kept_component parts)
+    → with_components (if b then part else []) parts ≡ join_with_byte 47 (cond b (part ∷ filter is_kept_component parts) (filter is_kept_component parts))
 first_part [] parts true e h = absurd (cc)
-first_part (c ∷ part) parts true e h = with-glued c part parts ∙ glued-first (c ∷ part) (filter counts parts)
+first_part (c ∷ part) parts true e h = with-glued c part parts ∙ glued-first (c ∷ part) (filter is_kept_component parts)
 first_part part parts false e h = h
 
 -- Appending all components to an empty path joins the components that are neither empty nor `.`.
-pub with-join : (parts : List (List ℕ)) → with_components [] parts ≡ join_with_byte 47 (filter counts parts)
+pub with-join : (parts : List (List ℕ)) → with_components [] parts ≡ join_with_byte 47 (filter is_kept_component parts)
 with-join [] = refl
-with-join (part ∷ parts) = first_part part parts (counts part) refl (with-join parts)
+with-join (part ∷ parts) = first_part part parts (is_kept_component part) refl (with-join parts)

@@ -1,6 +1,6 @@
 -- The walk of one statement.
 use Rattle.std.proofs.Common.{Bool, true, false, Some, None, Result, Ok, Err, ◌≡◌, ◌≤◌, ◌<◌, ◌+◌, ℕ, List, [], ◌∷◌, ◌++◌, length, refl, sym, subst, ◌⊎◌, inl, inr, IfOk, IfErr}
-use Rattle.kt_suite.proofs.Common.{Variable, SuiteCause, MissingProgram, TooMany, SuiteFault, Meaning, Program, Registry, Missing, LoadStep, Next, Enter, Asked, Exists, IsNoMemory, sibling_of, Site, site_fault, lookup_mark, Mark, CallMark, File, ProgramMark, Fault, statement_parts, fault_of_read, include_fault, Unfolds, end, says, refused, entered, file_limit, program_limit, is_fault, file_too_many, program_too_many, no_question, LoadsMarks, through, stops, short, RegistersProgram, EntersFile, Enters, refuses, exceeds, scant, MeaningGives, StepsTo, goes, enters, fails}
+use Rattle.kt_suite.proofs.Common.{Variable, SuiteCause, MissingProgram, TooMany, SuiteFault, Meaning, Program, Registry, Missing, LoadStep, Next, Enter, Asked, Exists, IsNoMemory, sibling_of, Site, site_fault, lookup_mark, Mark, CallMark, File, ProgramMark, Fault, statement_parts, fault_of_read, include_cause, Unfolds, end, says, refused, entered, file_limit, program_limit, is_fault, file_too_many, program_too_many, no_question, LoadsMarks, through, stops, short, RegistersProgram, EntersInclude, CountsInclude, refuses, exceeds, scant, HasMeaningMarks, StepsTo, goes, enters, fails}
 use Rattle.kt_base.specs.declared.child.Interface.{Interface}
 use Rattle.kt_suite.specs.Inner.Walks.{counts}
 use Rattle.kt_suite.specs.declared.meaning.Meaning.TheVariants as meaning
@@ -44,20 +44,20 @@ module _ {S : Type 0} (leads : S → Asked → S → Type 0) where
   pub adds_unasked : (old : S) (at : Site) (r : Registry) (p : Program) (fault : SuiteFault) → IsNoMemory fault → RegistersProgram leads old old at r p (Err fault)
   adds_unasked old at r p fault n = short [] (CallMark (Exists p.path true) ∷ ProgramMark at p ∷ []) [] r fault (true, refl) (no_question _) refl refl n
 
--- If the included file may not be entered, `Enters` has the error with this cause.
-pub enters_refused : (at : Site) (r : Registry) (path : List ℕ) (cause : SuiteCause) (fault : SuiteFault) → Some cause ≡ include_fault r.reading path → IsNoMemory fault ⊎ (fault ≡ site_fault at cause) → Enters at r path (Err fault)
-enters_refused at r path cause fault e b = blamed (λ f. Enters at r path (Err f)) (site_fault at cause) fault (scant fault) (refuses cause (sym e)) b
+-- If the included file may not be entered, `CountsInclude` has the error with this cause.
+pub enters_refused : (at : Site) (r : Registry) (path : List ℕ) (cause : SuiteCause) (fault : SuiteFault) → Some cause ≡ include_cause r.open_kyuafiles path → IsNoMemory fault ⊎ (fault ≡ site_fault at cause) → CountsInclude at r path (Err fault)
+enters_refused at r path cause fault e b = blamed (λ f. CountsInclude at r path (Err f)) (site_fault at cause) fault (scant fault) (refuses cause (sym e)) b
 
-pub enters_too_many : (at : Site) (r : Registry) (path : List ℕ) (fault : SuiteFault) → None ≡ include_fault r.reading path → file_limit ≤ r.files → IsNoMemory fault ⊎ (fault ≡ site_fault at TooMany) → Enters at r path (Err fault)
-enters_too_many at r path fault e n b = blamed (λ f. Enters at r path (Err f)) (site_fault at TooMany) fault (scant fault) (exceeds (sym e) n) b
+pub enters_too_many : (at : Site) (r : Registry) (path : List ℕ) (fault : SuiteFault) → None ≡ include_cause r.open_kyuafiles path → file_limit ≤ r.files → IsNoMemory fault ⊎ (fault ≡ site_fault at TooMany) → CountsInclude at r path (Err fault)
+enters_too_many at r path fault e n b = blamed (λ f. CountsInclude at r path (Err f)) (site_fault at TooMany) fault (scant fault) (exceeds (sym e) n) b
 
-pub enters_well : (at : Site) (r after : Registry) (path : List ℕ) → None ≡ include_fault r.reading path → r.files < file_limit → after ≡ (record r { files = r.files + 1 }) → Enters at r path (Ok after)
-enters_well at r after path e n a = subst (λ (x : Registry). Enters at r path (Ok x)) (sym a) (counts (sym e) n)
+pub enters_well : (at : Site) (r after : Registry) (path : List ℕ) → None ≡ include_cause r.open_kyuafiles path → r.files < file_limit → after ≡ (record r { files = r.files + 1 }) → CountsInclude at r path (Ok after)
+enters_well at r after path e n a = subst (λ (x : Registry). CountsInclude at r path (Ok x)) (sym a) (counts (sym e) n)
 
 module _ {S : Type 0} (leads : S → Asked → S → Type 0) where
   -- An allocation may fail before the statement has a mark.
-  at_once : (old : S) (r : Registry) (at : Site) (m : Meaning) (fault : SuiteFault) → IsNoMemory fault → LoadsMarks leads old old (MeaningGives r.reading at m) r (Err fault)
-  at_once old r at m fault n = let some = some_marks r.reading (statement_parts at true m) in short [] some.0 [] r fault (record { there = true; unfolds = some.1 }) (no_question _) refl refl n
+  at_once : (old : S) (r : Registry) (at : Site) (m : Meaning) (fault : SuiteFault) → IsNoMemory fault → LoadsMarks leads old old (HasMeaningMarks r.open_kyuafiles at m) r (Err fault)
+  at_once old r at m fault n = let some = some_marks r.open_kyuafiles (statement_parts at true m) in short [] some.0 [] r fault (record { there = true; unfolds = some.1 }) (no_question _) refl refl n
 
   pub step_short : (old : S) (r : Registry) (at : Site) (m : Meaning) (fault : SuiteFault) → IsNoMemory fault → StepsTo leads old old r at m (Err fault)
   step_short old r at m fault n = fails fault (at_once old r at m fault n)
@@ -75,7 +75,7 @@ module _ {S : Type 0} (leads : S → Asked → S → Type 0) where
       subst (λ (x : Meaning). StepsTo leads old old r at x (Ok (Next r))) e
       (goes r (through [] r (record { there = true; unfolds = end _ }) refl refl))
 
-  step_enter_at : (old : S) (r : Registry) (at : Site) (name : List ℕ) (result : Result Registry SuiteFault) → Enters at r (sibling_of at.file name) result
+  step_enter_at : (old : S) (r : Registry) (at : Site) (name : List ℕ) (result : Result Registry SuiteFault) → CountsInclude at r (sibling_of at.file name) result
       → StepsTo leads old old r at (meaning.Include name) (elim result as (λ _. Result LoadStep SuiteFault) [ Ok next ↦ Ok (Enter next (sibling_of at.file name)) | Err fault ↦ Err fault ])
   step_enter_at old r at name _ (refuses cause e) =
       fails (site_fault at cause) (stops [] [] (Fault (site_fault at cause)) r (site_fault at cause) (record { there = true; unfolds = refused _ _ _ _ _ _ e (end _) }) refl refl (is_fault (site_fault at cause)))
@@ -85,7 +85,7 @@ module _ {S : Type 0} (leads : S → Asked → S → Type 0) where
   step_enter_at old r at name _ (scant fault n) = fails fault (at_once old r at (meaning.Include name) fault n)
 
   pub step_included : (old : S) (r : Registry) (at : Site) (m : Meaning) (name : List ℕ) (result : Result LoadStep SuiteFault) → meaning.Include name ≡ m
-      → IfOk result (λ step. EntersFile at r (sibling_of at.file name) step) → IfErr result (λ fault. Enters at r (sibling_of at.file name) (Err fault)) → StepsTo leads old old r at m result
+      → IfOk result (λ step. EntersInclude at r (sibling_of at.file name) step) → IfErr result (λ fault. CountsInclude at r (sibling_of at.file name) (Err fault)) → StepsTo leads old old r at m result
   step_included old r at m name (Ok step) e ok err =
       subst (λ (x : Meaning). StepsTo leads old old r at x (Ok step)) e
       (subst (λ (x : LoadStep). StepsTo leads old old r at (meaning.Include name) (Ok x)) (sym ok.2) (step_enter_at old r at name (Ok ok.0) ok.1))
@@ -95,10 +95,10 @@ module _ {S : Type 0} (leads : S → Asked → S → Type 0) where
   -- A walk of a program's marks is a walk of the marks of its statement.
   walk_program : (old new : S) (r : Registry) (at : Site) (interface : Interface) (name own : List ℕ) (props : List Variable) (result : Result Registry SuiteFault)
       → RegistersProgram leads old new at r (record { interface = interface; path = sibling_of at.file name; suite = own; props = props }) result
-      → LoadsMarks leads old new (MeaningGives r.reading at (meaning.Program interface name own props)) r result
+      → LoadsMarks leads old new (HasMeaningMarks r.open_kyuafiles at (meaning.Program interface name own props)) r result
   walk_program old new r at interface name own props result w =
       let m = meaning.Program interface name own props in
-      walked-as w (λ marks g. record { there = g.0; unfolds = subst (λ (ms : List Mark). Unfolds r.reading (statement_parts at g.0 m) ms) (sym g.1) (says _ _ _ _ (says _ _ _ _ (end _))) })
+      walked-as w (λ marks g. record { there = g.0; unfolds = subst (λ (ms : List Mark). Unfolds r.open_kyuafiles (statement_parts at g.0 m) ms) (sym g.1) (says _ _ _ _ (says _ _ _ _ (end _))) })
 
   pub step_added : (old new : S) (r next : Registry) (at : Site) (m : Meaning) (interface : Interface) (name own : List ℕ) (props : List Variable)
       → meaning.Program interface name own props ≡ m → RegistersProgram leads old new at r (record { interface = interface; path = sibling_of at.file name; suite = own; props = props }) (Ok next)

@@ -1,6 +1,6 @@
 -- Reading and opening a file.
 use Rattle.std.proofs.Common.{Some, None, Result, Ok, Err, ◌≡◌, ℕ, List, ◌∷◌, length, sym, subst, ◌⊎◌, inl, inr}
-use Rattle.kt_suite.proofs.Common.{ScriptFault, Stmt, Spells, HasFault, ReadFault, SuiteCause, NoSyntax, Script, SuiteFault, Asked, Read, IsParseFault, fault_at, read_fault, script_line, IsNoMemory, opening_fault, fault_of_read, no_script, no_statement, unopened, ChecksOpening, well, empty, badly, unclear, OpensFile, opens, declines, lacks}
+use Rattle.kt_suite.proofs.Common.{ScriptFault, Stmt, Spells, HasFault, ReadFault, SuiteCause, NoSyntax, Script, SuiteFault, Asked, Read, IsParseFault, fault_at, read_fault, script_line, IsNoMemory, opening_cause, fault_of_read, no_script, no_statement, unopened, ChecksOpening, well, empty, badly, unclear, OpensFile, opens, declines, lacks}
 use Rattle.kt_script.specs.Faults.{IfFault}
 use Rattle.kt_suite.specs.Inner.Steps.{IsFaultAt}
 use Rattle.kt_script.specs.declared.fault.ScriptFault.TheVariants as script
@@ -10,12 +10,12 @@ pub well_empty : (file : List ℕ) (stmts : List Stmt) (fault : SuiteFault) → 
 well_empty file stmts fault e (inl n) = unclear fault n
 well_empty file stmts fault e (inr f) = subst (λ (f : SuiteFault). ChecksOpening file stmts (Err f)) (sym f) (empty (nil_from_length stmts e))
 
-pub well_wrong : (file : List ℕ) (stmts : List Stmt) (first : Stmt) (rest : List Stmt) (cause : SuiteCause) (fault : SuiteFault) → stmts ≡ first ∷ rest → Some cause ≡ opening_fault first.action
+pub well_wrong : (file : List ℕ) (stmts : List Stmt) (first : Stmt) (rest : List Stmt) (cause : SuiteCause) (fault : SuiteFault) → stmts ≡ first ∷ rest → Some cause ≡ opening_cause first.action
     → IsFaultAt file first.line cause fault → ChecksOpening file stmts (Err fault)
 well_wrong file stmts first rest cause fault e w (inl n) = unclear fault n
 well_wrong file stmts first rest cause fault e w (inr f) = subst (λ (f : SuiteFault). ChecksOpening file stmts (Err f)) (sym f) (badly first rest cause e (sym w))
 
-pub well_right : (file : List ℕ) (stmts : List Stmt) (first : Stmt) (rest : List Stmt) → stmts ≡ first ∷ rest → None ≡ opening_fault first.action → ChecksOpening file stmts (Ok stmts)
+pub well_right : (file : List ℕ) (stmts : List Stmt) (first : Stmt) (rest : List Stmt) → stmts ≡ first ∷ rest → None ≡ opening_cause first.action → ChecksOpening file stmts (Ok stmts)
 well_right file stmts first rest e w = well first rest e (sym w)
 
 module _ {S : Type 0} (leads : S → Asked → S → Type 0) where

@@ -1,6 +1,6 @@
 -- The filters that remain unmatched after all items.
 use Rattle.std.proofs.Common.{◌≡◌, ℕ, ◌+◌, suc, Bool, true, false, List, [], ◌∷◌, ◌++◌, refl, sym, ap, ◌∙◌, arith, length, slice_get, Option, ◌||◌, not}
-use Rattle.kt_suite.proofs.Common.{append_assoc, list_any, filter, Filter, Item, all_positions, is_match, is_miss, matches_item, option_map_or, places, is_unmatched, unmatched_positions}
+use Rattle.kt_suite.proofs.Common.{append_assoc, list_any, filter, Filter, Item, all_positions, is_match, is_miss, matches_item, option_map_or, passing_positions, is_unmatched, unmatched_positions}
 
 -- `is_unmatched_at items filters place`: the filter at the position `place` in the list `filters`
 -- matches none of the items `items`.
@@ -27,19 +27,19 @@ next_place n k = omega arith
 
 -- Appending a position that passes leaves the final positions unchanged.
 pub place_taken : (test : Item → Bool) (n : ℕ) (items : List Item) (item : Item) (after : List Item) (old new all : List ℕ) → items ≡ item ∷ after → true ≡ test item → new ≡ old ++ n ∷ []
-    → old ++ places test n items ≡ all → new ++ places test (n + 1) after ≡ all
+    → old ++ passing_positions test n items ≡ all → new ++ passing_positions test (n + 1) after ≡ all
 place_taken test n items item after old new all e t h w = rw (h, append_assoc) (rw (e, ← t) at w)
 
 -- Skipping a position that does not pass leaves the final positions unchanged.
 pub place_passed : (test : Item → Bool) (n : ℕ) (items : List Item) (item : Item) (after : List Item) (old new all : List ℕ) → items ≡ item ∷ after → false ≡ test item → new ≡ old
-    → old ++ places test n items ≡ all → new ++ places test (n + 1) after ≡ all
+    → old ++ passing_positions test n items ≡ all → new ++ passing_positions test (n + 1) after ≡ all
 place_passed test n items item after old new all e t h w = rw h (rw (e, ← t) at w)
 
 -- ---- the filters that match no item
 
 -- The unmatched filters among the filters from a position on.
 unmatched_from : (items : List Item) (all : List Filter) (n : ℕ) (filters : List Filter) → ((k : ℕ) → slice_get all (n + k) ≡ slice_get filters k)
-    → filter (is_unmatched_at items all) (places (λ f. true) n filters) ≡ places (is_unmatched items) n filters
+    → filter (is_unmatched_at items all) (passing_positions (λ f. true) n filters) ≡ passing_positions (is_unmatched items) n filters
 unmatched_from items all n [] at = refl
 unmatched_from items all n (f ∷ rest) at =
     let same : n ≡ n + 0 = omega arith in

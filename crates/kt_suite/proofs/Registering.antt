@@ -1,18 +1,18 @@
 -- The root is read, and the counted marks decide the result.
 use Rattle.std.proofs.Common.{Result, Ok, Err, ◌≡◌, ◌≤◌, ◌+◌, ℕ, List, [], ◌∷◌, ◌++◌, length, arith, refl, sym, subst, ap, ◌⊎◌, inl, inr}
-use Rattle.kt_suite.proofs.Common.{append-nil, SuiteFault, Program, Registry, Asked, LeadsByCalls, Site, Mark, File, Includes, end, entered, TreeGives, program_limit, Outcome, calls_in, files_in, programs_in, DecidesNothing, Decides, Unfinished, Registered, all, stopped, AddsMarks, LoadsMarks, through, stops, short, FileGives}
+use Rattle.kt_suite.proofs.Common.{append-nil, SuiteFault, Program, Registry, Asked, LeadsByCalls, Site, Mark, File, Includes, end, entered, HasTreeMarks, program_limit, LoadResult, calls_in, files_in, programs_in, DecidesNothing, Decides, Unfinished, Registered, all, stopped, AddsMarks, LoadsMarks, through, stops, short, HasFileMarks}
 use Rattle.kt_suite.proofs.Counting.{totals}
 use Rattle.kt_suite.proofs.Unfolding.{unfolds_to}
 
 -- `root_counted`: the registry before the root is read: no file is open, and only the root is
 -- counted.
 abbrev pub root_counted : Registry
-root_counted = record { reading = []; files = 1; programs = [] }
+root_counted = record { open_kyuafiles = []; files = 1; programs = [] }
 
 abbrev pub root_site : List ℕ → Site
 root_site root = record { file = root; line = 0 }
 
-tree_gives : (root : List ℕ) (marks : List Mark) → FileGives [] root marks → TreeGives root (File (root_site root) ∷ marks)
+tree_gives : (root : List ℕ) (marks : List Mark) → HasFileMarks [] root marks → HasTreeMarks root (File (root_site root) ∷ marks)
 tree_gives root marks g =
     unfolds_to [] (Includes (root_site root) root ∷ []) (File (root_site root) ∷ (marks ++ [])) (File (root_site root) ∷ marks) (ap (λ (ms : List Mark). File (root_site root) ∷ ms) (append-nil marks))
     (entered [] (root_site root) root g.parts marks [] [] refl g.says g.unfolds (end []))
@@ -25,12 +25,12 @@ undecided root after marks c =
     record { faultless = t.faultless; files = omega (arith, t.files, few); programs = omega (arith, ap (λ (ps : List Program). length ps) t.programs, little) }
 
 -- `answered result`: the programs of the registry `result`, or its error.
-abbrev pub answered : Result Registry SuiteFault → Outcome
+abbrev pub answered : Result Registry SuiteFault → LoadResult
 answered (Ok r) = Ok r.programs
 answered (Err fault) = Err fault
 
 module _ {T : Type 0} (asks : T → Asked → T → Type 0) where
-  registered_root : (old new : T) (root : List ℕ) (result : Result Registry SuiteFault) → LoadsMarks asks old new (FileGives [] root) root_counted result
+  registered_root : (old new : T) (root : List ℕ) (result : Result Registry SuiteFault) → LoadsMarks asks old new (HasFileMarks [] root) root_counted result
       → LeadsByCalls asks old new (λ asked. Registered asked root (answered result) ⊎ Unfinished asked root (answered result))
   registered_root old new root _ (through marks after g c k) =
       let r : Registered (calls_in marks) root (Ok (programs_in marks)) = all (File (root_site root) ∷ marks) (tree_gives root marks g) (undecided root after marks k) refl in
@@ -64,10 +64,10 @@ module _ {T : Type 0} (asks : T → Asked → T → Type 0) where
       } in
       record { asked = calls_in front ++ more; chain = c; holds = inr begins }
 
-  pub registered : (old new : T) (root : List ℕ) (start : Registry) (result : Result Registry SuiteFault) → start ≡ root_counted → LoadsMarks asks old new (FileGives start.reading root) start result
+  pub registered : (old new : T) (root : List ℕ) (start : Registry) (result : Result Registry SuiteFault) → start ≡ root_counted → LoadsMarks asks old new (HasFileMarks start.open_kyuafiles root) start result
       → LeadsByCalls asks old new (λ asked. Registered asked root (answered result) ⊎ Unfinished asked root (answered result))
-  registered old new root start result e w = registered_root old new root result (subst (λ (s : Registry). LoadsMarks asks old new (FileGives s.reading root) s result) e w)
+  registered old new root start result e w = registered_root old new root result (subst (λ (s : Registry). LoadsMarks asks old new (HasFileMarks s.open_kyuafiles root) s result) e w)
 
-  pub few_counted : (old new : T) (root : List ℕ) (start : Registry) (r : Registry) → start ≡ root_counted → LoadsMarks asks old new (FileGives start.reading root) start (Ok r) → length r.programs ≤ program_limit
+  pub few_counted : (old new : T) (root : List ℕ) (start : Registry) (r : Registry) → start ≡ root_counted → LoadsMarks asks old new (HasFileMarks start.open_kyuafiles root) start (Ok r) → length r.programs ≤ program_limit
   few_counted old new root start r e (through marks _ g c k) =
       let p = ap (λ (s : Registry). length s.programs) e in (totals start r marks k).few_programs (omega (arith, p))

@@ -1,6 +1,6 @@
 -- A tree that does not change has one result.
 use Rattle.std.proofs.Common.{Option, Some, None, Ok, Err, ◌≡◌, ◌≤◌, ◌<◌, ◌+◌, ℕ, List, [], ◌∷◌, ◌++◌, length, arith, refl, sym, subst, ap, ◌∙◌}
-use Rattle.kt_suite.proofs.Common.{Contains, Contains-push, Contains-append_left, Contains-append_right, SuiteFault, Program, Asked, IsSameCall, HasStableResults, Site, Mark, CallMark, File, ProgramMark, Fault, TreeGives, file_limit, program_limit, Outcome, calls_in, files_in, programs_in, faults_in, Decides, is_fault, file_too_many, program_too_many, Registered, all, stopped}
+use Rattle.kt_suite.proofs.Common.{Contains, Contains-push, Contains-append_left, Contains-append_right, SuiteFault, Program, Asked, IsSameCall, HasStableResults, Site, Mark, CallMark, File, ProgramMark, Fault, HasTreeMarks, file_limit, program_limit, LoadResult, calls_in, files_in, programs_in, faults_in, Decides, is_fault, file_too_many, program_too_many, Registered, all, stopped}
 use Rattle.kt_suite.proofs.Agreement.{Agree, both_end, same_mark, both_ask, trees_agree}
 
 -- `Cut files programs marks asked listed fault`: up to the mark that decides, the marks `marks`
@@ -13,7 +13,7 @@ data Cut : ℕ → ℕ → List Mark → List Asked → List Program → Option 
   c_listed : (n k : ℕ) (at : Site) (p : Program) (ms : List Mark) (qs : List Asked) (ps : List Program) (f : Option SuiteFault) → k < program_limit → Cut n (k + 1) ms qs ps f → Cut n k (ProgramMark at p ∷ ms) qs (p ∷ ps) f
   c_stop : (n k : ℕ) (m : Mark) (ms : List Mark) (fault : SuiteFault) → Decides n k m fault → Cut n k (m ∷ ms) [] [] (Some fault)
 
-abbrev pub outcome_of : List Program → Option SuiteFault → Outcome
+abbrev pub outcome_of : List Program → Option SuiteFault → LoadResult
 outcome_of ps None = Ok ps
 outcome_of ps (Some fault) = Err fault
 
@@ -87,10 +87,10 @@ cut_front n k (Fault x ∷ ms) back m fault u v a b e f p d = absurd (cc)
 
 -- `Comes asked root result`: the result `result` and the calls `asked` are those of the marks of
 -- the tree with the root Kyuafile `root`, up to the mark that decides.
-data Comes (asked : List Asked) (root : List ℕ) : Outcome → Type 0 where
-  comes : (ms : List Mark) (ps : List Program) (f : Option SuiteFault) → TreeGives root ms → Cut 0 0 ms asked ps f → Comes asked root (outcome_of ps f)
+data Comes (asked : List Asked) (root : List ℕ) : LoadResult → Type 0 where
+  comes : (ms : List Mark) (ps : List Program) (f : Option SuiteFault) → HasTreeMarks root ms → Cut 0 0 ms asked ps f → Comes asked root (outcome_of ps f)
 
-comes_from : (asked : List Asked) (root : List ℕ) (x : Outcome) → Registered asked root x → Comes asked root x
+comes_from : (asked : List Asked) (root : List ℕ) (x : LoadResult) → Registered asked root x → Comes asked root x
 comes_from asked root _ (all ms g u e) =
     let f = u.files in
     let p = u.programs in
@@ -99,14 +99,14 @@ comes_from asked root _ (stopped front back m fault g u d e) =
     let c = cut_front 0 0 front back m fault (files_in front) (length (programs_in front)) (omega arith) (omega arith) u.faultless u.files u.programs d in
     comes (front ++ m ∷ back) c.0 (Some fault) g (subst (λ (qs : List Asked). Cut 0 0 (front ++ m ∷ back) qs c.0 (Some fault)) (sym e) c.1)
 
-one_end : (first second : List Asked) (root : List ℕ) (x y : Outcome) → Alike first second → Comes first root x → Comes second root y → x ≡ y
+one_end : (first second : List Asked) (root : List ℕ) (x y : LoadResult) → Alike first second → Comes first root x → Comes second root y → x ≡ y
 one_end first second root _ _ s (comes ms ps f g c) (comes ns os h i d) =
     let e = cuts_same 0 0 ms ns first second ps os f h (trees_agree root ms ns g i) s c d in
     ap (λ (z : List Program). outcome_of z f) e.0 ∙ ap (λ (z : Option SuiteFault). outcome_of os z) e.1
 
-pub one_meaning_twice : (first second : List Asked) (root : List ℕ) (x y : Outcome) → HasStableResults (first ++ second) → Registered first root x → Registered second root y → x ≡ y
+pub one_meaning_twice : (first second : List Asked) (root : List ℕ) (x y : LoadResult) → HasStableResults (first ++ second) → Registered first root x → Registered second root y → x ≡ y
 one_meaning_twice first second root x y s h k =
     one_end first second root x y (alike_sure first second (λ p q i j e. s p q (Contains-append_left first second p i) (Contains-append_right first second q j) e)) (comes_from first root x h) (comes_from second root y k)
 
-pub one_meaning : (asked : List Asked) (root : List ℕ) (x y : Outcome) → Registered asked root x → Registered asked root y → x ≡ y
+pub one_meaning : (asked : List Asked) (root : List ℕ) (x y : LoadResult) → Registered asked root x → Registered asked root y → x ≡ y
 one_meaning asked root x y h k = one_end asked asked root x y (alike_same asked) (comes_from asked root x h) (comes_from asked root y k)

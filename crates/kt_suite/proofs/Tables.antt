@@ -1,6 +1,6 @@
 -- A table with one more definition.
 use Rattle.std.proofs.Common.{codes, cond, Option, Some, None, Result, Ok, if◌then◌else◌, ◌≡◌, ℕ, Bool, true, false, List, [], ◌∷◌, ◌++◌, bytes_eq, refl, sym, ap, ◌∙◌, subst}
-use Rattle.kt_suite.proofs.Common.{filter, option_or, append-nil, filter-append, Variable, Pair, text_of, SuiteCause, ProgramTable, key_named, props_with, with_props, table_with, definition, is_property, value_cause, key_fault, pair_fault, table_of, cause_or_value}
+use Rattle.kt_suite.proofs.Common.{filter, option_or, append-nil, filter-append, Variable, Pair, text_of, SuiteCause, ProgramTable, key_named, props_with, with_props, table_with, definition, is_property, value_cause, key_cause, pair_cause, table_of, cause_or_value}
 use Rattle.kt_base.specs.LastValues.{value_of, last_values}
 use Rattle.kt_base.proofs.Names.{same, same-flip, value_of-append}
 use Rattle.kt_metadata.specs.Properties.{is_kyuafile_property, definition_fault}
@@ -67,8 +67,8 @@ push_property before pair k =
     (properties-append before (pair ∷ []) ∙ ap (λ (ps : List Variable). filter is_property before ++ ps) (one_kept is_property pair k.2))
 
 -- A pair changes the table by the kind of its key.
-by_key : (before : List Variable) (pair : Variable) (k : KeyKind) (table : ProgramTable) → k ≡ key_named pair.name → table_of (before ++ pair ∷ []) ≡ table → cause_or_value (key_fault k pair) table ≡ table_with before pair
-by_key before pair k table e t = ap (λ (x : KeyKind). cause_or_value (key_fault x pair) table) e ∙ ap (λ (x : ProgramTable). cause_or_value (pair_fault pair) x) (sym t)
+by_key : (before : List Variable) (pair : Variable) (k : KeyKind) (table : ProgramTable) → k ≡ key_named pair.name → table_of (before ++ pair ∷ []) ≡ table → cause_or_value (key_cause k pair) table ≡ table_with before pair
+by_key before pair k table e t = ap (λ (x : KeyKind). cause_or_value (key_cause x pair) table) e ∙ ap (λ (x : ProgramTable). cause_or_value (pair_cause pair) x) (sym t)
 
 pub takes_name : (before : List Variable) (pair : Pair) (found : ProgramTable) (text : List ℕ) → key.Name ≡ key_named pair.name → text ≡ text_of pair.value → found ≡ table_of before
     → ◌≡◌ {A = Result ProgramTable SuiteCause} (Ok (record found { name = Some text })) (table_with before (definition pair))

@@ -1,7 +1,7 @@
 -- The walk of one part of a tree after another.
 use Rattle.std.proofs.Common.{Result, Ok, Err, ◌≡◌, ℕ, List, ◌∷◌, ◌++◌, sym, subst}
 use Rattle.kt_suite.proofs.Common.{append_assoc, SuiteFault, Registry, Asked, Mark, LoadsMarks, through, stops, short}
-use Rattle.kt_suite.proofs.Counting.{counted-append, counted-reading, totals, chain_of_marks, chain_then, next-append}
+use Rattle.kt_suite.proofs.Counting.{counted-append, counted-open_kyuafiles, totals, chain_of_marks, chain_then, next-append}
 
 module _ {S : Type 0} {leads : S → Asked → S → Type 0} where
   -- Walking a part and then another part is walking both.
@@ -25,17 +25,17 @@ module _ {S : Type 0} {leads : S → Asked → S → Type 0} where
 
   -- A walk that ended early does not depend on later marks or on the open files.
   pub walked-enough : {old new : S} {G B : List Mark → Type 0} {r : Registry} {files : List (List ℕ)} {fault : SuiteFault}
-      → LoadsMarks leads old new G (record r { reading = files }) (Err fault) → ((a : List Mark) → G a → (b : List Mark) × B (a ++ b))
+      → LoadsMarks leads old new G (record r { open_kyuafiles = files }) (Err fault) → ((a : List Mark) → G a → (b : List Mark) × B (a ++ b))
       → LoadsMarks leads old new B r (Err fault)
   walked-enough {B = B} {r = r} {files = files} (stops front back mark last fault g c k d) more =
       let w = more (front ++ mark ∷ back) g in
-      stops front (back ++ w.0) mark (record last { reading = r.reading }) fault (subst B (append_assoc front (mark ∷ back) w.0) w.1) c
-      (counted-reading (record r { reading = files }) last front r.reading k) d
+      stops front (back ++ w.0) mark (record last { open_kyuafiles = r.open_kyuafiles }) fault (subst B (append_assoc front (mark ∷ back) w.0) w.1) c
+      (counted-open_kyuafiles (record r { open_kyuafiles = files }) last front r.open_kyuafiles k) d
   walked-enough {B = B} {r = r} {files = files} (short front back asked last fault g l c k n) more =
       let w = more (front ++ back) g in
-      short front (back ++ w.0) asked (record last { reading = r.reading }) fault (subst B (append_assoc front back w.0) w.1) (next-append back w.0 asked l) c
-      (counted-reading (record r { reading = files }) last front r.reading k) n
+      short front (back ++ w.0) asked (record last { open_kyuafiles = r.open_kyuafiles }) fault (subst B (append_assoc front back w.0) w.1) (next-append back w.0 asked l) c
+      (counted-open_kyuafiles (record r { open_kyuafiles = files }) last front r.open_kyuafiles k) n
 
   -- A walk leaves the open files unchanged.
-  pub walked-reading : {old new : S} {G : List Mark → Type 0} {r after : Registry} → LoadsMarks leads old new G r (Ok after) → after.reading ≡ r.reading
-  walked-reading {r = r} (through marks after g c k) = (totals r after marks k).reading
+  pub walked-open_kyuafiles : {old new : S} {G : List Mark → Type 0} {r after : Registry} → LoadsMarks leads old new G r (Ok after) → after.open_kyuafiles ≡ r.open_kyuafiles
+  walked-open_kyuafiles {r = r} (through marks after g c k) = (totals r after marks k).open_kyuafiles

@@ -1,6 +1,6 @@
 -- The calls of a Kyuafile and the keys of its tables, by their names.
 use Rattle.std.specs.Prelude.{ℕ, List, [], ◌∷◌, codes, bytes_eq, if◌then◌else◌, unwrap_or}
-use Rattle.kt_base.specs.Words.{named}
+use Rattle.kt_base.specs.Words.{value_of_keyword}
 use Rattle.kt_base.specs.declared.child.Interface.TheVariants.{Atf, Tap, Plain}
 use Rattle.kt_metadata.specs.Properties.{is_kyuafile_property}
 use Rattle.kt_suite.specs.declared.call.Call.{Call}
@@ -21,7 +21,7 @@ calls =
 -- `call_named name`: the kind of a call of the function `name`, or `Unknown` if Kyuafiles have no
 -- such function.
 abbrev pub call_named : List ℕ → Call
-call_named name = unwrap_or (named calls name) call.Unknown
+call_named name = unwrap_or (value_of_keyword calls name) call.Unknown
 
 -- `key_named name`: the kind of the key `name` in the table of a call that registers a program. It
 -- is `Unknown` if such a table may not have this key.

@@ -6,14 +6,14 @@ use Rattle.kt_suite.specs.declared.filter.FilterFault.TheVariants.{NoMemory, Emp
 use Rattle.kt_base.specs.Characters.{is_slash}
 use Rattle.kt_base.specs.Texts.{is_empty, before, after}
 
--- `counts component`: the path component `component` is neither empty nor `.`, so `normalized_path`
+-- `is_kept_component component`: the path component `component` is neither empty nor `.`, so `normalized_path`
 -- keeps it.
-abbrev pub counts : List ℕ → Bool
-counts component = not (is_empty component) && not (bytes_eq component (codes "."))
+abbrev pub is_kept_component : List ℕ → Bool
+is_kept_component component = not (is_empty component) && not (bytes_eq component (codes "."))
 
 -- `components path`: the components of the path `path`, without those that are empty or `.`.
 abbrev pub components : List ℕ → List (List ℕ)
-components path = filter counts (slice_split is_slash path)
+components path = filter is_kept_component (slice_split is_slash path)
 
 -- `normalized_path path`: the path `path` without the components that are empty or `.`. A slash
 -- (47) separates the other components.
@@ -33,30 +33,30 @@ abbrev pub parts_fault : List ℕ → Option (List ℕ) → Option FilterFault
 parts_fault [] case_name = Some Empty
 parts_fault (c ∷ path) case_name = if c == 47 then Some Absolute else case_fault case_name
 
--- `Meaning`: a filter, or the error of a text that isn't a filter.
-abbrev pub Meaning : Type 0
-Meaning = Result Filter FilterFault
+-- `FilterResult`: a filter, or the error of a text that isn't a filter.
+abbrev pub FilterResult : Type 0
+FilterResult = Result Filter FilterFault
 
 -- `filter_of path case_name`: the filter with the path `path` and the optional case `case_name`, or
 -- the error `Empty` if `path` is empty.
-abbrev pub filter_of : List ℕ → Option (List ℕ) → Meaning
+abbrev pub filter_of : List ℕ → Option (List ℕ) → FilterResult
 filter_of [] case_name = Err Empty
 filter_of (c ∷ path) case_name = Ok (record { program = c ∷ path; case_name = case_name })
 
 -- `fault_or_meaning fault meaning`: the error `fault` if it is present, otherwise the meaning
 -- `meaning` of a filter's text.
-abbrev pub fault_or_meaning : Option FilterFault → Meaning → Meaning
+abbrev pub fault_or_meaning : Option FilterFault → FilterResult → FilterResult
 fault_or_meaning None meaning = meaning
 fault_or_meaning (Some fault) meaning = Err fault
 
 -- `filter_meaning text`: the filter that `text` represents, or its first error. The first colon
 -- (58) separates the path from the case.
-abbrev pub filter_meaning : List ℕ → Meaning
+abbrev pub filter_meaning : List ℕ → FilterResult
 filter_meaning text =
     fault_or_meaning (parts_fault (before 58 text) (after 58 text)) (filter_of (normalized_path (before 58 text)) (after 58 text))
 
--- `Answers result meaning`: `result` is the result of parsing a filter's text that has the meaning
+-- `IsFilterResult result meaning`: `result` is the result of parsing a filter's text that has the meaning
 -- `meaning`. It is this meaning, or the error of a failed allocation.
-abbrev pub Answers : Result Filter FilterFault → Meaning → Type 0
-Answers (Err (NoMemory refusal)) meaning = Unit {0}
-Answers found meaning = found ≡ meaning
+abbrev pub IsFilterResult : Result Filter FilterFault → FilterResult → Type 0
+IsFilterResult (Err (NoMemory refusal)) meaning = Unit {0}
+IsFilterResult found meaning = found ≡ meaning

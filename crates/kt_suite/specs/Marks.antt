@@ -6,7 +6,7 @@ use Rattle.kt_script.specs.Spelling.{Spells, HasFault}
 use Rattle.kt_suite.specs.declared.meaning.Meaning.TheVariants as meaning
 use Rattle.kt_suite.specs.Answers.{Asked, Read, Exists}
 use Rattle.kt_suite.specs.Faults.{fault_at, read_fault, script_line}
-use Rattle.kt_suite.specs.Meanings.{meaning_of, opening_fault}
+use Rattle.kt_suite.specs.Meanings.{meaning_of, opening_cause}
 use Rattle.kt_suite.specs.Paths.{sibling_of}
 
 -- `depth_limit`: the maximum number of Kyuafiles that are open at once, each included by the file
@@ -61,37 +61,37 @@ abbrev pub suite_after : Option (List ℕ) → Meaning → Option (List ℕ)
 suite_after suite (meaning.Suite name) = Some name
 suite_after suite other = suite
 
--- `StatementsGive file suite stmts parts`: `parts` are the marks and includes of the statements
+-- `HaveStatementParts file suite stmts parts`: `parts` are the marks and includes of the statements
 -- `stmts` of the file `file`. `suite` is the test suite that the file has set before these
 -- statements, if any. The calls among `parts` may have any results.
-pub data StatementsGive (file : List ℕ) : Option (List ℕ) → List Stmt → List Part → Type 0 where
-  none : (suite : Option (List ℕ)) → StatementsGive file suite [] []
+pub data HaveStatementParts (file : List ℕ) : Option (List ℕ) → List Stmt → List Part → Type 0 where
+  none : (suite : Option (List ℕ)) → HaveStatementParts file suite [] []
   one : (suite : Option (List ℕ)) (stmt : Stmt) (rest : List Stmt) (there : Bool) (parts : List Part)
-      → StatementsGive file (suite_after suite (meaning_of suite stmt.action)) rest parts
-      → StatementsGive file suite (stmt ∷ rest)
+      → HaveStatementParts file (suite_after suite (meaning_of suite stmt.action)) rest parts
+      → HaveStatementParts file suite (stmt ∷ rest)
       (statement_parts (record { file = file; line = stmt.line }) there (meaning_of suite stmt.action) ++ parts)
 
--- `FileGivesParts file parts`: `parts` are the marks and includes of reading the file `file`,
+-- `HasFileParts file parts`: `parts` are the marks and includes of reading the file `file`,
 -- without the marks of the included files. The calls among `parts` may have any results.
-pub data FileGivesParts (file : List ℕ) : List Part → Type 0 where
+pub data HasFileParts (file : List ℕ) : List Part → Type 0 where
   fault_of_read : (why : ReadFault)
-      → FileGivesParts file (OneMark (CallMark (Read file (Err why))) ∷ OneMark (Fault (read_fault file why)) ∷ [])
+      → HasFileParts file (OneMark (CallMark (Read file (Err why))) ∷ OneMark (Fault (read_fault file why)) ∷ [])
   no_script : (text : List ℕ) (why : ScriptFault) → HasFault text why
-      → FileGivesParts file (OneMark (CallMark (Read file (Ok text))) ∷ OneMark (Fault (fault_at file (script_line why) (Script why))) ∷ [])
+      → HasFileParts file (OneMark (CallMark (Read file (Ok text))) ∷ OneMark (Fault (fault_at file (script_line why) (Script why))) ∷ [])
   no_statement : (text : List ℕ) → Spells text []
-      → FileGivesParts file (OneMark (CallMark (Read file (Ok text))) ∷ OneMark (Fault (fault_at file 1 NoSyntax)) ∷ [])
+      → HasFileParts file (OneMark (CallMark (Read file (Ok text))) ∷ OneMark (Fault (fault_at file 1 NoSyntax)) ∷ [])
   unopened : (text : List ℕ) (first : Stmt) (rest : List Stmt) (cause : SuiteCause)
-      → Spells text (first ∷ rest) → opening_fault first.action ≡ Some cause
-      → FileGivesParts file (OneMark (CallMark (Read file (Ok text))) ∷ OneMark (Fault (fault_at file first.line cause)) ∷ [])
+      → Spells text (first ∷ rest) → opening_cause first.action ≡ Some cause
+      → HasFileParts file (OneMark (CallMark (Read file (Ok text))) ∷ OneMark (Fault (fault_at file first.line cause)) ∷ [])
   opened : (text : List ℕ) (first : Stmt) (rest : List Stmt) (parts : List Part)
-      → Spells text (first ∷ rest) → opening_fault first.action ≡ None → StatementsGive file None rest parts
-      → FileGivesParts file (OneMark (CallMark (Read file (Ok text))) ∷ parts)
+      → Spells text (first ∷ rest) → opening_cause first.action ≡ None → HaveStatementParts file None rest parts
+      → HasFileParts file (OneMark (CallMark (Read file (Ok text))) ∷ parts)
 
--- `include_fault files path`: the cause of the error if the file `path` is included while the files
+-- `include_cause files path`: the cause of the error if the file `path` is included while the files
 -- `files` are open. It is `IncludeLoop` if `path` is one of `files`, otherwise `TooDeep` if 32
 -- files are open. It is `None` if the file may be included.
-abbrev pub include_fault : List (List ℕ) → List ℕ → Option SuiteCause
-include_fault files path =
+abbrev pub include_cause : List (List ℕ) → List ℕ → Option SuiteCause
+include_cause files path =
     if list_any (bytes_eq path) files then Some IncludeLoop
     else if nat_le depth_limit (length files) then Some TooDeep else None
 
@@ -104,14 +104,14 @@ pub data Unfolds : List (List ℕ) → List Part → List Mark → Type 0 where
   says : (files : List (List ℕ)) (mark : Mark) (parts : List Part) (marks : List Mark)
       → Unfolds files parts marks → Unfolds files (OneMark mark ∷ parts) (mark ∷ marks)
   refused : (files : List (List ℕ)) (at : Site) (path : List ℕ) (cause : SuiteCause) (parts : List Part) (marks : List Mark)
-      → include_fault files path ≡ Some cause → Unfolds files parts marks
+      → include_cause files path ≡ Some cause → Unfolds files parts marks
       → Unfolds files (Includes at path ∷ parts) (Fault (site_fault at cause) ∷ marks)
   entered : (files : List (List ℕ)) (at : Site) (path : List ℕ) (own : List Part) (inner : List Mark)
       (parts : List Part) (marks : List Mark)
-      → include_fault files path ≡ None → FileGivesParts path own → Unfolds (files ++ path ∷ []) own inner → Unfolds files parts marks
+      → include_cause files path ≡ None → HasFileParts path own → Unfolds (files ++ path ∷ []) own inner → Unfolds files parts marks
       → Unfolds files (Includes at path ∷ parts) (File at ∷ (inner ++ marks))
 
--- `TreeGives root marks`: `marks` are the marks of reading the tree with the root Kyuafile `root`.
+-- `HasTreeMarks root marks`: `marks` are the marks of reading the tree with the root Kyuafile `root`.
 -- The calls among `marks` may have any results.
-abbrev pub TreeGives : List ℕ → List Mark → Type 0
-TreeGives root marks = Unfolds [] (Includes (record { file = root; line = 0 }) root ∷ []) marks
+abbrev pub HasTreeMarks : List ℕ → List Mark → Type 0
+HasTreeMarks root marks = Unfolds [] (Includes (record { file = root; line = 0 }) root ∷ []) marks

@@ -16,23 +16,23 @@ use Rattle.kt_suite.specs.Tables.{declared}
 use Rattle.kt_suite.specs.Paths.{has_directory, is_plain_relative}
 use Rattle.kt_base.specs.Texts.{is_empty}
 
--- `version_fault arg`: the cause of the error in a call of `syntax` with the argument `arg`, or
+-- `version_cause arg`: the cause of the error in a call of `syntax` with the argument `arg`, or
 -- `None` if `arg` is the number 2.
-abbrev pub version_fault : Arg → Option SuiteCause
-version_fault (Value (Number n)) = if n == 2 then None else Some (WrongSyntax n)
-version_fault other = Some BadValue
+abbrev pub version_cause : Arg → Option SuiteCause
+version_cause (Value (Number n)) = if n == 2 then None else Some (WrongSyntax n)
+version_cause other = Some BadValue
 
--- `first_call_fault call arg`: the cause of the error if a file's first statement is a call of the
+-- `first_call_cause call arg`: the cause of the error if a file's first statement is a call of the
 -- kind `call` with the argument `arg`. It is `None` for `syntax(2)`.
-abbrev pub first_call_fault : CallKind → Arg → Option SuiteCause
-first_call_fault call.Syntax arg = version_fault arg
-first_call_fault other arg = Some NoSyntax
+abbrev pub first_call_cause : CallKind → Arg → Option SuiteCause
+first_call_cause call.Syntax arg = version_cause arg
+first_call_cause other arg = Some NoSyntax
 
--- `opening_fault action`: the cause of the error if the first statement of a file has the action
+-- `opening_cause action`: the cause of the error if the first statement of a file has the action
 -- `action`, or `None` for `syntax(2)`.
-abbrev pub opening_fault : Action → Option SuiteCause
-opening_fault (Call name arg) = first_call_fault (call_named name) arg
-opening_fault (Assign parts value) = Some NoSyntax
+abbrev pub opening_cause : Action → Option SuiteCause
+opening_cause (Call name arg) = first_call_cause (call_named name) arg
+opening_cause (Assign parts value) = Some NoSyntax
 
 -- `suite_meaning arg`: the meaning of a call of `test_suite` with the argument `arg`. It is the
 -- error `BadValue` if `arg` is a table or has an empty text.
@@ -51,14 +51,14 @@ program_with_suite interface name file (Some own) props =
 program_with_suite interface name (Some suite) None props = meaning.Program interface name suite props
 program_with_suite interface name None None props = meaning.Wrong NoSuite
 
--- `named interface file own props name`: the meaning of a table that declares a program with the
+-- `named_table_meaning interface file own props name`: the meaning of a table that declares a program with the
 -- interface `interface`, the properties `props` and the optional name `name`. `own` is the test
 -- suite that the table sets, and `file` is the test suite that the Kyuafile sets, if any. The
 -- meaning is an error if the name is absent or empty, contains a slash, or is `.` or `..`.
 -- Otherwise, `program_with_suite` defines the meaning.
-abbrev pub named : Interface → Option (List ℕ) → Option (List ℕ) → List Variable → Option (List ℕ) → Meaning
-named interface file own props None = meaning.Wrong BadValue
-named interface file own props (Some name) =
+abbrev pub named_table_meaning : Interface → Option (List ℕ) → Option (List ℕ) → List Variable → Option (List ℕ) → Meaning
+named_table_meaning interface file own props None = meaning.Wrong BadValue
+named_table_meaning interface file own props (Some name) =
     if is_empty name then meaning.Wrong BadValue
     else if has_directory name then meaning.Wrong PathHasDirectory
     else program_with_suite interface name file own props
@@ -68,7 +68,7 @@ named interface file own props (Some name) =
 -- error. `file` is the test suite that the Kyuafile sets before the call, if any.
 abbrev pub declared_meaning : Interface → Option (List ℕ) → Result ProgramTable SuiteCause → Meaning
 declared_meaning interface file (Err cause) = meaning.Wrong cause
-declared_meaning interface file (Ok table) = named interface file table.suite table.props table.name
+declared_meaning interface file (Ok table) = named_table_meaning interface file table.suite table.props table.name
 
 -- `program_meaning interface file arg`: the meaning of a call with the argument `arg` that
 -- registers a program with the interface `interface`. `file` is the test suite that the Kyuafile

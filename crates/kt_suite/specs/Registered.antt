@@ -3,7 +3,7 @@ use Rattle.std.specs.Prelude.{ℕ, List, [], ◌∷◌, ◌++◌, ◌≡◌, ◌
 use Rattle.kt_suite.specs.Types.{Program, SuiteFault, TooMany}
 use Rattle.kt_suite.specs.Answers.{Asked, IsSameCall}
 use Rattle.kt_suite.specs.Faults.{IsNoMemory}
-use Rattle.kt_suite.specs.Marks.{Site, site_fault, Mark, CallMark, File, ProgramMark, Fault, TreeGives}
+use Rattle.kt_suite.specs.Marks.{Site, site_fault, Mark, CallMark, File, ProgramMark, Fault, HasTreeMarks}
 
 -- `file_limit`: the maximum number of Kyuafiles that are read for a tree. A file that is read twice
 -- counts twice.
@@ -14,9 +14,9 @@ file_limit = 10000
 abbrev pub program_limit : ℕ
 program_limit = 10000
 
--- `Outcome`: the result of loading a tree: its programs in order, or its first error.
-abbrev pub Outcome : Type 0
-Outcome = Result (List Program) SuiteFault
+-- `LoadResult`: the result of loading a tree: its programs in order, or its first error.
+abbrev pub LoadResult : Type 0
+LoadResult = Result (List Program) SuiteFault
 
 -- `calls_in marks`: the calls of functions of `Tree` among the marks `marks`, with their results,
 -- in order.
@@ -62,11 +62,11 @@ pub data Decides (files programs : ℕ) : Mark → SuiteFault → Type 0 where
 -- `Registered asked root result`: loading the tree with the root Kyuafile `root` has the result
 -- `result`. `asked` are the calls of the tree's functions before the mark that decides the result,
 -- or all calls if no mark decides.
-pub data Registered (asked : List Asked) (root : List ℕ) : Outcome → Type 0 where
-  all : (marks : List Mark) → TreeGives root marks → DecidesNothing marks → asked ≡ calls_in marks
+pub data Registered (asked : List Asked) (root : List ℕ) : LoadResult → Type 0 where
+  all : (marks : List Mark) → HasTreeMarks root marks → DecidesNothing marks → asked ≡ calls_in marks
       → Registered asked root (Ok (programs_in marks))
   stopped : (front back : List Mark) (mark : Mark) (fault : SuiteFault)
-      → TreeGives root (front ++ mark ∷ back) → DecidesNothing front
+      → HasTreeMarks root (front ++ mark ∷ back) → DecidesNothing front
       → Decides (files_in front) (length (programs_in front)) mark fault → asked ≡ calls_in front
       → Registered asked root (Err fault)
 
@@ -81,14 +81,14 @@ pub data IsAtMostNextCall : List Mark → List Asked → Type 0 where
 -- `outcome`, the error of a failed allocation. The allocation failed before a mark decided the
 -- result. `asked` are the calls of the tree's functions before this failure. The last of them may
 -- have any result.
-pub record Unfinished (asked : List Asked) (root : List ℕ) (outcome : Outcome) : Type 0 where
+pub record Unfinished (asked : List Asked) (root : List ℕ) (outcome : LoadResult) : Type 0 where
   pub fault : SuiteFault
   pub no_memory : IsNoMemory fault
   pub refused : outcome ≡ Err fault
   pub front : List Mark
   pub back : List Mark
   pub more : List Asked
-  pub gives : TreeGives root (front ++ back)
+  pub gives : HasTreeMarks root (front ++ back)
   pub undecided : DecidesNothing front
   pub next : IsAtMostNextCall back more
   pub is : asked ≡ calls_in front ++ more

@@ -8,11 +8,11 @@ use Rattle.kt_suite.specs.Matching.{matches}
 abbrev pub item_limit : ℕ
 item_limit = 100000
 
--- `places test n xs`: the positions of the elements of the list `xs` that pass the test `test`,
+-- `passing_positions test n xs`: the positions of the elements of the list `xs` that pass the test `test`,
 -- ascending. The first element has the position `n`.
-abbrev pub places : {A : Type 0} → (A → Bool) → ℕ → List A → List ℕ
-places test n [] = []
-places test n (x ∷ xs) = if test x then n ∷ places test (n + 1) xs else places test (n + 1) xs
+abbrev pub passing_positions : {A : Type 0} → (A → Bool) → ℕ → List A → List ℕ
+passing_positions test n [] = []
+passing_positions test n (x ∷ xs) = if test x then n ∷ passing_positions test (n + 1) xs else passing_positions test (n + 1) xs
 
 -- `matches_item item filter`: the filter `filter` matches the test case `item`.
 abbrev pub matches_item : Item → Filter → Bool
@@ -27,7 +27,7 @@ is_selected (filter ∷ filters) item = list_any (matches_item item) (filter ∷
 -- `selected_positions items filters`: the positions of the items in the list `items` that the
 -- filters `filters` select, ascending, from 0.
 abbrev pub selected_positions : List Item → List Filter → List ℕ
-selected_positions items filters = places (is_selected filters) 0 items
+selected_positions items filters = passing_positions (is_selected filters) 0 items
 
 -- `is_unmatched items filter`: the filter `filter` matches none of the test cases `items`.
 abbrev pub is_unmatched : List Item → Filter → Bool
@@ -36,4 +36,4 @@ is_unmatched items filter = not (list_any (λ item. matches_item item filter) it
 -- `unmatched_positions items filters`: the positions of the filters in the list `filters` that
 -- match none of the items `items`, ascending, from 0.
 abbrev pub unmatched_positions : List Item → List Filter → List ℕ
-unmatched_positions items filters = places (is_unmatched items) 0 filters
+unmatched_positions items filters = passing_positions (is_unmatched items) 0 filters

@@ -31,25 +31,25 @@ abbrev pub value_cause : Option PropFault → Option SuiteCause
 value_cause None = None
 value_cause (Some fault) = Some BadValue
 
--- `key_fault key pair`: the cause of the error in the pair `pair`, whose key is of the kind `key`.
+-- `key_cause key pair`: the cause of the error in the pair `pair`, whose key is of the kind `key`.
 -- It is `UnknownProperty` for an unknown key, `BadValue` for a bad value of a property, and
 -- otherwise `None`.
-abbrev pub key_fault : KeyKind → Variable → Option SuiteCause
-key_fault key.Name pair = None
-key_fault key.TestSuite pair = None
-key_fault key.Property pair = value_cause (definition_fault pair.name pair.value)
-key_fault key.Unknown pair = Some UnknownProperty
+abbrev pub key_cause : KeyKind → Variable → Option SuiteCause
+key_cause key.Name pair = None
+key_cause key.TestSuite pair = None
+key_cause key.Property pair = value_cause (definition_fault pair.name pair.value)
+key_cause key.Unknown pair = Some UnknownProperty
 
--- `pair_fault pair`: the cause of the error in the pair `pair`, if any: an unknown key, or a bad
+-- `pair_cause pair`: the cause of the error in the pair `pair`, if any: an unknown key, or a bad
 -- value of a property.
-abbrev pub pair_fault : Variable → Option SuiteCause
-pair_fault pair = key_fault (key_named pair.name) pair
+abbrev pub pair_cause : Variable → Option SuiteCause
+pair_cause pair = key_cause (key_named pair.name) pair
 
--- `first_fault pairs`: the cause of the error in the first invalid pair of `pairs`, or `None` if
+-- `first_invalid_pair_cause pairs`: the cause of the error in the first invalid pair of `pairs`, or `None` if
 -- all pairs are valid.
-abbrev pub first_fault : List Variable → Option SuiteCause
-first_fault [] = None
-first_fault (pair ∷ pairs) = option_or (pair_fault pair) (first_fault pairs)
+abbrev pub first_invalid_pair_cause : List Variable → Option SuiteCause
+first_invalid_pair_cause [] = None
+first_invalid_pair_cause (pair ∷ pairs) = option_or (pair_cause pair) (first_invalid_pair_cause pairs)
 
 -- `table_of pairs`: the table that the pairs `pairs` declare: the last name, the last test suite,
 -- and the last value of each property.
@@ -69,4 +69,4 @@ cause_or_value (Some cause) there = Err cause
 -- `declared pairs`: the table that the pairs `pairs` declare, or the cause of the error in the
 -- first invalid pair.
 abbrev pub declared : List Pair → Result ProgramTable SuiteCause
-declared pairs = cause_or_value (first_fault (definitions pairs)) (table_of (definitions pairs))
+declared pairs = cause_or_value (first_invalid_pair_cause (definitions pairs)) (table_of (definitions pairs))

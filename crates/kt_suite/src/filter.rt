@@ -1,6 +1,6 @@
 ghost use Rattle.std.specs.Prelude.{◌≡◌, ◌↔◌, IsTrue, IfOk, OnOk};
 ghost use Rattle.kt_suite.specs.Inner.Steps.{path_and_component, with_component};
-ghost use Rattle.kt_suite.specs.Filters.{counts, normalized_path, case_fault, parts_fault};
+ghost use Rattle.kt_suite.specs.Filters.{is_kept_component, normalized_path, case_fault, parts_fault};
 ghost use Rattle.kt_suite.specs.declared.filter.FilterFault.TheVariants as fault;
 
 use crate::within::is_within;
@@ -67,7 +67,7 @@ pub struct Filter {
 }
 
 impl Filter {
-    ghost use Rattle.kt_suite.specs.Common.{filter_meaning, Answers, matches, MayMatch};
+    ghost use Rattle.kt_suite.specs.Common.{filter_meaning, IsFilterResult, matches, MayMatch};
 
     /// Parses `text` as a filter: `PROGRAM` or `PROGRAM:CASE` (kyua(1)).
     ///
@@ -81,7 +81,7 @@ impl Filter {
     /// - `EmptyCase`: nothing follows the first colon.
     /// - `NoMemory`: an allocation fails.
     pub fn parse(alloc: Global, text: &Text) -> Result<Filter, FilterFault>
-        ensures { Answers result (filter_meaning text.now) }
+        ensures { IsFilterResult result (filter_meaning text.now) }
     {
         let (path, case_name) = text.split_at_first(':')?;
         if let Some(fault) = parts_fault(&path, &case_name) {
@@ -145,7 +145,7 @@ fn parts_fault(path: &Text, case_name: &Option<Text>) -> Option<FilterFault>
 /// Returns `true` if the path component `component` is neither empty nor `.`.
 #[tactic(auto, unfolding(crate::proofs::Common::chars))]
 fn is_kept_component(component: &Text) -> bool
-    ensures { result ≡ counts component.now }
+    ensures { result ≡ is_kept_component component.now }
 {
     !component.is_empty() && !component.is_equal_to(".")
 }

@@ -1,5 +1,5 @@
 ghost use Rattle.std.specs.Prelude.{◌≡◌, ◌⊎◌, ◌≤◌, ◌-◌, ◌++◌, [], ◌∷◌, List, ℕ, length, IfOk};
-ghost use Rattle.kt_suite.specs.Common.{LeadsByCalls, Asked, HasStableResults, program_limit, Unfinished, Registered, Outcome, LoadsMarks, FileGives, Script, IsParseFault, fault_at, read_fault, script_line, IsNoMemory, ChecksOpening, OpensFile};
+ghost use Rattle.kt_suite.specs.Common.{LeadsByCalls, Asked, HasStableResults, program_limit, Unfinished, Registered, LoadResult, LoadsMarks, HasFileMarks, Script, IsParseFault, fault_at, read_fault, script_line, IsNoMemory, ChecksOpening, OpensFile};
 
 use crate::fault::{fault_at, fault_of_allocation};
 use crate::registry::{LoadStep, Registry};
@@ -86,10 +86,10 @@ pub fn parse_kyuafile<T: Tree>(
 /// Appends the path `file` to the open files of `registry`, and returns the registry.
 fn push_open_file(registry: Registry, file: &Text) -> Result<Registry, NoMemory>
     ensures { IfOk result (λ next. next
-        ≡ (record registry { reading = registry.reading ++ file.now ∷ [] })) }
+        ≡ (record registry { open_kyuafiles = registry.open_kyuafiles ++ file.now ∷ [] })) }
 {
     let mut registry = registry;
-    registry.reading.push(file.copy()?)?;
+    registry.open_kyuafiles.push(file.copy()?)?;
     Ok(registry)
 }
 
@@ -103,7 +103,7 @@ fn load_file<T: Tree>(
     registry: Registry,
     file: &Text,
 ) -> Result<Registry, SuiteFault>
-    ensures { LoadsMarks T.asks tree.old tree.new (FileGives registry.reading file.now)
+    ensures { LoadsMarks T.asks tree.old tree.new (HasFileMarks registry.open_kyuafiles file.now)
         registry result }
 {
     let stmts = match parse_kyuafile(alloc, tree, file) {
@@ -156,7 +156,7 @@ pub fn load<T: Tree>(alloc: Global, tree: &mut T, root: &Text) -> Result<Items<P
     ensures few { IfOk result (λ programs. length programs ≤ program_limit) }
 {
     let registry = Registry {
-        reading: Items::new(alloc),
+        open_kyuafiles: Items::new(alloc),
         files: 1,
         programs: Items::new(alloc),
     };
@@ -170,11 +170,11 @@ pub fn load<T: Tree>(alloc: Global, tree: &mut T, root: &Text) -> Result<Items<P
 ///
 /// The tree is unchanged if equal calls of its functions have equal results.
 pub fn theorem_of_reloading()
-    ensures steady { (first second : List Asked) (root : List ℕ) (r s : Outcome)
+    ensures steady { (first second : List Asked) (root : List ℕ) (r s : LoadResult)
         → HasStableResults (first ++ second) → Registered first root r → Registered second root s
         → r ≡ s }
 
     // The same calls with the same results give one result, whether or not the tree changed.
-    ensures decided { (asked : List Asked) (root : List ℕ) (r s : Outcome)
+    ensures decided { (asked : List Asked) (root : List ℕ) (r s : LoadResult)
         → Registered asked root r → Registered asked root s → r ≡ s }
 {}

@@ -8,7 +8,7 @@ use kt_base::{Items, Text};
 pub struct Registry {
     /// The paths of the open Kyuafiles, whose statements are not all executed: the root first, then
     /// each file after the file that includes it.
-    pub reading: Items<Text>,
+    pub open_kyuafiles: Items<Text>,
     /// The number of Kyuafiles counted so far, the root included, at most 10,000. A file is counted
     /// before it is read. A file that is read twice counts twice.
     pub files: usize,
@@ -20,7 +20,7 @@ pub struct Registry {
 impl Drop for Registry {
     fn drop(self) {
         let Registry {
-            reading: _,
+            open_kyuafiles: _,
             files: _,
             programs: _,
         } = self;
@@ -33,7 +33,7 @@ impl Registry {
         ensures { result ≡ self.programs }
     {
         let Registry {
-            reading: _,
+            open_kyuafiles: _,
             files: _,
             programs,
         } = self;
@@ -44,17 +44,17 @@ impl Registry {
     ///
     /// All statements of this file were executed.
     pub fn close_last_file(self) -> Registry
-        ensures { result ≡ (record self { reading = take (length self.reading - 1) self.reading }) }
+        ensures { result ≡ (record self { open_kyuafiles = take (length self.open_kyuafiles - 1) self.open_kyuafiles }) }
     {
         let Registry {
-            reading,
+            open_kyuafiles,
             files,
             programs,
         } = self;
-        let mut open = reading.into_vec();
+        let mut open = open_kyuafiles.into_vec();
         let _ = open.pop();
         Registry {
-            reading: Items::from_vec(open),
+            open_kyuafiles: Items::from_vec(open),
             files,
             programs,
         }

@@ -1,5 +1,5 @@
 ghost use Rattle.std.specs.Prelude.{◌≡◌, IfOk};
-ghost use Rattle.kt_suite.specs.Meanings.{opening_fault, suite_meaning, include_meaning, meaning_of};
+ghost use Rattle.kt_suite.specs.Meanings.{opening_cause, suite_meaning, include_meaning, meaning_of};
 
 use crate::SuiteCause;
 use crate::call::{Call, call_kind};
@@ -14,7 +14,7 @@ use std::alloc::Global;
 ///
 /// Returns `None` if `action` is the call `syntax(2)`.
 pub fn first_statement_cause(action: &Action) -> Option<SuiteCause>
-    ensures { result ≡ opening_fault action.now }
+    ensures { result ≡ opening_cause action.now }
 {
     let Action::Call(name, arg) = action else {
         return Some(SuiteCause::NoSyntax);

@@ -1,5 +1,5 @@
 ghost use Rattle.std.specs.Prelude.{◌≡◌, Err, IfErr, IfOk, OnOk};
-ghost use Rattle.kt_suite.specs.Common.{list_any, bytes_eq, sibling_of, include_fault, meaning_of, suite_after, RegistersProgram, EntersFile, Enters, StepsTo};
+ghost use Rattle.kt_suite.specs.Common.{list_any, bytes_eq, sibling_of, include_cause, meaning_of, suite_after, RegistersProgram, EntersInclude, CountsInclude, StepsTo};
 
 use crate::fault::{fault_at, fault_of_allocation};
 use crate::meaning::Meaning;
@@ -32,7 +32,7 @@ fn contains_path(files: &[Text], path: &Text) -> bool
 ///
 /// Returns `None` if the file may be included.
 fn include_cause(files: &[Text], path: &Text) -> Option<SuiteCause>
-    ensures { result ≡ include_fault files.now path.now }
+    ensures { result ≡ include_cause files.now path.now }
 {
     if contains_path(files, path) {
         Some(SuiteCause::IncludeLoop)
@@ -54,9 +54,9 @@ fn count_include(
     registry: Registry,
     path: &Text,
 ) -> Result<Registry, SuiteFault>
-    ensures { Enters (record { file = file.now; line = line }) registry path.now result }
+    ensures { CountsInclude (record { file = file.now; line = line }) registry path.now result }
 {
-    if let Some(cause) = include_cause(registry.reading.as_slice(), path) {
+    if let Some(cause) = include_cause(registry.open_kyuafiles.as_slice(), path) {
         return Err(fault_at(file, alloc, line, cause));
     }
     if registry.files >= FILE_LIMIT {
@@ -80,9 +80,9 @@ fn include_step(
     registry: Registry,
     name: &Text,
 ) -> Result<LoadStep, SuiteFault>
-    ensures ok { IfOk result (λ step. EntersFile (record { file = file.now; line = line })
+    ensures ok { IfOk result (λ step. EntersInclude (record { file = file.now; line = line })
         registry (sibling_of file.now name.now) step) }
-    ensures err { IfErr result (λ fault. Enters (record { file = file.now; line = line })
+    ensures err { IfErr result (λ fault. CountsInclude (record { file = file.now; line = line })
         registry (sibling_of file.now name.now) (Err fault)) }
 {
     match sibling_path(alloc, file, name) {

@@ -63,7 +63,7 @@ impl Drop for ProgramTable {
 }
 
 impl ProgramTable {
-    ghost use Rattle.kt_suite.specs.Meanings.{named};
+    ghost use Rattle.kt_suite.specs.Meanings.{named_table_meaning};
 
     /// Returns the meaning of the table: the program that it declares, or the cause of its error.
     ///
@@ -71,7 +71,7 @@ impl ProgramTable {
     /// for programs without their own, if any.
     fn meaning(self, interface: Interface, file: &Option<Text>) -> Result<Meaning, NoMemory>
         ensures { IfOk result (λ meaning. meaning
-            ≡ named interface file.now self.suite self.props self.name) }
+            ≡ named_table_meaning interface file.now self.suite self.props self.name) }
     {
         let ProgramTable { name, suite, props } = self;
         let Some(name) = name else {

@@ -7,11 +7,11 @@ use Rattle.kt_base.specs.Lines.{lines}
 use Rattle.kt_base.specs.Texts.{is_empty}
 use Rattle.kt_atflist.specs.BlockLines.{line_ident, is_case_name, line_key, line_value}
 use Rattle.kt_atflist.specs.Blocks.{is_listed, has_property, empty_case, with_property, is_valid_property}
-use Rattle.kt_atflist.specs.Spelling.{Outcome, header, fault_at}
+use Rattle.kt_atflist.specs.CaseList.{ParseResult, header, fault_at}
 use Rattle.kt_atflist.specs.declared.listing.CaseDef.{CaseDef}
 use Rattle.kt_atflist.specs.declared.list_fault.ListCause.{ListCause}
 use Rattle.kt_atflist.specs.declared.list_fault.ListCause.TheVariants.{BadHeader, BadLine, NoIdent, RepeatedKey, RepeatedIdent, UnknownKey, BadValue, EmptyList, NotUtf8}
-use Rattle.kt_atflist.specs.Read.{Read}
+use Rattle.kt_atflist.specs.ReaderState.{ReaderState}
 use Rattle.kt_atflist.specs.declared.reading.ListStep.{ListStep}
 use Rattle.kt_atflist.specs.declared.reading.ListStep.TheVariants.{NextState, FaultyLine}
 
@@ -90,7 +90,7 @@ step_from cases (Some block) line = later_line_step cases block line
 
 -- `step_of r line`: the result of reading `line` in the reader's state `r`: the next state, or the
 -- cause of the line's fault.
-abbrev pub step_of : Read → List ℕ → ListStep
+abbrev pub step_of : ReaderState → List ℕ → ListStep
 step_of r line = step_from r.cases r.block line
 
 -- `cases_with_block cases block`: the cases `cases` of finished blocks, followed by the case of the
@@ -100,43 +100,43 @@ cases_with_block cases None = cases
 cases_with_block cases (Some block) = cases ++ block ∷ []
 
 -- `cases_at_end r`: the test cases of a list that ends in the state `r` of its reader.
-abbrev pub cases_at_end : Read → List CaseDef
+abbrev pub cases_at_end : ReaderState → List CaseDef
 cases_at_end r = cases_with_block r.cases r.block
 
 -- `result_after_step n step more`: the result of parsing a list: its cases, or its first fault.
 -- `step` is the result of reading line `n`. The function `more` maps the reader's state after line
 -- `n` to the result of parsing.
-abbrev pub result_after_step : ℕ → ListStep → (Read → Outcome) → Outcome
+abbrev pub result_after_step : ℕ → ListStep → (ReaderState → ParseResult) → ParseResult
 result_after_step n (FaultyLine cause) more = Err (fault_at cause n)
 result_after_step n (NextState r) more = more r
 
 -- `read_rest n r lines`: the cases of a list, or its first fault. `r` is the reader's state before
 -- line `n`, and `lines` are the lines from line `n` on.
-abbrev pub read_rest : ℕ → Read → List (List ℕ) → Outcome
+abbrev pub read_rest : ℕ → ReaderState → List (List ℕ) → ParseResult
 read_rest n r [] = Ok (cases_at_end r)
 read_rest n r (line ∷ rest) = result_after_step n (step_of r line) (λ next. read_rest (n + 1) next rest)
 
 -- `initial_state`: the state of the reader before the first block of a list: no case and no block.
-abbrev pub initial_state : Read
+abbrev pub initial_state : ReaderState
 initial_state = record { cases = []; block = None }
 
 -- `read_blocks lines`: the cases of a list, or its first fault. `lines` are the lines from line 3
 -- on. Lines 1 and 2 are valid.
-abbrev pub read_blocks : List (List ℕ) → Outcome
+abbrev pub read_blocks : List (List ℕ) → ParseResult
 read_blocks [] = Err (fault_at EmptyList 3)
 read_blocks (line ∷ rest) = read_rest 3 initial_state (line ∷ rest)
 
 -- `read_from_line_2 lines`: the cases of a list, or its first fault. `lines` are the lines from
 -- line 2 on, and line 1 is valid.
-abbrev pub read_from_line_2 : List (List ℕ) → Outcome
+abbrev pub read_from_line_2 : List (List ℕ) → ParseResult
 read_from_line_2 [] = Err (fault_at BadHeader 2)
 read_from_line_2 (line ∷ rest) = if is_empty line then read_blocks rest else Err (fault_at BadHeader 2)
 
 -- `read_lines lines`: the cases of the list with the lines `lines`, or its first fault.
-abbrev pub read_lines : List (List ℕ) → Outcome
+abbrev pub read_lines : List (List ℕ) → ParseResult
 read_lines [] = Err (fault_at BadHeader 1)
 read_lines (line ∷ rest) = if bytes_eq line header then read_from_line_2 rest else Err (fault_at BadHeader 1)
 
 -- `read_list text`: the cases of the list with the bytes `text`, or its first fault.
-abbrev pub read_list : List ℕ → Outcome
+abbrev pub read_list : List ℕ → ParseResult
 read_list text = if is_utf8 text then read_lines (lines text) else Err (fault_at NotUtf8 0)

@@ -23,16 +23,16 @@ cases_of children = map (λ k. k.case) children
 abbrev pub launcher_child : CaseAttempt → Shown
 launcher_child c = record { interface = c.interface; cleanup = c.cleanup }
 
--- `launcher_child_at cases k r`: the child (`launcher_child`) of the first case in `cases` that has
+-- `find_launcher_child cases k r`: the child (`launcher_child`) of the first case in `cases` that has
 -- the position `k` and the role `r`. It is `None` if there is no such case.
-abbrev pub launcher_child_at : List CaseAttempt → ℕ → Role → Option Shown
-launcher_child_at [] k r = None
-launcher_child_at (c ∷ cases) k r = if k == c.position && is_same_role r c.role then Some (launcher_child c) else launcher_child_at cases k r
+abbrev pub find_launcher_child : List CaseAttempt → ℕ → Role → Option Shown
+find_launcher_child [] k r = None
+find_launcher_child (c ∷ cases) k r = if k == c.position && is_same_role r c.role then Some (launcher_child c) else find_launcher_child cases k r
 
 -- `launcher_child_in b k r`: the running child (`launcher_child`) in the state `b` whose case has
 -- the position `k` and the role `r`. It is `None` if there is no such child.
 abbrev pub launcher_child_in : ChildrenState → ℕ → Role → Option Shown
-launcher_child_in b = launcher_child_at (cases_of b.children)
+launcher_child_in b = find_launcher_child (cases_of b.children)
 
 -- `is_among cases k`: a case in `cases` has the position `k`.
 abbrev pub is_among : List CaseAttempt → ℕ → Bool

@@ -17,11 +17,11 @@ program_path source program = source ++ codes "/" ++ program
 abbrev pub program_directory : List ℕ → List ℕ
 program_directory path = if is_empty (parent_of path) then codes "/" else parent_of path
 
--- `limit_of job role`: the timeout of the child of `job` in `role`, in seconds. It is 60 for a
+-- `child_timeout_seconds job role`: the timeout of the child of `job` in `role`, in seconds. It is 60 for a
 -- cleanup.
-abbrev pub limit_of : Job → Role → ℕ
-limit_of job Body = job.timeout
-limit_of job Cleanup = 60
+abbrev pub child_timeout_seconds : Job → Role → ℕ
+child_timeout_seconds job Body = job.timeout
+child_timeout_seconds job Cleanup = 60
 
 -- `ChildPurpose`: the purpose for which a child is started, with its program, variables, case name
 -- and timeout in seconds.
@@ -40,7 +40,7 @@ want_of Cleanup = CleanupOf
 -- `job_purpose job role`: the purpose of `job`'s child in `role`.
 abbrev pub job_purpose : Job → Role → ChildPurpose
 job_purpose job role =
-    record { want = want_of role; program = job.program; variables = job.vars; case_name = job.case_name; limit = limit_of job role }
+    record { want = want_of role; program = job.program; variables = job.vars; case_name = job.case_name; limit = child_timeout_seconds job role }
 
 -- `list_purpose program variables`: the purpose of a child that lists the cases of `program`, with
 -- the suite's `variables` and a timeout of 300 seconds.

@@ -8,7 +8,7 @@ use Rattle.kt_os.specs.System.Calls.{Call, ReadFile, RemoveTree}
 use Rattle.kt_child.specs.Driving.DriverState.{PolledChild, FinishesByPolls, polled_children}
 use Rattle.kt_child.specs.Driving.JobPlan.{list_case, list_purpose, spawn_plan_for}
 use Rattle.kt_child.specs.Driving.Starting.{SpawnsByPlan, new_running_child}
-use Rattle.kt_child.specs.Polling.Turns.{PollsInTurns}
+use Rattle.kt_child.specs.Polling.Rounds.{PollsInRounds}
 use Rattle.kt_child.specs.Ending.Reads.{IsListWithin, list_of}
 
 -- `AwaitsList plan c calls outcome bytes`: `plan` and `c` are the `SpawnPlan` and the case of a
@@ -19,7 +19,7 @@ abbrev pub AwaitsList : SpawnPlan → CaseAttempt → List Call → Outcome → 
 AwaitsList plan c calls outcome bytes =
     (place : ℕ) × (left : List RunningChild) × (polls : List Call) × (read : Result FileRead OsFault) × (done : Bool)
     × (calls ≡ polls ++ ReadFile plan.out 1048576 read ∷ RemoveTree plan.dir done ∷ [])
-    × PollsInTurns (new_running_child plan.limit c ∷ []) polls place outcome left
+    × PollsInRounds (new_running_child plan.limit c ∷ []) polls place outcome left
     × ((after : List PolledChild) × (over : PolledChild) × FinishesByPolls (polled_children (new_running_child plan.limit c ∷ [])) polls after place over outcome)
     × (bytes ≡ list_of read) × IsListWithin bytes
 

@@ -48,7 +48,7 @@ AttemptsDiffer {O} leads =
 -- `numbers b`: the attempt numbers of the cases with a running child or a pending cleanup in the
 -- driver state `b`.
 abbrev pub numbers : DriverState → List ℕ
-numbers b = map (λ a. a.case.attempt) b.alive ++ map (λ c. c.attempt) b.owed
+numbers b = map (λ a. a.case.attempt) b.running_children ++ map (λ c. c.attempt) b.pending_cleanups
 
 -- `HasUniqueNumbers b`: each attempt number occurs at most once among the cases with a running
 -- child or a pending cleanup in the driver state `b`. Each is lower than the number of the next
@@ -56,9 +56,9 @@ numbers b = map (λ a. a.case.attempt) b.alive ++ map (λ c. c.attempt) b.owed
 abbrev pub HasUniqueNumbers : DriverState → Type 0
 HasUniqueNumbers b = (n : ℕ) → (occurrences n (numbers b) ≤ 1) × (b.next ≤ n → occurrences n (numbers b) ≡ 0)
 
--- `NumbersDiffer`: the attempt numbers are unique (`HasUniqueNumbers`) in each driver state that a
+-- `AttemptNumbersAreUnique`: the attempt numbers are unique (`HasUniqueNumbers`) in each driver state that a
 -- trace reaches from a state without children and without pending cleanups.
-abbrev pub NumbersDiffer : Type 0
-NumbersDiffer =
+abbrev pub AttemptNumbersAreUnique : Type 0
+AttemptNumbersAreUnique =
     (plan : List Job) (source root : List ℕ) (next : ℕ) (T : Trace) (calls : List Call) (b : DriverState)
     → Runs plan source root (driver_state_of idle_state next) T calls b → HasUniqueNumbers b

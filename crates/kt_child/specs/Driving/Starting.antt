@@ -99,7 +99,7 @@ Started p calls (RefusedFor cause) = SpawnsByPlan p calls (Err cause)
 -- `new_running_child limit c`: the running child of the case `c` just after its start, with the
 -- timeout `limit` in seconds.
 abbrev pub new_running_child : ℕ → CaseAttempt → RunningChild
-new_running_child limit c = record { case = c; limit = limit; watch = initial_counts }
+new_running_child limit c = record { case = c; limit = limit; counts = initial_counts }
 
 -- `FailsBeforeStart role dir calls answer`: `answer` refuses the start of a child in `role`,
 -- because an allocation failed before the first call of the start. For a cleanup, `calls` remove

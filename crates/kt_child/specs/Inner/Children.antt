@@ -23,7 +23,7 @@ IsRunningWithin limit w = AreRunningCounts limit w × (limit ≤ 1000000)
 
 -- `IsRunningChild k`: the child `k` is running, with a timeout of at most 1,000,000 seconds.
 abbrev pub IsRunningChild : RunningChild → Type 0
-IsRunningChild k = IsRunningWithin k.limit k.watch
+IsRunningChild k = IsRunningWithin k.limit k.counts
 
 -- `TakesBytes has_taken old new bytes`: `new` is the reader `old` after `bytes` were fed to it, in
 -- addition to earlier bytes. `has_taken reader all`: `all` are all bytes that were fed to `reader`.

@@ -6,7 +6,7 @@ use Rattle.kt_os.specs.System.Calls.{Call}
 use Rattle.kt_child.specs.Driving.ChildrenState.{is_among, launcher_child_in}
 use Rattle.kt_child.specs.Driving.DriverSteps.{DriverStarts}
 use Rattle.kt_sched.specs.Children.{pending_after_start, running_after_start}
-use Rattle.kt_sched.specs.Trace.{HasMoment}
+use Rattle.kt_sched.specs.Trace.{HasValidTimestamp}
 
 -- `IsStart leads old job role answer new`: `new` is the driver `old` after a start of `job`'s child
 -- in `role` with the result `answer`. A timestamp in `answer` is before the year 10000. The running
@@ -14,6 +14,6 @@ use Rattle.kt_sched.specs.Trace.{HasMoment}
 -- relation of the system's calls.
 pub record IsStart {O : Type 0} (leads : O → Call → O → Type 0) (old : Driver O) (job : Job) (role : Role) (answer : StartAnswer) (new : Driver O) : Type 0 where
   pub starts : DriverStarts leads old job role answer new
-  pub moment : HasMoment answer
+  pub moment : HasValidTimestamp answer
   pub running : (k : ℕ) (r : Role) → launcher_child_in new.running k r ≡ running_after_start (launcher_child_in old.running) job role answer k r
   pub pending : (k : ℕ) → is_among new.running.pending k ≡ pending_after_start (is_among old.running.pending) job.position role k

@@ -13,10 +13,10 @@ child_of c = record { attempt = c.attempt; role = c.role }
 abbrev pub attempt_dir : List ℕ → ℕ → List ℕ
 attempt_dir root number = root ++ codes "/" ++ decimal number
 
--- `below root number name`: the path of `name` in the directory of the attempt `number` below
+-- `attempt_path root number name`: the path of `name` in the directory of the attempt `number` below
 -- `root`, the root directory of the driver.
-abbrev pub below : List ℕ → ℕ → List ℕ → List ℕ
-below root number name = attempt_dir root number ++ codes "/" ++ name
+abbrev pub attempt_path : List ℕ → ℕ → List ℕ → List ℕ
+attempt_path root number name = attempt_dir root number ++ codes "/" ++ name
 
 -- `paths_of root number`: the paths of the attempt `number` below `root`, the root directory of the
 -- driver.
@@ -24,12 +24,12 @@ abbrev pub paths_of : List ℕ → ℕ → Paths
 paths_of root number =
     record {
       dir = attempt_dir root number;
-      work = below root number (codes "work");
-      result = below root number (codes "result");
-      out = below root number (codes "out");
-      err = below root number (codes "err");
-      cleanup_out = below root number (codes "cleanup.out");
-      cleanup_err = below root number (codes "cleanup.err");
+      work = attempt_path root number (codes "work");
+      result = attempt_path root number (codes "result");
+      out = attempt_path root number (codes "out");
+      err = attempt_path root number (codes "err");
+      cleanup_out = attempt_path root number (codes "cleanup.out");
+      cleanup_err = attempt_path root number (codes "cleanup.err");
     }
 
 -- `variable_argument v`: the argument `-vNAME=VALUE`, which passes the variable `v` to an ATF

@@ -21,34 +21,34 @@ outcome_of Running = None
 outcome_of (PolledExit code) = Some (Exited code)
 outcome_of (PolledSignal signal core) = Some (Signaled signal core)
 
--- `YieldsAfterKill left heard outcome`: a child was killed, and the responses `heard` after the
+-- `YieldsAfterKill left responses outcome`: a child was killed, and the responses `responses` after the
 -- kill give `outcome`. An exit or a signal gives a timeout. A failed poll gives a failed wait, and
 -- so does the `left`-th poll that reports the child as running.
 abbrev pub YieldsAfterKill : ℕ → List ChildResponse → Outcome → Type 0
-YieldsAfterKill left heard outcome =
+YieldsAfterKill left responses outcome =
     ((k : ℕ) × (s : ChildState) × (x : Outcome) × (k < left) × (outcome_of s ≡ Some x)
-    × (heard ≡ replicate k running ++ PollResponse (Ok s) ∷ []) × (outcome ≡ TimedOut))
-    ⊎ ((heard ≡ replicate left running) × (outcome ≡ WaitFailed))
+    × (responses ≡ replicate k running ++ PollResponse (Ok s) ∷ []) × (outcome ≡ TimedOut))
+    ⊎ ((responses ≡ replicate left running) × (outcome ≡ WaitFailed))
     ⊎ ((k : ℕ) × (f : OsFault) × (done : Bool) × (k < left)
-    × (heard ≡ replicate k running ++ PollResponse (Err f) ∷ KillResponse done ∷ []) × (outcome ≡ WaitFailed))
+    × (responses ≡ replicate k running ++ PollResponse (Err f) ∷ KillResponse done ∷ []) × (outcome ≡ WaitFailed))
 
--- `YieldsWithin left heard outcome`: the responses `heard` of a child give `outcome`. An exit or a
+-- `YieldsWithin left responses outcome`: the responses `responses` of a child give `outcome`. An exit or a
 -- signal before a kill is the outcome. After the `left`-th poll that reports the child as running,
 -- it is killed, and the responses after the kill give the outcome. A failed poll or a failed kill
 -- gives a failed wait.
 abbrev pub YieldsWithin : ℕ → List ChildResponse → Outcome → Type 0
-YieldsWithin left heard outcome =
+YieldsWithin left responses outcome =
     ((k : ℕ) × (s : ChildState) × (k < left) × (outcome_of s ≡ Some outcome)
-    × (heard ≡ replicate k running ++ PollResponse (Ok s) ∷ []))
-    ⊎ ((rest : List ChildResponse) × (heard ≡ replicate left running ++ KillResponse true ∷ rest) × YieldsAfterKill 500 rest outcome)
-    ⊎ ((heard ≡ replicate left running ++ KillResponse false ∷ []) × (outcome ≡ WaitFailed))
+    × (responses ≡ replicate k running ++ PollResponse (Ok s) ∷ []))
+    ⊎ ((rest : List ChildResponse) × (responses ≡ replicate left running ++ KillResponse true ∷ rest) × YieldsAfterKill 500 rest outcome)
+    ⊎ ((responses ≡ replicate left running ++ KillResponse false ∷ []) × (outcome ≡ WaitFailed))
     ⊎ ((k : ℕ) × (f : OsFault) × (done : Bool) × (k < left)
-    × (heard ≡ replicate k running ++ PollResponse (Err f) ∷ KillResponse done ∷ []) × (outcome ≡ WaitFailed))
+    × (responses ≡ replicate k running ++ PollResponse (Err f) ∷ KillResponse done ∷ []) × (outcome ≡ WaitFailed))
 
--- `Yields limit heard outcome`: the responses `heard` of a child with the timeout `limit`, in
+-- `Yields limit responses outcome`: the responses `responses` of a child with the timeout `limit`, in
 -- seconds, give `outcome` (`YieldsWithin`). The timeout is reached after 100 polls for each second.
 abbrev pub Yields : ℕ → List ChildResponse → Outcome → Type 0
-Yields limit heard outcome = YieldsWithin (100 * limit) heard outcome
+Yields limit responses outcome = YieldsWithin (100 * limit) responses outcome
 
 -- `initial_counts`: the poll counts of a child that has just started and was not polled yet.
 abbrev pub initial_counts : PollCounts

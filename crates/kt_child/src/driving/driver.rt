@@ -126,7 +126,7 @@ impl<O: Os + Drop> Launcher for Driver<O> {
 
 impl<O: Os + Drop> Driver<O> {
     ghost use Rattle.std.specs.Prelude.{◌≡◌, Bool, ℕ, List, MatchResult, Ok, Err};
-    ghost use Rattle.kt_child.specs.Common.{Chain, Call, RemoveTree, CreatesRoot, idle_state, MayStart, running_after_start, HasMoment, IsFit, count_in, StartsByPlan, case_of, limit_of, new_running_child, state_after_start, is_among, launcher_child_in, job_spawn_plan, IsStart};
+    ghost use Rattle.kt_child.specs.Common.{Chain, Call, RemoveTree, CreatesRoot, idle_state, MayStart, running_after_start, HasValidTimestamp, IsStartableJob, count_in, StartsByPlan, case_of, child_timeout_seconds, new_running_child, state_after_start, is_among, launcher_child_in, job_spawn_plan, IsStart};
     ghost use Rattle.kt_base.specs.declared.child.Role.{Role as Part};
 
     /// Creates a driver with a new root directory below the directory `base` (this profile).
@@ -181,17 +181,17 @@ impl<O: Os + Drop> Driver<O> {
     /// Starts the child of the job `job` in the role `role`. `attempt` and `paths` are the number
     /// and the paths of its attempt, which a cleanup shares with its body.
     fn start_attempt(&mut self, job: &Job, role: Role, attempt: u64, paths: Paths) -> StartAnswer
-        requires fit { IsFit job.now }
+        requires fit { IsStartableJob job.now }
         requires free { count_in job.now.position self.old.running ≡ 0 }
         ensures begun { (calls : List Call) × Chain O.leads self.old.os calls self.new.os
             × StartsByPlan (job_spawn_plan self.old.source job.now (case_of job.now role attempt
             paths))
             calls result }
         ensures state { self.new.running ≡ state_after_start self.old.running
-            (new_running_child (limit_of job.now role) (case_of job.now role attempt paths)) result }
+            (new_running_child (child_timeout_seconds job.now role) (case_of job.now role attempt paths)) result }
         ensures running { (k : ℕ) (r : Part) → launcher_child_in self.new.running k r
             ≡ running_after_start (launcher_child_in self.old.running) job.now role result k r }
-        ensures moment { HasMoment result }
+        ensures moment { HasValidTimestamp result }
         ensures next { self.new.next ≡ self.old.next }
         ensures source { self.new.source ≡ self.old.source }
         ensures root { self.new.root ≡ self.old.root }
@@ -221,7 +221,7 @@ impl<O: Os + Drop> Driver<O> {
     /// Starts the body of a job with the next attempt number. The start is refused if no number is
     /// left.
     pub(crate) fn start_body(&mut self, job: &Job) -> StartAnswer
-        requires fit { IsFit job.now }
+        requires fit { IsStartableJob job.now }
         requires may { MayStart (launcher_child_in self.old.running)
             (is_among self.old.running.pending) job.now.position Role.Body }
         ensures { IsStart O.leads self.old job.now Role.Body result self.new }
@@ -237,7 +237,7 @@ impl<O: Os + Drop> Driver<O> {
 
     /// Starts the pending cleanup of a job, with the attempt number and the paths of its body.
     pub(crate) fn start_cleanup(&mut self, job: &Job) -> StartAnswer
-        requires fit { IsFit job.now }
+        requires fit { IsStartableJob job.now }
         requires may { MayStart (launcher_child_in self.old.running)
             (is_among self.old.running.pending) job.now.position Role.Cleanup }
         ensures { IsStart O.leads self.old job.now Role.Cleanup result self.new }

@@ -1,4 +1,4 @@
-ghost use Rattle.kt_child.specs.Common.{IsIdle, IsPlan, IsWidth, RunsPlan, Trace, Leads, is_among, launcher_child_in, DriverStarts, DriverWaits, AttemptsDiffer, NumbersDiffer, CallsMatchTraces, RunsFrom, driver_state};
+ghost use Rattle.kt_child.specs.Common.{IsIdle, IsPlan, IsWidth, RunsPlan, Trace, Leads, is_among, launcher_child_in, DriverStarts, DriverWaits, AttemptsDiffer, AttemptNumbersAreUnique, CallsMatchTraces, RunsFrom, driver_state};
 
 use crate::Driver;
 use kt_base::Items;
@@ -48,7 +48,7 @@ pub fn theorem_of_numbers<O: Os + Drop>()
 /// have different attempt numbers. The premise is that the driver began without children and
 /// without pending cleanups.
 pub fn theorem_of_names()
-    ensures { NumbersDiffer }
+    ensures { AttemptNumbersAreUnique }
 {}
 
 /// Theorem: over a trace, the calls of a driver to the system are exactly those of the starts and

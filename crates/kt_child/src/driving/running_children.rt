@@ -121,7 +121,7 @@ pub(crate) fn refuse_start<O: Os>(
 
 impl RunningChildren {
     ghost use Rattle.std.specs.Prelude.{◌≡◌, ◌==◌, ℕ, ◌<◌, List, length, slice_get, remove, Some, true, false, if◌then◌else◌};
-    ghost use Rattle.kt_child.specs.Common.{IsEvidence, running_after_end, pending_after_end, IsMoment, HasMoment, Chain, Call, IsRunningChild, count_in, WaitsForEnd, idle_state, is_among, launcher_child_in, StartsByPlan, state_after_start, new_running_child, with_pending, driver_state_of};
+    ghost use Rattle.kt_child.specs.Common.{IsEvidence, running_after_end, pending_after_end, IsMoment, HasValidTimestamp, Chain, Call, IsRunningChild, count_in, WaitsForEnd, idle_state, is_among, launcher_child_in, StartsByPlan, state_after_start, new_running_child, with_pending, driver_state_of};
     ghost use Rattle.kt_sched.specs.Children.{Child as Shown};
 
     /// Creates an empty list of running children and an empty list of pending cleanups. Allocates
@@ -164,7 +164,7 @@ impl RunningChildren {
         requires free { count_in case.position self.old ≡ 0 }
         ensures begun { (calls : List Call) × Chain O.leads os.old calls os.new
             × StartsByPlan plan.now calls result }
-        ensures moment { HasMoment result }
+        ensures moment { HasValidTimestamp result }
         ensures state { self.new
             ≡ state_after_start self.old (new_running_child plan.now.limit case) result }
     {
@@ -198,8 +198,8 @@ impl RunningChildren {
             ≡ pending_after_end (launcher_child_in self.old) (is_among self.old.pending) result k }
     {
         let first = poll_until_finished(os, &mut self.children);
-        let ended = finish_child(alloc, os, &self.children[first.place].case, first.outcome);
-        remove_finished_child(&mut self.children, &mut self.pending, first.place);
+        let ended = finish_child(alloc, os, &self.children[first.index].case, first.outcome);
+        remove_finished_child(&mut self.children, &mut self.pending, first.index);
         ended
     }
 }

@@ -1,5 +1,5 @@
 ghost use Rattle.std.specs.Prelude.{◌≡◌, ◌≤◌, List, IfOk};
-ghost use Rattle.kt_child.specs.Common.{Chain, Call, HasMoment, SpawnsByPlan, SpawnsInExistingDir, SpawnsInNewDir, Started, TakesAttemptNumber, MakesCalls, spawn_calls, new_attempt_calls, new_running_child, refusal_cause, initial_counts, IsFit, IsRunningWithin, limit_of, spawn_plan_for, want_of, args_of, program_directory};
+ghost use Rattle.kt_child.specs.Common.{Chain, Call, HasValidTimestamp, SpawnsByPlan, SpawnsInExistingDir, SpawnsInNewDir, Started, TakesAttemptNumber, MakesCalls, spawn_calls, new_attempt_calls, new_running_child, refusal_cause, initial_counts, IsStartableJob, IsRunningWithin, child_timeout_seconds, spawn_plan_for, want_of, args_of, program_directory};
 
 use crate::ending::ends::{output_paths, remove_dir_if_requested};
 use crate::planning::words::{absolute_path, program_directory};
@@ -26,9 +26,9 @@ pub(crate) fn take_attempt_number(next: &mut u64) -> Option<u64>
 
 /// Returns the purpose of the job's child in the role `role`, and the child's timeout in seconds.
 pub(crate) fn purpose_and_timeout(job: &Job, role: Role) -> (Want, u64)
-    requires { IsFit job.now }
+    requires { IsStartableJob job.now }
     ensures want { result.0 ≡ want_of role }
-    ensures limit { result.1 ≡ limit_of job.now role }
+    ensures limit { result.1 ≡ child_timeout_seconds job.now role }
     ensures some { 1 ≤ result.1 }
     ensures range { result.1 ≤ 1000000 }
 {
@@ -134,12 +134,12 @@ fn refusal_cause(cause: Refused, fault: OsFault) -> Refused
 pub(crate) fn new_running_child(limit: u64, case: CaseAttempt) -> RunningChild
     ensures { result ≡ new_running_child limit case }
 {
-    let watch = PollCounts {
+    let counts = PollCounts {
         before: 0,
         killed: false,
         after: 0,
     };
-    RunningChild { case, limit, watch }
+    RunningChild { case, limit, counts }
 }
 
 /// Creates the two output files of `plan` and spawns its child.
@@ -225,7 +225,7 @@ pub(crate) fn spawn_by_plan<O: Os>(os: &mut O, plan: &SpawnPlan) -> Result<(), R
 pub(crate) fn start_child<O: Os>(os: &mut O, plan: &SpawnPlan) -> StartAnswer
     ensures asked { (calls : List Call) × Chain O.leads os.old calls os.new
         × Started plan.now calls result }
-    ensures moment { HasMoment result }
+    ensures moment { HasValidTimestamp result }
 {
     match spawn_by_plan(os, plan) {
         Ok(()) => StartAnswer::Started(moment(os)),

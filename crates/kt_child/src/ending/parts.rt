@@ -34,9 +34,9 @@ impl PartReader for ClaimReader {
 }
 
 impl PartReader for TapReader {
-    ghost use Rattle.kt_claim.specs.TapReaderState.{HasStream};
+    ghost use Rattle.kt_claim.specs.TapReaderState.{HasReadStream};
 
-    ghost has_taken = { λ reader bytes. HasStream reader bytes };
+    ghost has_taken = { λ reader bytes. HasReadStream reader bytes };
 
     fn feed_next_part(&mut self, part: &[u8]) -> Result<(), NoMemory> {
         self.feed(part)

@@ -1,6 +1,6 @@
 ghost use Rattle.std.specs.Prelude.{◌≡◌, IfOk};
 ghost use Rattle.std.specs.Str.{chars};
-ghost use Rattle.kt_child.specs.Planning.ChildPlan.{below, paths_of};
+ghost use Rattle.kt_child.specs.Planning.ChildPlan.{attempt_path, paths_of};
 
 use kt_base::{NoMemory, Text};
 use kt_removal::numbered_path;
@@ -44,7 +44,7 @@ impl Drop for Paths {
 
 /// Returns `ROOT/NUMBER/NAME`, the path of `name` in the directory of the attempt `number`.
 fn attempt_path(alloc: Global, root: &Text, number: u64, name: &str) -> Result<Text, NoMemory>
-    ensures { IfOk result (λ path. path ≡ below root.now number (chars name.now)) }
+    ensures { IfOk result (λ path. path ≡ attempt_path root.now number (chars name.now)) }
 {
     let mut path = numbered_path(alloc, root, "/", number)?;
     path.push('/')?;
@@ -61,8 +61,8 @@ fn attempt_path_pair(
     first: &str,
     second: &str,
 ) -> Result<(Text, Text), NoMemory>
-    ensures first { IfOk result (λ two. two.0 ≡ below root.now number (chars first.now)) }
-    ensures second { IfOk result (λ two. two.1 ≡ below root.now number (chars second.now)) }
+    ensures first { IfOk result (λ two. two.0 ≡ attempt_path root.now number (chars first.now)) }
+    ensures second { IfOk result (λ two. two.1 ≡ attempt_path root.now number (chars second.now)) }
 {
     let first = attempt_path(alloc, root, number, first)?;
     Ok((first, attempt_path(alloc, root, number, second)?))

@@ -25,7 +25,7 @@ pub(crate) struct RunningChild {
     /// The timeout of the child, in seconds, from 1 to 1,000,000.
     pub limit: u64,
     /// The numbers of polls that reported the child as running, before and after its kill.
-    pub watch: PollCounts,
+    pub counts: PollCounts,
 }
 
 /// A state of a child after a poll.

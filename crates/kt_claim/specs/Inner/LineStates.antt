@@ -2,7 +2,7 @@
 use Rattle.std.specs.Prelude.{◌≡◌, ℕ, Bool, true, false, not, ◌&&◌, if◌then◌else◌, List, [], ◌∷◌, ◌++◌, length, drop, codes, Option, Some, None, is_some, option_map}
 use Rattle.kt_claim.specs.Bytes.{is_blank}
 use Rattle.std.specs.Option.{option_or}
-use Rattle.kt_claim.specs.TapStream.{without_cr, begins, says, without_leading, without_trailing_blanks, is_bail_out, is_word_end, is_test, is_unexcused, Directive, reason_of, directive_at, directive_in, is_plan_end, below_limit, planned_from, reason_of_skip, skip_reason, plan_for, plan}
+use Rattle.kt_claim.specs.TapStream.{without_cr, begins, begins_ignoring_case, without_leading, without_trailing_blanks, is_bail_out, is_word_end, is_test, is_unexcused, Directive, reason_of, directive_at, directive_in, is_plan_end, below_limit, planned_from, reason_of_skip, skip_reason, plan_for, plan}
 use Rattle.kt_claim.specs.declared.open_line.LineProgress.{LineProgress}
 use Rattle.kt_claim.specs.declared.open_line.LineProgress.TheVariants as begun
 use Rattle.kt_claim.specs.declared.open_line.DirectivePrefix.{DirectivePrefix}
@@ -54,20 +54,20 @@ facts_of_kind kind.Test reason = test_facts true false
 facts_of_kind kind.Failure reason = test_facts true true
 facts_of_kind (kind.Plan n) reason = plan_facts (Some (plan_for reason n))
 
--- `after_opening o more`: the `Facts` of a TAP line that consists of the opening `o` and the bytes
+-- `facts_after_opening o more`: the `Facts` of a TAP line that consists of the opening `o` and the bytes
 -- `more`.
-abbrev pub after_opening : Opening → List ℕ → Facts
-after_opening opening.BailOut more = bail_out_facts
-after_opening opening.Ok more = test_facts (is_word_end more) false
-after_opening opening.NotOk more = test_facts (is_word_end more) (is_word_end more && not (is_some (directive_in false more)))
-after_opening opening.Plan more = plan_facts (option_map (plan_for (reason_of_skip (directive_in false more))) (planned_from None more))
+abbrev pub facts_after_opening : Opening → List ℕ → Facts
+facts_after_opening opening.BailOut more = bail_out_facts
+facts_after_opening opening.Ok more = test_facts (is_word_end more) false
+facts_after_opening opening.NotOk more = test_facts (is_word_end more) (is_word_end more && not (is_some (directive_in false more)))
+facts_after_opening opening.Plan more = plan_facts (option_map (plan_for (reason_of_skip (directive_in false more))) (planned_from None more))
 
--- `opened o whole more`: the `Facts` of a TAP line that begins with the opening `o`, followed by
+-- `facts_within_opening o whole more`: the `Facts` of a TAP line that begins with the opening `o`, followed by
 -- the bytes `more`. If `whole` is false, the opening is incomplete, and the line doesn't affect the
 -- result of the stream.
-abbrev pub opened : Opening → Bool → List ℕ → Facts
-opened o false more = no_facts
-opened o true more = after_opening o more
+abbrev pub facts_within_opening : Opening → Bool → List ℕ → Facts
+facts_within_opening o false more = no_facts
+facts_within_opening o true more = facts_after_opening o more
 
 -- `directive_facts purpose found`: the `Facts` of a TAP line in which a directive was looked for.
 -- `found` is the directive, if any was found, and `purpose` is the purpose of the search. For
@@ -96,14 +96,14 @@ is_skip _ = false
 -- `directive_after_letters l more`: the directive that consists of its first letters `l` and then
 -- the bytes `more`, or `None` if they are not a directive.
 abbrev pub directive_after_letters : DirectivePrefix → List ℕ → Option Directive
-directive_after_letters l more = if says (missing_letters l) more then Some (is_skip l, reason_of (drop (length (missing_letters l)) more)) else None
+directive_after_letters l more = if begins_ignoring_case (missing_letters l) more then Some (is_skip l, reason_of (drop (length (missing_letters l)) more)) else None
 
 -- `facts_with begun kept more`: the `Facts` of a TAP line that is in the state `begun` and ends
 -- after `more`, its further bytes. `kept` is the part of a plan's reason that was read before
 -- `more`.
 abbrev pub facts_with : LineProgress → List ℕ → List ℕ → Facts
 facts_with begun.Nothing kept more = facts_of more
-facts_with (begun.PartialOpening o lacks) kept more = opened o (begins lacks.now more) (drop (length lacks.now) more)
+facts_with (begun.PartialOpening o lacks) kept more = facts_within_opening o (begins lacks.now more) (drop (length lacks.now) more)
 facts_with (begun.Digits value) kept more = plan_facts (option_map (plan_for (reason_of_skip (directive_in false more))) (planned_from value more))
 facts_with (begun.Blanks n) kept more =
     plan_facts (option_map (plan_for (reason_of_skip (directive_in false more))) (if is_plan_end (without_leading is_blank more) then below_limit n else None))
@@ -142,31 +142,31 @@ IsEmptyUnless false kept = kept ≡ []
 abbrev pub KeepsIfReason : LineProgress → List ℕ → Type 0
 KeepsIfReason begun kept = IsEmptyUnless (is_reason begun) kept
 
--- `with_held_cr held more`: the bytes `more`, with a carriage return before them if `held` is true.
+-- `with_held_cr held_cr more`: the bytes `more`, with a carriage return before them if `held_cr` is true.
 abbrev pub with_held_cr : Bool → List ℕ → List ℕ
 with_held_cr false more = more
 with_held_cr true more = 13 ∷ more
 
 -- `LineState`: the state of an open line. It has the state of the reader within the line, and the
--- kept bytes of a reason. `held` is true if a carriage return is held back.
+-- kept bytes of a reason. `held_cr` is true if a carriage return is held back.
 pub record LineState : Type 0 where
   pub begun : LineProgress
   pub kept : List ℕ
-  pub held : Bool
+  pub held_cr : Bool
 
--- `IsStateAfter begun kept held came`: after the bytes `came` of a TAP line, the reader is in the
+-- `IsStateAfter begun kept held_cr came`: after the bytes `came` of a TAP line, the reader is in the
 -- state `begun` and keeps the bytes `kept` of a plan's reason. It holds back a carriage return if
--- `held` is true. These three values give the `Facts` of the line for any bytes that follow.
-pub record IsStateAfter (begun : LineProgress) (kept : List ℕ) (held : Bool) (came : List ℕ) : Type 0 where
+-- `held_cr` is true. These three values give the `Facts` of the line for any bytes that follow.
+pub record IsStateAfter (begun : LineProgress) (kept : List ℕ) (held_cr : Bool) (came : List ℕ) : Type 0 where
   pub keeps : KeepsIfReason begun kept
-  pub tells : (more : List ℕ) → facts_of (without_cr (came ++ more)) ≡ facts_with begun kept (without_cr (with_held_cr held more))
+  pub facts : (more : List ℕ) → facts_of (without_cr (came ++ more)) ≡ facts_with begun kept (without_cr (with_held_cr held_cr more))
 
 -- `IsStateMidLine begun kept came`: after the bytes `came` of a TAP line, the reader is in the
 -- state `begun` and keeps the bytes `kept` of a plan's reason. It holds back no carriage return.
 -- These two values give the `Facts` of the line if more bytes follow.
 pub record IsStateMidLine (begun : LineProgress) (kept came : List ℕ) : Type 0 where
   pub keeps : KeepsIfReason begun kept
-  pub tells : (b : ℕ) (more : List ℕ) → facts_of (without_cr (came ++ b ∷ more)) ≡ facts_with begun kept (without_cr (b ∷ more))
+  pub facts : (b : ℕ) (more : List ℕ) → facts_of (without_cr (came ++ b ∷ more)) ≡ facts_with begun kept (without_cr (b ∷ more))
 
 -- `next_letter l`: the letter that follows the first letters `l` of a directive.
 abbrev pub next_letter : DirectivePrefix → ℕ

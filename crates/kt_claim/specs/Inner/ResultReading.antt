@@ -4,7 +4,7 @@ use Rattle.std.specs.List.{prefix_len, starts_with, ends_with, list_any}
 use Rattle.kt_base.specs.Digits.{is_digit, number_up_to}
 use Rattle.kt_base.specs.Lossy.{lossy}
 use Rattle.kt_base.specs.Lines.{is_newline}
-use Rattle.kt_claim.specs.Bytes.{newline, is_keyword_byte, number}
+use Rattle.kt_claim.specs.Bytes.{newline, is_keyword_byte, decimal_value}
 use Rattle.kt_claim.specs.ResultFile.{limit, line}
 use Rattle.kt_claim.specs.declared.evidence.Claim.{Claim}
 use Rattle.kt_claim.specs.declared.evidence.Claim.TheVariants as claim
@@ -66,7 +66,7 @@ number_before_bracket (Some n) (b ∷ rest) = if b == 41 then Some (n, rest) els
 -- greater than 255.
 abbrev pub byte_value : List ℕ → Option ℕ
 byte_value [] = None
-byte_value (d ∷ digits) = number_up_to 255 (number (d ∷ digits))
+byte_value (d ∷ digits) = number_up_to 255 (decimal_value (d ∷ digits))
 
 -- `number_in rest`: the number from 0 to 255 that `rest` begins with, and the bytes after the
 -- closing bracket that follows it. It is `None` without such a number or bracket.

@@ -7,15 +7,15 @@ use Rattle.kt_claim.specs.TapStream.{is_bail_out, is_test, is_unexcused, plan, c
 use Rattle.kt_claim.specs.declared.open_line.OpenLine.{OpenLine}
 use Rattle.kt_claim.specs.declared.tally.Tally.{Tally}
 
--- `one b`: 1 if `b` is true, otherwise 0.
-abbrev pub one : Bool → ℕ
-one true = 1
-one false = 0
+-- `one_if b`: 1 if `b` is true, otherwise 0.
+abbrev pub one_if : Bool → ℕ
+one_if true = 1
+one_if false = 0
 
--- `first list`: the first item of `list`, or `None` if `list` is empty.
-abbrev pub first : {T : Type 0} → List T → Option T
-first [] = None
-first (x ∷ xs) = Some x
+-- `first_item list`: the first item of `list`, or `None` if `list` is empty.
+abbrev pub first_item : {T : Type 0} → List T → Option T
+first_item [] = None
+first_item (x ∷ xs) = Some x
 
 -- `has_second list`: `list` has two items or more.
 abbrev pub has_second : {T : Type 0} → List T → Bool
@@ -26,14 +26,14 @@ has_second _ = false
 -- and the plans before the first bail out, and whether a line bails out.
 pub record IsTally (tally : Tally) (lines : List (List ℕ)) : Type 0 where
   pub bailed : tally.bailed ≡ list_any is_bail_out lines
-  pub planned : tally.plan ≡ first (filter_map plan (lines_before_bail_out lines))
+  pub planned : tally.plan ≡ first_item (filter_map plan (lines_before_bail_out lines))
   pub second : tally.second ≡ has_second (filter_map plan (lines_before_bail_out lines))
   pub tests : tally.tests ≡ count is_test (lines_before_bail_out lines)
   pub failures : tally.failures ≡ count is_unexcused (lines_before_bail_out lines)
 
 -- `state_of line`: the state of the open line `line`, with its kept bytes as a list.
 abbrev pub state_of : OpenLine → LineState
-state_of line = record { begun = line.begun; kept = line.kept.items; held = line.held }
+state_of line = record { begun = line.begun; kept = line.kept.items; held_cr = line.held_cr }
 
 -- `HasLines tally line fed`: the bytes `fed` are complete lines, whose tally is `tally`, followed
 -- by an open line in the state `line`.
@@ -44,7 +44,7 @@ pub record HasLines (tally : Tally) (line : LineState) (fed : List ℕ) : Type 0
   pub one_line : list_any is_newline open_line ≡ false
   pub rest : (more : List ℕ) → lines (fed ++ more) ≡ whole ++ lines (open_line ++ more)
   pub fits : length whole + length open_line ≤ length fed
-  pub known : IsStateAfter line.begun line.kept line.held open_line
+  pub known : IsStateAfter line.begun line.kept line.held_cr open_line
 
 -- `with_plan tally tests reason`: `tally` with one more plan, of `tests` tests with the reason
 -- `reason`. A plan after the first only sets `second`.

@@ -85,7 +85,7 @@ pub fn create_world<M: HostFiles + Drop, O: Os + Drop>(
         Err(refusal) => return Err((DriverFault::NoMemory(refusal), outside)),
     };
     let HostHandles { alloc, machine, os } = outside;
-    let driver = match create_driver(alloc, os, &around.here, work, kyuafile) {
+    let driver = match create_driver(alloc, os, &around.working_dir, work, kyuafile) {
         Ok(driver) => driver,
         Err((fault, os)) => return Err((fault, HostHandles { alloc, machine, os })),
     };

@@ -20,16 +20,16 @@ pair_in entry = record { name = chars (string_bytes entry.0); value = entry.1.te
 abbrev pub pairs_in : {Z : Type 0} → List (String Z × PropertyDefinition) → List Variable
 pairs_in entries = map pair_in entries
 
--- `IsConsistent name it`: the definition `it` of the property `name` has the value that its text
+-- `HasParsedValue name it`: the definition `it` of the property `name` has the value that its text
 -- represents.
-abbrev pub IsConsistent : List ℕ → PropertyDefinition → Type 0
-IsConsistent name it = value_of_text name it.text ≡ Some it.value
+abbrev pub HasParsedValue : List ℕ → PropertyDefinition → Type 0
+HasParsedValue name it = value_of_text name it.text ≡ Some it.value
 
 -- `HaveParsedValues entries`: each definition in `entries` has the value that its text represents.
 -- `entries` are the elements of a layer's map: names of properties, with their definitions.
 abbrev pub HaveParsedValues : {Z : Type 0} → List (String Z × PropertyDefinition) → Type 0
 HaveParsedValues [] = Unit {0}
-HaveParsedValues (entry ∷ entries) = IsConsistent (chars (string_bytes entry.0)) entry.1 × HaveParsedValues entries
+HaveParsedValues (entry ∷ entries) = HasParsedValue (chars (string_bytes entry.0)) entry.1 × HaveParsedValues entries
 
 -- `AreConsistent entries`: each name occurs at most once in `entries`, and each definition has the
 -- value that its text represents. `entries` are the elements of a layer's map: names of properties,

@@ -16,17 +16,17 @@ abbrev pub IsFullRead : ℕ → Result FileRead OsFault → Type 0
 IsFullRead limit (Ok (Part bytes true)) = length bytes ≡ limit
 IsFullRead limit answer = Unit {0}
 
--- `IsMissingByError answer`: if a read with the result `answer` found no file, some I/O error has
+-- `HasNotFoundError answer`: if a read with the result `answer` found no file, some I/O error has
 -- the kind `NotFound`. Nothing ties this error to the calls of the system.
-abbrev pub IsMissingByError : Result FileRead OsFault → Type 0
-IsMissingByError (Ok Missing) = (error : Error) × (error_kind error ≡ NotFound)
-IsMissingByError answer = Unit {0}
+abbrev pub HasNotFoundError : Result FileRead OsFault → Type 0
+HasNotFoundError (Ok Missing) = (error : Error) × (error_kind error ≡ NotFound)
+HasNotFoundError answer = Unit {0}
 
 -- `IsHostRead limit answer`: a read with the result `answer` returns at most `limit` bytes, and
 -- exactly `limit` bytes if more follow in the file. If the result is `Missing`, some I/O error has
 -- the kind `NotFound`. Nothing ties this error to the calls of the system.
 abbrev pub IsHostRead : ℕ → Result FileRead OsFault → Type 0
-IsHostRead limit answer = IsReadWithin limit answer × IsFullRead limit answer × IsMissingByError answer
+IsHostRead limit answer = IsReadWithin limit answer × IsFullRead limit answer × HasNotFoundError answer
 
 -- `IsReadOf limit xs result`: a read of a file whose remaining bytes are `xs` may have the result
 -- `result`: the first `limit` bytes, and whether more follow. The read may fail, but its result is

@@ -7,18 +7,18 @@ use Rattle.std.specs.declared.time.Instant.{Instant}
 use Rattle.kt_os.specs.Types.{Child}
 use Rattle.kt_os.specs.declared.host.host_child.HostChild.{HostChild}
 
--- `IsLate limit answers millis`: a child is polled late if it has only `answers` `Running`
+-- `IsLate limit responses millis`: a child is polled late if it has only `responses` `Running`
 -- responses `millis` milliseconds after its start. At 100 polls a second, it has then missed more
 -- than two polls. After the last poll of its timeout of `limit` seconds, a child is not late.
 abbrev pub IsLate : ℕ → ℕ → ℕ → Type 0
-IsLate limit answers millis = (answers < 100 * limit) × (10 * (answers + 2) < millis)
+IsLate limit responses millis = (responses < 100 * limit) × (10 * (responses + 2) < millis)
 
 -- `IsLateAt now h`: the child `h` is polled late at `now` (`IsLate`). It has a process without a
 -- known end.
 abbrev pub IsLateAt : {P I O E : Type 0} → Instant → HostChild P I O E → Type 0
 IsLateAt now h =
-    (h.seen ≡ false) × IsSome h.process
-    × IsSomeAnd h.pace.started (λ start. IsLate h.pace.limit h.pace.answers ((instant_nanos now - instant_nanos start) / 1000000))
+    (h.end_found ≡ false) × IsSome h.process
+    × IsSomeAnd h.pace.started (λ start. IsLate h.pace.limit h.pace.responses ((instant_nanos now - instant_nanos start) / 1000000))
 
 module _ {P I O E : Type 0} (held : List (Child × HostChild P I O E)) where
   -- `IsAnyLate now`: one of the children `held` is polled late at `now`.

@@ -13,10 +13,10 @@ is_same_role Body Body = true
 is_same_role Cleanup Cleanup = true
 is_same_role one other = false
 
--- `same_child a b`: `true` if the children `a` and `b` have the same attempt number and the same
+-- `is_same_child a b`: `true` if the children `a` and `b` have the same attempt number and the same
 -- role.
-abbrev pub same_child : Child → Child → Bool
-same_child a b = (a.attempt == b.attempt) && is_same_role a.role b.role
+abbrev pub is_same_child : Child → Child → Bool
+is_same_child a b = (a.attempt == b.attempt) && is_same_role a.role b.role
 
 -- `ProcessState`: the state of a child. It is `None` without a process, `Some None` for a process
 -- without a known end, and `Some (Some status)` for a process that ended with `status`.
@@ -32,7 +32,7 @@ module _ {P I O E : Type 0} where
   -- `process_state_in held c`: the state of the child `c` in `held`, the list of the host's
   -- children with their names. A child that is not in the list has no process.
   abbrev pub process_state_in : List (Child × HostChild P I O E) → Child → ProcessState
-  process_state_in held c = option_and_then process_state (lookup (same_child c) held)
+  process_state_in held c = option_and_then process_state (lookup (is_same_child c) held)
 
   -- `IsLastEnd last child status`: `last`, the child whose end was reported last, has the name
   -- `child`, and its process ended with `status`.
@@ -57,4 +57,4 @@ AllStay old new = (c : Child) → new c ≡ old c
 
 -- `OthersStay child old new`: each child but `child` has the same state in `old` and `new`.
 abbrev pub OthersStay : Child → (Child → ProcessState) → (Child → ProcessState) → Type 0
-OthersStay child old new = (c : Child) → same_child child c ≡ false → new c ≡ old c
+OthersStay child old new = (c : Child) → is_same_child child c ≡ false → new c ≡ old c

@@ -30,21 +30,21 @@ IsFaultOf kind (Memory refusal) = kind ≡ OutOfMemory
 abbrev pub queue_path : List ℕ → List ℕ
 queue_path root = root ++ codes "/kyua." ++ decimal 0
 
--- `setting_after_removals names name said`: the setting of the variable `name` in a command, after
--- the variables `names` were removed. `said` is its setting before. A setting is `None` if the
+-- `setting_after_removals names name before`: the setting of the variable `name` in a command, after
+-- the variables `names` were removed. `before` is its setting before. A setting is `None` if the
 -- command does not change the variable, `Some None` if the variable is removed, and else its new
 -- value.
 abbrev pub setting_after_removals : List (List ℕ) → List ℕ → Option (Option (List ℕ)) → Option (Option (List ℕ))
-setting_after_removals [] name said = said
-setting_after_removals (gone ∷ names) name said = setting_after_removals names name (if bytes_eq (utf8 gone) name then Some None else said)
+setting_after_removals [] name before = before
+setting_after_removals (gone ∷ names) name before = setting_after_removals names name (if bytes_eq (utf8 gone) name then Some None else before)
 
--- `setting_after_sets variables name said`: the setting of the variable `name` in a command, after
--- `variables` were set. `said` is its setting before. A setting is `None` if the command does not
+-- `setting_after_sets variables name before`: the setting of the variable `name` in a command, after
+-- `variables` were set. `before` is its setting before. A setting is `None` if the command does not
 -- change the variable, `Some None` if the variable is removed, and else its new value. If a name
 -- occurs twice in `variables`, its last value counts.
 abbrev pub setting_after_sets : List Variable → List ℕ → Option (Option (List ℕ)) → Option (Option (List ℕ))
-setting_after_sets [] name said = said
-setting_after_sets (v ∷ variables) name said = setting_after_sets variables name (if bytes_eq (utf8 v.name) name then Some (Some (utf8 v.value)) else said)
+setting_after_sets [] name before = before
+setting_after_sets (v ∷ variables) name before = setting_after_sets variables name (if bytes_eq (utf8 v.name) name then Some (Some (utf8 v.value)) else before)
 
 -- `IsCommandOf path words env work command`: `command` starts the program `path` with the arguments
 -- `words` in the working directory `work`. Its environment is the runner's with the changes `env`.
@@ -60,18 +60,18 @@ pub record IsCommandOf {A : Type 0} (path : List ℕ) (words : List (List ℕ)) 
 abbrev pub SeeksTo : ℕ → Option ℕ → Option ℕ → Type 0
 SeeksTo from old new = 0 < from → IfSome old (λ position. new ≡ Some from)
 
--- `IsEarly limit answers millis`: a `Running` response of a child is too early, `millis`
--- milliseconds after its start and after `answers` earlier responses. The timeout of `limit`
+-- `IsEarly limit responses millis`: a `Running` response of a child is too early, `millis`
+-- milliseconds after its start and after `responses` earlier responses. The timeout of `limit`
 -- seconds allows 100 responses for each second. The first half of them may come at any speed, and
 -- the others are spread over the timeout.
 abbrev pub IsEarly : ℕ → ℕ → ℕ → Type 0
-IsEarly limit answers millis = 1000 * limit + millis < 20 * (answers + 1)
+IsEarly limit responses millis = 1000 * limit + millis < 20 * (responses + 1)
 
--- `IsInFirstHalf limit answers`: after `answers` `Running` responses, the next response is in the
+-- `IsInFirstHalf limit responses`: after `responses` `Running` responses, the next response is in the
 -- first half of those that a timeout of `limit` seconds allows. It allows 100 responses for each
 -- second.
 abbrev pub IsInFirstHalf : ℕ → ℕ → Type 0
-IsInFirstHalf limit answers = answers + 1 ≤ 50 * limit
+IsInFirstHalf limit responses = responses + 1 ≤ 50 * limit
 
 -- `check_interval_micros children since`: the interval at which `children` children are checked for
 -- an end, in microseconds. `since` is the time since a child last ended, in microseconds. The
@@ -90,8 +90,8 @@ abbrev pub next_slice : ℕ → ℕ → ℕ → ℕ
 next_slice children pauses micros =
     min (max (check_interval_micros (min children 8) (10000 * pauses + micros)) (3 * (min children 512 - 8))) (10000 - micros)
 
--- `MayBeRunning late stand`: a child in the state `stand` may be reported as running. It has a
+-- `MayBeRunning late state`: a child in the state `state` may be reported as running. It has a
 -- process, whose end may be known only if `late` is true. `late` is true if some child is polled
 -- late.
 abbrev pub MayBeRunning : Bool → ProcessState → Type 0
-MayBeRunning late stand = IsSome stand × (late ≡ false → stand ≡ Some None)
+MayBeRunning late state = IsSome state × (late ≡ false → state ≡ Some None)

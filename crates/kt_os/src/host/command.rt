@@ -15,11 +15,11 @@ pub(crate) struct ProgramStart<'a> {
     /// The absolute path of the program.
     pub program: &'a Text,
     /// The arguments of the program, without its name.
-    pub words: &'a Items<Text>,
+    pub args: &'a Items<Text>,
     /// The changes that turn the runner's environment into that of the program.
     pub env: &'a EnvPlan,
     /// The path of the working directory of the program.
-    pub dir: &'a Text,
+    pub working_dir: &'a Text,
 }
 
 /// Appends `words` to the arguments of a command.
@@ -119,10 +119,10 @@ fn set_up_command(command: &mut Command, asked: ProgramStart<'_>) -> Result<(), 
     ensures { OnOk result (IsCommandOf asked.entry.program.now asked.entry.words.now
         asked.entry.env.now asked.entry.dir.now command.new) }
 {
-    push_args(command, asked.words)?;
+    push_args(command, asked.args)?;
     remove_variables(command, &asked.env.removed)?;
     set_variables(command, &asked.env.set)?;
-    command.current_dir(asked.dir.as_str())?;
+    command.current_dir(asked.working_dir.as_str())?;
     Ok(())
 }
 
@@ -135,7 +135,7 @@ fn spawn_command<R: Processes>(
     _asked: ProgramStart<'_>,
     command: &mut Command,
 ) -> io::Result<process::Child<R::Started>>
-    requires { IsCommandOf _asked.program.now _asked.words.now _asked.env.now _asked.dir.now
+    requires { IsCommandOf _asked.program.now _asked.args.now _asked.env.now _asked.working_dir.now
         command.old }
 {
     command.spawn(rt)

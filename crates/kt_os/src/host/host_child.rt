@@ -25,14 +25,14 @@ pub(crate) struct HostChild<P: OpenProcess> {
     err: Option<File>,
     /// The two output files of the child, or `None` before its start. They stay open at least until
     /// the outputs have been read, so that no process can take a lease on them (fcntl(2)).
-    kept: Option<(File, File)>,
+    output_copies: Option<(File, File)>,
     /// The process of the child, or `None` before its start.
     process: Option<process::Child<P>>,
     /// The start time and the timeout of the child, and the number of its `Running` responses. They
     /// decide whether a poll is late or must sleep.
     pace: Pace,
     /// `true` if the end of the child was found, or if a check of its process failed.
-    seen: bool,
+    end_found: bool,
 }
 
 /// A manual impl instead of `#[derive(Drop)]`, so that the prover handles each drop as one call.
@@ -41,10 +41,10 @@ impl<P: OpenProcess + Drop> Drop for HostChild<P> {
         let HostChild {
             out: _,
             err: _,
-            kept: _,
+            output_copies: _,
             process,
             pace: _,
-            seen: _,
+            end_found: _,
         } = self;
         drop(process);
     }
@@ -62,15 +62,15 @@ impl<P: OpenProcess + Drop> HostChild<P> {
         ensures err { result.err ≡ None }
         ensures stands { process_state result ≡ None }
         ensures limit { result.pace.limit ≡ limit }
-        ensures unseen { result.seen ≡ false }
+        ensures unseen { result.end_found ≡ false }
     {
         HostChild {
             out: Some(out),
             err: None,
-            kept: None,
+            output_copies: None,
             process: None,
             pace: Pace::from_now(limit, clock),
-            seen: false,
+            end_found: false,
         }
     }
 
@@ -109,17 +109,17 @@ impl<P: OpenProcess + Drop> HostChild<P> {
         asked: ProgramStart<'_>,
     ) -> Result<(), OsFault>
         ensures started { OnOk result (IsSome (process_state self.new)) }
-        ensures reset { OnOk result (self.new.pace.answers ≡ 0) }
+        ensures reset { OnOk result (self.new.pace.responses ≡ 0) }
     {
         let Some((out, err)) = self.out.take().zip(self.err.take()) else {
             return Err(OsFault::Failed);
         };
-        let kept = (
+        let output_copies = (
             into_os_result(out.try_clone())?,
             into_os_result(err.try_clone())?,
         );
         drop(self.process.replace(spawn(rt, asked, out, err)?));
-        self.kept = Some(kept);
+        self.output_copies = Some(output_copies);
         self.pace = Pace::from_now(self.pace.limit, rt);
         Ok(())
     }
@@ -132,14 +132,14 @@ impl<P: OpenProcess + Drop> HostChild<P> {
         ensures proceeds { Proceeds (process_state self.old) (process_state self.new) }
         ensures stands { IfOk result (λ status. process_state self.new ≡ Some status) }
         ensures pace { self.new.pace ≡ self.old.pace }
-        ensures seen { IfOk result (λ status. IsSome status → self.new.seen ≡ true) }
+        ensures end_found { IfOk result (λ status. IsSome status → self.new.end_found ≡ true) }
     {
         let answer = match &mut self.process {
             Some(process) => into_os_result(process.try_wait()),
             None => return Err(OsFault::Failed),
         };
         if !matches!(answer, Ok(None)) {
-            self.seen = true;
+            self.end_found = true;
         }
         answer
     }
@@ -151,7 +151,7 @@ impl<P: OpenProcess + Drop> HostChild<P> {
     pub(crate) fn is_late_at(&self, now: Instant) -> bool
         ensures { IsTrue result ↔ IsLateAt now self.now }
     {
-        !self.seen && self.process.is_some() && self.pace.is_late_at(now)
+        !self.end_found && self.process.is_some() && self.pace.is_late_at(now)
     }
 
     /// Returns `true` if the next poll reports the child as running without a check of its process.
@@ -162,9 +162,9 @@ impl<P: OpenProcess + Drop> HostChild<P> {
     fn is_assumed_running(&self, late: bool) -> bool
         ensures runs { IsTrue result → IsSome (process_state self.now) }
         ensures late { IsTrue result → IsTrue late }
-        ensures free { IsTrue result → IsInFirstHalf self.now.pace.limit self.now.pace.answers }
+        ensures free { IsTrue result → IsInFirstHalf self.now.pace.limit self.now.pace.responses }
     {
-        late && !self.seen && self.process.is_some() && self.pace.is_in_first_half()
+        late && !self.end_found && self.process.is_some() && self.pace.is_in_first_half()
     }
 
     /// Returns the exit status of the child, or `None` if it is running.
@@ -183,8 +183,8 @@ impl<P: OpenProcess + Drop> HostChild<P> {
         ensures running { result ≡ Ok None
             → MayBeRunning late (process_state self.old)
             × (process_state self.new ≡ process_state self.old) }
-        ensures counted { result ≡ Ok None → self.new.pace.answers
-            ≡ min (self.old.pace.answers + 1) (2 ^ 64 - 1) }
+        ensures counted { result ≡ Ok None → self.new.pace.responses
+            ≡ min (self.old.pace.responses + 1) (2 ^ 64 - 1) }
     {
         if self.is_assumed_running(late) {
             self.pace.count_response();
@@ -214,7 +214,7 @@ impl<P: OpenProcess + Drop> HostChild<P> {
         ensures ended { (status : Status) → process_state self.old ≡ Some (Some status)
             → IsOk result }
         ensures limit { OnOk result (self.new.pace.limit ≡ 5) }
-        ensures reset { OnOk result (self.new.pace.answers ≡ 0) }
+        ensures reset { OnOk result (self.new.pace.responses ≡ 0) }
     {
         match &mut self.process {
             Some(process) => into_os_result(process.kill())?,
@@ -228,11 +228,11 @@ impl<P: OpenProcess + Drop> HostChild<P> {
     /// returns the exit status.
     pub(crate) fn detect_new_end(&mut self) -> bool
         ensures proceeds { Proceeds (process_state self.old) (process_state self.new) }
-        ensures unseen { IsTrue result → self.old.seen ≡ false }
-        ensures seen { IsTrue result → self.new.seen ≡ true }
+        ensures unseen { IsTrue result → self.old.end_found ≡ false }
+        ensures end_found { IsTrue result → self.new.end_found ≡ true }
         ensures ended { IsTrue result → ((status : Status)
             × (process_state self.new ≡ Some (Some status))) }
     {
-        !self.seen && matches!(self.status(), Ok(Some(_)))
+        !self.end_found && matches!(self.status(), Ok(Some(_)))
     }
 }

@@ -18,7 +18,7 @@ use std::time::SystemTime;
 
 /// The number of pauses after which the check for late children is repeated, if no child ended in
 /// them.
-const TURNS_PER_LATE_CHECK: u32 = 8;
+const PAUSES_PER_LATE_CHECK: u32 = 8;
 
 /// An `Os` of the host, with the processes, files and clocks of the standard library.
 ///
@@ -50,7 +50,7 @@ pub struct HostOs<R: Processes, B> {
     /// contract refers to it.
     last: Option<(Child, HostChild<R::Started>)>,
     /// The number of pauses since the end of a child was last found.
-    quiet: u32,
+    pauses_since_end: u32,
     /// The result of the last check for a child that is polled late (`IsLate`), or `None` if the
     /// check must be repeated.
     late: Option<bool>,
@@ -92,7 +92,7 @@ impl<R: Processes + AllocGlobal + Drop, B> HostOs<R, B> {
             rights: Rights::NONE,
             limit: 0,
             last: None,
-            quiet: 0,
+            pauses_since_end: 0,
             late: None,
         }
     }
@@ -182,9 +182,9 @@ where
         self.background.advance();
         let asked = ProgramStart {
             program,
-            words,
+            args: words,
             env,
-            dir,
+            working_dir: dir,
         };
         let launched = children::launch(&mut self.children, child, &self.rt, asked);
         if launched.is_err() {
@@ -204,7 +204,7 @@ where
             Ok(Some(status)) => {
                 self.late = None;
                 self.last = children::remove_child(&mut self.children, child);
-                self.quiet = 0;
+                self.pauses_since_end = 0;
                 decode_wait_status(status)
             }
         }
@@ -222,12 +222,12 @@ where
             self.late = None;
             return Ok(());
         }
-        if self.quiet % TURNS_PER_LATE_CHECK == 0 {
+        if self.pauses_since_end % PAUSES_PER_LATE_CHECK == 0 {
             self.late = None;
         }
-        let pauses = self.quiet;
+        let pauses = self.pauses_since_end;
         let ended = children::await_end(&mut self.children, &mut self.removals, &self.rt, pauses);
-        self.quiet = if ended { 0 } else { pauses.saturating_add(1) };
+        self.pauses_since_end = if ended { 0 } else { pauses.saturating_add(1) };
         Ok(())
     }
 

@@ -33,14 +33,14 @@ pub(crate) struct Rights {
     of_root: bool,
     /// `true` if the umask removes a permission that new directories and files need, or if that is
     /// unknown.
-    narrow: bool,
+    umask_removes: bool,
 }
 
 impl Rights {
     /// The facts about owner and umask that are assumed before the first directory is created.
     pub(crate) const NONE: Rights = Rights {
         of_root: false,
-        narrow: false,
+        umask_removes: false,
     };
 }
 
@@ -53,11 +53,11 @@ fn set_dir_mode<R: Files>(rt: &R, path: &str, mode: u32) -> io::Result<()> {
     given
 }
 
-/// Creates a directory with a mode. Sets the mode again if `narrow` is `true`, since the umask may
+/// Creates a directory with a mode. Sets the mode again if `umask_removes` is `true`, since the umask may
 /// have removed permissions.
-fn create_dir_of_mode<R: Files>(rt: &R, dir: &str, mode: u32, narrow: bool) -> io::Result<()> {
+fn create_dir_of_mode<R: Files>(rt: &R, dir: &str, mode: u32, umask_removes: bool) -> io::Result<()> {
     DirBuilder::new().mode(mode).create(rt, dir)?;
-    if narrow {
+    if umask_removes {
         set_dir_mode(rt, dir, mode)
     } else {
         Ok(())
@@ -76,7 +76,7 @@ pub(crate) fn create_directory<R: Files>(rt: &R, dir: &str, rights: Rights) -> i
     } else {
         PASSABLE_MODE
     };
-    create_dir_of_mode(rt, dir, mode, rights.narrow)
+    create_dir_of_mode(rt, dir, mode, rights.umask_removes)
 }
 
 /// Returns `true` if a new directory with the metadata `made` has all permissions of the mode
@@ -92,16 +92,16 @@ fn create_root_dir<R: Files>(rt: &R, path: &str) -> io::Result<Rights> {
     let rights = match fs::symlink_metadata(rt, path) {
         Ok(made) => Rights {
             of_root: made.uid() == 0,
-            narrow: !has_mode(&made, PRIVATE_MODE),
+            umask_removes: !has_mode(&made, PRIVATE_MODE),
         },
         Err(_) => Rights {
             of_root: false,
-            narrow: true,
+            umask_removes: true,
         },
     };
     if rights.of_root {
         set_dir_mode(rt, path, PASSABLE_MODE)?;
-    } else if rights.narrow {
+    } else if rights.umask_removes {
         set_dir_mode(rt, path, PRIVATE_MODE)?;
     }
     Ok(rights)
@@ -111,22 +111,22 @@ fn create_root_dir<R: Files>(rt: &R, path: &str) -> io::Result<Rights> {
 /// 0700.
 ///
 /// `rights` has the facts about the driver's root directory. If the user root does not own that
-/// directory, the result is `rights`. If the user root owns it, `narrow` of the result reports the
+/// directory, the result is `rights`. If the user root owns it, `umask_removes` of the result reports the
 /// umask: it is `true` if the umask removes a permission of the mode 0755, or if that is unknown.
 fn create_queue_dir<R: Files>(rt: &R, place: &str, rights: Rights) -> io::Result<Rights> {
     if !rights.of_root {
-        create_dir_of_mode(rt, place, PRIVATE_MODE, rights.narrow)?;
+        create_dir_of_mode(rt, place, PRIVATE_MODE, rights.umask_removes)?;
         return Ok(rights);
     }
     create_dir_of_mode(rt, place, WORK_MODE, false)?;
-    let narrow = match fs::symlink_metadata(rt, place) {
+    let umask_removes = match fs::symlink_metadata(rt, place) {
         Ok(made) => !has_mode(&made, WORK_MODE),
         Err(_) => true,
     };
     set_dir_mode(rt, place, PRIVATE_MODE)?;
     Ok(Rights {
         of_root: true,
-        narrow,
+        umask_removes,
     })
 }
 
@@ -192,7 +192,7 @@ pub(crate) fn create_output<R: Files>(
         .create_new(true)
         .mode(OUTPUT_MODE)
         .open(rt, path)?;
-    if rights.narrow {
+    if rights.umask_removes {
         file.set_permissions(Permissions::from_mode(OUTPUT_MODE))?;
     }
     Ok(file)

@@ -74,7 +74,7 @@ pub(crate) struct Pace {
     /// The timeout of the child, in seconds. It allows 100 `Running` responses for each second.
     pub(crate) limit: u64,
     /// The number of `Running` responses since the time in `started`.
-    answers: u64,
+    responses: u64,
 }
 
 /// The number of polls that a child may miss before other children are reported as running without
@@ -86,12 +86,12 @@ impl Pace {
     /// in seconds.
     pub(crate) fn from_now<C: Clock>(limit: u64, clock: &C) -> Pace
         ensures limit { result.limit ≡ limit }
-        ensures answers { result.answers ≡ 0 }
+        ensures responses { result.responses ≡ 0 }
     {
         Pace {
             started: Instant::now(clock).ok(),
             limit,
-            answers: 0,
+            responses: 0,
         }
     }
 
@@ -102,30 +102,30 @@ impl Pace {
     /// timeout, and without a start time.
     pub(crate) fn is_late_at(&self, now: Instant) -> bool
         ensures { IsTrue result ↔ IsSomeAnd self.now.started (λ start.
-            IsLate self.now.limit self.now.answers
+            IsLate self.now.limit self.now.responses
             ((instant_nanos now - instant_nanos start) / 1000000)) }
     {
         let Some(from) = self.started else {
             return false;
         };
         let millis = now.duration_since(from).as_millis();
-        let due = (u128::from(self.answers) + MISSED_POLLS_ALLOWED) * 10;
-        u128::from(self.answers) < u128::from(self.limit) * 100 && due < millis
+        let due = (u128::from(self.responses) + MISSED_POLLS_ALLOWED) * 10;
+        u128::from(self.responses) < u128::from(self.limit) * 100 && due < millis
     }
 
     /// Returns `true` if the next `Running` response is in the first half of those that the timeout
     /// allows.
     pub(crate) fn is_in_first_half(&self) -> bool
-        ensures { IsTrue result ↔ IsInFirstHalf self.now.limit self.now.answers }
+        ensures { IsTrue result ↔ IsInFirstHalf self.now.limit self.now.responses }
     {
-        u128::from(self.answers) + 1 <= u128::from(self.limit) * 50
+        u128::from(self.responses) + 1 <= u128::from(self.limit) * 50
     }
 
     /// Returns `true` if a `Running` response at `now` would make the timeout expire early. Returns
     /// `false` without a start time.
     fn is_early_at(&self, now: Instant) -> bool
         ensures { IsTrue result ↔ IsSomeAnd self.now.started (λ start.
-            IsEarly self.now.limit self.now.answers
+            IsEarly self.now.limit self.now.responses
             ((instant_nanos now - instant_nanos start) / 1000000)) }
     {
         let Some(from) = self.started else {
@@ -133,7 +133,7 @@ impl Pace {
         };
         let millis = now.duration_since(from).as_millis();
         let free = u128::from(self.limit) * 1_000;
-        let due = (u128::from(self.answers) + 1) * RESPONSE_INTERVAL_MILLIS;
+        let due = (u128::from(self.responses) + 1) * RESPONSE_INTERVAL_MILLIS;
         due > free && due - free > millis
     }
 
@@ -142,7 +142,7 @@ impl Pace {
     /// for it.
     pub(crate) fn is_early<C: Clock>(&self, clock: &C) -> bool
         ensures { IsTrue result → (now : Moment) × IsSomeAnd self.now.started (λ start.
-            IsEarly self.now.limit self.now.answers
+            IsEarly self.now.limit self.now.responses
             ((instant_nanos now - instant_nanos start) / 1000000)) }
     {
         if self.is_in_first_half() {
@@ -156,10 +156,10 @@ impl Pace {
 
     /// Adds one to the number of `Running` responses.
     pub(crate) fn count_response(&mut self)
-        ensures counted { self.new.answers ≡ min (self.old.answers + 1) (2 ^ 64 - 1) }
+        ensures counted { self.new.responses ≡ min (self.old.responses + 1) (2 ^ 64 - 1) }
         ensures limit { self.new.limit ≡ self.old.limit }
         ensures started { self.new.started ≡ self.old.started }
     {
-        self.answers = self.answers.saturating_add(1);
+        self.responses = self.responses.saturating_add(1);
     }
 }

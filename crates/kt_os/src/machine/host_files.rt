@@ -8,7 +8,7 @@ use kt_base::Bytes;
 pub trait HostFiles {
     ghost use Rattle.std.specs.Prelude.{◌≤◌, IfOk, length};
     ghost use Rattle.kt_base.specs.Moments.{IsMoment};
-    ghost use Rattle.kt_os.specs.Machines.{HostResponse, ReadsFile, IsFile, PathExists, IsProgram, HasMoment, read_limit};
+    ghost use Rattle.kt_os.specs.Machines.{HostResponse, ReadsFile, IsFile, PathExists, IsProgram, ReadsClock, read_limit};
 
     /// `answers old call new`: `call` with its result leads the host from state `old` to `new`.
     ghost answers: { Self → HostResponse → Self → Type 0 };
@@ -43,6 +43,6 @@ pub trait HostFiles {
     /// Returns the current time in milliseconds since 1970 in UTC, or 0 if the clock fails. Times
     /// before 1970 or after the year 9999 are returned as 0, too.
     fn moment(&mut self) -> u64
-        ensures answered { answers self.old (HasMoment result) self.new }
+        ensures answered { answers self.old (ReadsClock result) self.new }
         ensures moment { IsMoment result };
 }

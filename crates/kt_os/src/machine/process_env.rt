@@ -22,7 +22,7 @@ const MAX_VARIABLE_BYTES: usize = 131_072;
 #[derive(Drop)]
 pub struct ProcessEnv {
     /// The absolute path of the working directory.
-    pub here: Text,
+    pub working_dir: Text,
     /// The value of `PATH`, if it is set and is UTF-8: the directories in which programs are looked
     /// up.
     pub path: Option<Text>,
@@ -75,7 +75,7 @@ fn copy_working_directory(alloc: Global, answer: io::Result<PathBuf>) -> Result<
     ensures { IsWorkingDirectory (result_map_both path_buf_bytes (λ error. error) answer) result }
 {
     match answer {
-        Ok(here) => Text::from_str(alloc, here.as_str()).map_err(OsFault::Memory),
+        Ok(working_dir) => Text::from_str(alloc, working_dir.as_str()).map_err(OsFault::Memory),
         Err(error) => match NoMemory::from_io_error(&error) {
             Some(refusal) => Err(OsFault::Memory(refusal)),
             None => Err(OsFault::Failed),
@@ -86,7 +86,7 @@ fn copy_working_directory(alloc: Global, answer: io::Result<PathBuf>) -> Result<
 impl ProcessEnv {
     ghost use Rattle.kt_os.specs.Around.{is_root};
 
-    /// Reads `PATH` and `USER` from the environment, and stores them with `here`, the absolute path
+    /// Reads `PATH` and `USER` from the environment, and stores them with `working_dir`, the absolute path
     /// of the working directory.
     ///
     /// A variable that is not UTF-8 or has more than 131,072 bytes counts as not set.
@@ -94,15 +94,15 @@ impl ProcessEnv {
     /// # Errors
     ///
     /// - `NoMemory`: an allocation fails.
-    pub fn new<R: Env + AllocGlobal>(rt: &R, here: Text) -> Result<ProcessEnv, NoMemory>
-        ensures here { IfOk result (λ around. around.here ≡ here) }
+    pub fn new<R: Env + AllocGlobal>(rt: &R, working_dir: Text) -> Result<ProcessEnv, NoMemory>
+        ensures working_dir { IfOk result (λ around. around.working_dir ≡ working_dir) }
         ensures path { IfOk result (λ around. IsVariableValue around.path) }
         ensures user { IfOk result (λ around. IsVariableValue around.user) }
     {
         let mut room = vec![in rt.alloc(); 0u8; MAX_VARIABLE_BYTES]?;
         let path = read_variable(rt, "PATH", &mut room)?;
         let user = read_variable(rt, "USER", &mut room)?;
-        Ok(ProcessEnv { here, path, user })
+        Ok(ProcessEnv { working_dir, path, user })
     }
 
     /// Reads the working directory and the environment of this process.
@@ -114,8 +114,8 @@ impl ProcessEnv {
     pub fn from_process<R: Env + AllocGlobal>(rt: &R) -> Result<ProcessEnv, OsFault>
         ensures { IsProcessEnv result }
     {
-        let here = copy_working_directory(rt.alloc(), env::current_dir(rt))?;
-        match ProcessEnv::new(rt, here) {
+        let working_dir = copy_working_directory(rt.alloc(), env::current_dir(rt))?;
+        match ProcessEnv::new(rt, working_dir) {
             Ok(around) => Ok(around),
             Err(refusal) => Err(OsFault::Memory(refusal)),
         }

@@ -1,4 +1,4 @@
-ghost use Rattle.kt_os.specs.Machines.{HasProgram, IsFoundByPath, SearchesDirectories, directories};
+ghost use Rattle.kt_os.specs.Machines.{HasProgram, IsProgramFound, SearchesDirectories, directories};
 
 use crate::HostFiles;
 use crate::machine::host_path::{MAX_PATH_BYTES, join_path};
@@ -39,7 +39,7 @@ fn is_program_in_path<M: HostFiles>(machine: &mut M, among: &str, name: &str) ->
 /// `name` without a slash must be a program in a directory of `path`, the value of `PATH`. Other
 /// names are never found.
 pub fn is_program_found<M: HostFiles>(machine: &mut M, path: &Option<Text>, name: &Text) -> bool
-    ensures { IsFoundByPath M.answers path.now name.now result machine.old machine.new }
+    ensures { IsProgramFound M.answers path.now name.now result machine.old machine.new }
 {
     let word = name.as_str();
     if is_absolute(word) {

@@ -3,7 +3,7 @@
 use Rattle.std.specs.Prelude.{ℕ, List, map, Result}
 use Rattle.kt_plan.specs.Types.{Asked, Candidate, CaseSelection, Filter, Settings, SelectionError}
 use Rattle.kt_base.specs.Chains.{Chain}
-use Rattle.kt_suite.specs.Selecting.{places, is_selected}
+use Rattle.kt_suite.specs.Selecting.{passing_positions, is_selected}
 use Rattle.kt_plan.specs.Stops.{HoldsOrNoMemory, IsNoMemoryError}
 use Rattle.kt_plan.specs.Reply.{Reply}
 use Rattle.kt_plan.specs.Collecting.{Collects, IsCollectionPrefix, item_of}
@@ -11,7 +11,7 @@ use Rattle.kt_plan.specs.Collecting.{Collects, IsCollectionPrefix, item_of}
 -- `selected_indexes filters place cases`: the indexes of the candidates in `cases` that the filters
 -- `filters` select. The first candidate in `cases` has the index `place`, and the others follow.
 abbrev pub selected_indexes : List Filter → ℕ → List Candidate → List ℕ
-selected_indexes filters place cases = places (is_selected filters) place (map item_of cases)
+selected_indexes filters place cases = passing_positions (is_selected filters) place (map item_of cases)
 
 module _ {W : Type 0} (asks : W → Asked → W → Type 0) (replies : W → Reply → W → Type 0) where
   -- `CollectsBetween asks replies settings kyuafile old new result`: `result` is the result of a

@@ -2,7 +2,7 @@
 -- command.
 use Rattle.std.specs.Prelude.{ℕ, ◌≡◌, List, [], Option, Some, None, Result, Ok, Err}
 use Rattle.kt_plan.specs.Types.{Definition, Failed, Filter, FilterFault, Memory, Missing, ReadFault, SelectionError, Values}
-use Rattle.kt_config.specs.Holding.{Holds}
+use Rattle.kt_config.specs.Holding.{HasValuesSetBy}
 use Rattle.kt_suite.specs.declared.filter.FilterFault.TheVariants.{Repeated, NotDisjoint}
 use Rattle.kt_suite.specs.Disjoint.{IsDisjoint}
 use Rattle.kt_plan.specs.declared.selection_error.SelectionError.TheVariants as stop
@@ -18,7 +18,7 @@ config_read_error (Memory refusal) = stop.NoMemory refusal
 -- `HasValuesOf outcome meant`: the configuration in `outcome` has the values that the definitions
 -- in `meant` set, or both arguments are the same error.
 abbrev pub HasValuesOf : Result Values SelectionError → Result (List Definition) SelectionError → Type 0
-HasValuesOf (Ok config) (Ok definitions) = Holds config definitions
+HasValuesOf (Ok config) (Ok definitions) = HasValuesSetBy config definitions
 HasValuesOf (Ok config) (Err fault) = ⊥
 HasValuesOf (Err found) (Ok definitions) = ⊥
 HasValuesOf (Err found) (Err fault) = found ≡ fault
@@ -34,7 +34,7 @@ pub record HasConfiguration (Means : Result (List Definition) SelectionError →
 -- the configuration `config`, followed by the definitions in `meant`. If `meant` is an error,
 -- `outcome` is the same error.
 abbrev pub AppendsDefinitions : Values → Result Values SelectionError → Result (List Definition) SelectionError → Type 0
-AppendsDefinitions config outcome meant = (before : List Definition) → Holds config before → HasValuesOf outcome (values_after before meant)
+AppendsDefinitions config outcome meant = (before : List Definition) → HasValuesSetBy config before → HasValuesOf outcome (values_after before meant)
 
 -- `AppendsDefinition config outcome meant`: `outcome` is a configuration with the definitions of
 -- the configuration `config`, followed by the definition in `meant`. If `meant` is an error,

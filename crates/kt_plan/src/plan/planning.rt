@@ -1,5 +1,5 @@
 ghost use Rattle.std.specs.Prelude.{◌≡◌, ◌≤◌, ◌&&◌, length, IfOk, MatchResult};
-ghost use Rattle.kt_plan.specs.Common.{Values, candidate_meta, first_reason, rows, variables_for, IsPlan, item_limit, is_atf, ArePlanned, DecidesVerdict, IsJobOf, IsIdle, LeadsByCalls, Surveys, IsSurveyPrefix};
+ghost use Rattle.kt_plan.specs.Common.{Values, candidate_meta, first_reason, requirement_reason_texts, variables_for, IsPlan, item_limit, is_atf, ArePlanned, DecidesVerdict, IsJobOf, IsIdle, LeadsByCalls, Surveys, IsSurveyPrefix};
 ghost use Rattle.kt_metadata.specs.declared.host.Host.{Host as Surveyed};
 
 use crate::plan::looking::probe_host;
@@ -51,7 +51,7 @@ fn decide_verdict(
     host: &Host,
 ) -> Result<Option<Verdict>, NoMemory>
     ensures { IfOk result (λ decided. DecidesVerdict candidate.now.case.fault
-        (first_reason (rows meta.now config.now candidate.now.suite host.now)) decided) }
+        (first_reason (requirement_reason_texts meta.now config.now candidate.now.suite host.now)) decided) }
 {
     if let Some(reason) = &candidate.case.fault {
         return Ok(Some(Verdict::broken(copy_reason(reason)?)));
@@ -88,7 +88,7 @@ fn build_job(
         → vars ≡ variables_for config candidate.now.suite
         → meta.now ≡ candidate_meta candidate.now
         → DecidesVerdict candidate.now.case.fault
-        (first_reason (rows meta.now config candidate.now.suite host)) decided
+        (first_reason (requirement_reason_texts meta.now config candidate.now.suite host)) decided
         → IfOk result (λ job. IsJobOf config host position candidate.now job) }
 {
     let (program, case_name) = copy_names(candidate)?;

@@ -8,14 +8,14 @@ abbrev pub IsSpent : ℕ → ℕ → Option ℕ → Type 0
 IsSpent micros steps (Some taken) = micros ≤ taken
 IsSpent micros steps None = micros / 100 ≤ steps
 
--- `case_limit`: the time limit for the removal of a case's directory, in microseconds.
-abbrev pub case_limit : ℕ
-case_limit = 5000
+-- `case_limit_micros`: the time limit for the removal of a case's directory, in microseconds.
+abbrev pub case_limit_micros : ℕ
+case_limit_micros = 5000
 
--- `closing_limit waiting`: the time limit for the removal of the root directory, in microseconds,
+-- `root_limit_micros waiting`: the time limit for the removal of the root directory, in microseconds,
 -- while `waiting` directories are in the queue.
-abbrev pub closing_limit : ℕ → ℕ
-closing_limit waiting = 5000000 + 10000 * waiting
+abbrev pub root_limit_micros : ℕ → ℕ
+root_limit_micros waiting = 5000000 + 10000 * waiting
 
 -- `min_root_steps waiting`: the minimum number of steps before the time limit can stop the removal
 -- of the root directory, while `waiting` directories are in the queue.

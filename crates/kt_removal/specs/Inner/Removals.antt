@@ -6,10 +6,10 @@ use Rattle.kt_base.specs.Digits.{is_digit}
 use Rattle.kt_base.specs.Utf8.{utf8}
 use Rattle.kt_removal.specs.declared.state.Removals.{Removals}
 
--- `queued_dir place number`: the path of the directory with the number `number` in the queue
--- directory `place`.
+-- `queued_dir queue_dir number`: the path of the directory with the number `number` in the queue
+-- directory `queue_dir`.
 abbrev pub queued_dir : List ℕ → ℕ → List ℕ
-queued_dir place number = place ++ codes "/" ++ decimal number
+queued_dir queue_dir number = queue_dir ++ codes "/" ++ decimal number
 
 -- `IsNumber name`: `name` consists of one or more decimal digits.
 abbrev pub IsNumber : List ℕ → Type 0
@@ -20,15 +20,15 @@ IsNumber name = (0 < length name) × (list_all is_digit name ≡ true)
 abbrev pub IsCaseDirectory : List ℕ → List ℕ → Type 0
 IsCaseDirectory root path = (name : List ℕ) × (utf8 path ≡ utf8 root ++ 47 ∷ name) × IsNumber name
 
--- `HasNextDirectory r`: the queue `r` has a next directory. Its number `r.done` is less than
--- `r.moved`, and the move to this number did not fail.
+-- `HasNextDirectory r`: the queue `r` has a next directory. Its number `r.current_number` is less than
+-- `r.next_number`, and the move to this number did not fail.
 abbrev pub HasNextDirectory : Removals → Type 0
-HasNextDirectory r = (r.done < r.moved) × (list_any (λ n. n == r.done) r.gaps.items ≡ false)
+HasNextDirectory r = (r.current_number < r.next_number) × (list_any (λ n. n == r.current_number) r.gaps.items ≡ false)
 
 -- `IsRemovable r path`: `path` is a case's directory, the queue directory or the next directory of
 -- the queue `r`.
 abbrev pub IsRemovable : Removals → List ℕ → Type 0
-IsRemovable r path = IsCaseDirectory r.root path ⊎ (path ≡ r.place) ⊎ (HasNextDirectory r × (path ≡ queued_dir r.place r.done))
+IsRemovable r path = IsCaseDirectory r.root path ⊎ (path ≡ r.queue_dir) ⊎ (HasNextDirectory r × (path ≡ queued_dir r.queue_dir r.current_number))
 
 -- `MayEmpty r path`: a step of the queue `r` may remove the entries of `path`. `path` is the root,
 -- a case's directory, the queue directory or the next directory of the queue.
@@ -54,12 +54,12 @@ MayRemove r path = (directory : List ℕ) × ((IsRemovable r directory × (path 
 -- too.
 pub record KeepsQueue (old new : Removals) : Type 0 where
   pub root : new.root ≡ old.root
-  pub place : new.place ≡ old.place
-  pub done : new.done ≡ old.done
+  pub queue_dir : new.queue_dir ≡ old.queue_dir
+  pub current_number : new.current_number ≡ old.current_number
   pub moved : HasNextDirectory old → HasNextDirectory new
 
--- `waiting moved done`: the number of directories in the queue, at most 2^32 - 1. `moved` is the
--- number that the next moved directory gets, and `done` is the number of the directory that is
+-- `waiting next_number current_number`: the number of directories in the queue, at most 2^32 - 1. `next_number` is the
+-- number that the next moved directory gets, and `current_number` is the number of the directory that is
 -- emptied next. A number that was skipped after a failed move counts, too.
 abbrev pub waiting : ℕ → ℕ → ℕ
-waiting moved done = min (moved - done) (2 ^ 32 - 1)
+waiting next_number current_number = min (next_number - current_number) (2 ^ 32 - 1)

@@ -9,7 +9,7 @@ use Rattle.kt_sched.specs.Responses.{Responses}
 -- `responses_after_put fed failed`: the responses `fed`, followed by the response to a put, which
 -- failed if `failed` is true.
 abbrev pub responses_after_put : Responses → Bool → Responses
-responses_after_put fed true = record fed { stopped = Some (event_count fed.trace) }
+responses_after_put fed true = record fed { failed_put_after = Some (event_count fed.trace) }
 responses_after_put fed false = record fed { stored = fed.stored + 1 }
 
 -- `counted t kind`: the totals `t` with one more entry, whose verdict is of the kind `kind`.

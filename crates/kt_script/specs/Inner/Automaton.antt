@@ -19,10 +19,10 @@ literal_of (Number n) = Some (literal.Number n)
 literal_of (Truth b) = Some (literal.Truth b)
 literal_of _ = None
 
--- `closed t`: the transition for the `}` that closes the table `t`. If the table is in parentheses,
+-- `transition_after_table t`: the transition for the `}` that closes the table `t`. If the table is in parentheses,
 -- a `)` must follow. Otherwise, the statement is complete.
-abbrev pub closed : Table → Transition
-closed t = if t.in_parens then Advance (AfterArgument (Call t.name (arg.Table t.pairs))) else Accept (Call t.name (arg.Table t.pairs))
+abbrev pub transition_after_table : Table → Transition
+transition_after_table t = if t.in_parens then Advance (AfterArgument (Call t.name (arg.Table t.pairs))) else Accept (Call t.name (arg.Table t.pairs))
 
 -- `with_pair t key v`: the table `t` with a pair of the key `key` and the value `v` appended.
 abbrev pub with_pair : Table → List ℕ → Literal → Table
@@ -44,14 +44,14 @@ step (AfterParen n) (Truth b) = Some (Advance (AfterArgument (Call n (arg.Value 
 step (AfterArgument a) CloseParen = Some (Accept a)
 step (Pairs t) (Name n) = Some (Advance (AfterKey t n))
 step (Pairs t) OpenBracket = Some (Advance (AfterKeyBracket t))
-step (Pairs t) CloseBrace = Some (closed t)
+step (Pairs t) CloseBrace = Some (transition_after_table t)
 step (AfterKeyBracket t) (Quoted key) = Some (Advance (AfterKeyString t key))
 step (AfterKeyString t key) CloseBracket = Some (Advance (AfterKey t key))
 step (AfterKey t key) Equals = Some (Advance (AfterKeyEquals t key))
 step (AfterKeyEquals t key) k = option_map (λ v. Advance (AfterPair (with_pair t key v))) (literal_of k)
 step (AfterPair t) Comma = Some (Advance (Pairs t))
 step (AfterPair t) Semicolon = Some (Advance (Pairs t))
-step (AfterPair t) CloseBrace = Some (closed t)
+step (AfterPair t) CloseBrace = Some (transition_after_table t)
 step (AfterDot path) (Name n) = Some (Advance (AfterPath (path ++ n ∷ [])))
 step (AfterPathBracket path) (Quoted t) = Some (Advance (AfterPathString (path ++ t ∷ [])))
 step (AfterPathString path) CloseBracket = Some (Advance (AfterPath path))
@@ -101,11 +101,11 @@ abbrev pub completed_statements : Option (ScriptState × Option Stmt) → List S
 completed_statements None = []
 completed_statements (Some to) = option_to_list to.1
 
--- `run p ts`: the position in the grammar to which the tokens `ts` lead from the position `p`, and
+-- `transition_of_tokens p ts`: the position in the grammar to which the tokens `ts` lead from the position `p`, and
 -- the statements that they complete. Nothing if the grammar does not allow one of the tokens.
-abbrev pub run : ScriptState → List Token → Option (ScriptState × List Stmt)
-run p [] = Some (p, [])
-run p (t ∷ ts) = option_and_then (λ to. option_map (λ end. (end.0, option_to_list to.1 ++ end.1)) (run to.0 ts)) (next p t)
+abbrev pub transition_of_tokens : ScriptState → List Token → Option (ScriptState × List Stmt)
+transition_of_tokens p [] = Some (p, [])
+transition_of_tokens p (t ∷ ts) = option_and_then (λ to. option_map (λ end. (end.0, option_to_list to.1 ++ end.1)) (transition_of_tokens to.0 ts)) (next p t)
 
 -- `IsInStatement p line`: the position `p` in the grammar is within a statement that begins on the
 -- line `line`.

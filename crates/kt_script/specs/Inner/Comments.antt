@@ -4,7 +4,7 @@ use Rattle.std.specs.List.{starts_with, prefix_len}
 use Rattle.kt_script.specs.Types.{Bad, Unterminated, LeveledComment, Lexeme}
 use Rattle.kt_base.specs.Lines.{is_newline}
 use Rattle.kt_script.specs.TokenRules.{has_bracket_level}
-use Rattle.kt_script.specs.Inner.Pieces.{blank, broken}
+use Rattle.kt_script.specs.Inner.Pieces.{blank, invalid_lexeme}
 
 -- `long_comment_end text`: the number of bytes in `text` up to and including its first `]]`, or
 -- nothing if `text` does not contain `]]`.
@@ -15,7 +15,7 @@ long_comment_end (c ∷ cs) = if starts_with nat_eq (c ∷ cs) (codes "]]") then
 -- `long_comment text n`: the lexeme at the beginning of `text`, which begins with `--[[`. It is a
 -- comment whose `]]` ends `n` bytes after the `--[[`, or an invalid token if `n` is absent.
 abbrev pub long_comment : List ℕ → Option ℕ → Lexeme
-long_comment text None = broken text Unterminated
+long_comment text None = invalid_lexeme text Unterminated
 long_comment text (Some n) = blank (n + 4)
 
 -- `comment_at text`: the comment at the beginning of `text`: a comment in long brackets, or a
@@ -23,6 +23,6 @@ long_comment text (Some n) = blank (n + 4)
 abbrev pub comment_at : List ℕ → Lexeme
 comment_at text =
     if starts_with nat_eq text (codes "--[[") then long_comment text (long_comment_end (drop 4 text))
-    else if starts_with nat_eq text (codes "--[") && has_bracket_level (drop 3 text) then broken text LeveledComment
+    else if starts_with nat_eq text (codes "--[") && has_bracket_level (drop 3 text) then invalid_lexeme text LeveledComment
     else if starts_with nat_eq text (codes "--") then blank (2 + prefix_len (λ c. not (is_newline c)) (drop 2 text))
-    else broken text Bad
+    else invalid_lexeme text Bad

@@ -4,7 +4,7 @@ use Rattle.kt_script.specs.Types.{Bad, Unterminated, Flaw, Lexeme, Quoted}
 use Rattle.kt_script.specs.declared.token.StringElement.{StringElement}
 use Rattle.kt_script.specs.declared.token.StringElement.TheVariants as stop
 use Rattle.kt_script.specs.Letters.{escape_of}
-use Rattle.kt_script.specs.Inner.Pieces.{token, broken}
+use Rattle.kt_script.specs.Inner.Pieces.{token, invalid_lexeme}
 
 -- `with_prefix front n r`: the result `r` of reading a string, with the bytes `front` prepended to
 -- the value and `n` added to the length. `front` is the value of the `n` bytes of the script before
@@ -40,7 +40,7 @@ decoded_string (Err flaw) = Err flaw
 -- the result `r`. If `r` is a flaw, the token is invalid and extends to the end of `text`.
 abbrev pub quoted_token : List ℕ → Result (List ℕ × ℕ) Flaw → Lexeme
 quoted_token text (Ok x) = token (x.1 + 1) (Quoted x.0)
-quoted_token text (Err flaw) = broken text flaw
+quoted_token text (Err flaw) = invalid_lexeme text flaw
 
 -- `quoted_at quote text`: the token of the string at the beginning of `text`. Its first byte is
 -- `quote`, a single or double quote.

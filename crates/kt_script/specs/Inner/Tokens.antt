@@ -6,7 +6,7 @@ use Rattle.kt_base.specs.Characters.{is_space}
 use Rattle.kt_script.specs.Letters.{is_name_start}
 use Rattle.kt_script.specs.TokenRules.{punctuation_kind_of, line_after}
 use Rattle.kt_base.specs.Digits.{is_digit}
-use Rattle.kt_script.specs.Inner.Pieces.{blank, token, broken}
+use Rattle.kt_script.specs.Inner.Pieces.{blank, token, invalid_lexeme}
 use Rattle.kt_script.specs.Inner.Words.{name_at, number_at}
 use Rattle.kt_script.specs.Inner.Strings.{quoted_at}
 use Rattle.kt_script.specs.Inner.Comments.{comment_at}
@@ -14,7 +14,7 @@ use Rattle.kt_script.specs.Inner.Comments.{comment_at}
 -- `punctuation_lexeme text kind`: the token at the beginning of `text`. It is a punctuation token
 -- of one byte, of the kind `kind`. If `kind` is absent, it is an invalid token of all bytes.
 abbrev pub punctuation_lexeme : List ℕ → Option TokenKind → Lexeme
-punctuation_lexeme text None = broken text Bad
+punctuation_lexeme text None = invalid_lexeme text Bad
 punctuation_lexeme text (Some kind) = token 1 kind
 
 -- `lexeme_at text`: the lexeme at the beginning of `text`: white space, a comment or a token. An

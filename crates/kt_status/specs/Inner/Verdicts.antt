@@ -18,44 +18,44 @@ use Rattle.kt_status.specs.Tables.{claim_fault_text, tap_fault_text}
 use Rattle.kt_status.specs.declared.cleanup_end.CleanupEnd.{CleanupEnd}
 use Rattle.kt_status.specs.declared.cleanup_end.CleanupEnd.TheVariants as cleanup
 
--- `exits_with n ending`: a process with the outcome `ending` exited with the status `n`.
+-- `exits_with n outcome`: a process with the outcome `outcome` exited with the status `n`.
 abbrev pub exits_with : ℕ → Outcome → Bool
 exits_with n (Exited code) = nat_eq code n
 exits_with n _ = false
 
--- `exit_claim_verdict due reason ending`: the verdict on an ATF case whose result file claims an
--- expected exit for `reason`, and whose body has the outcome `ending`. The claimed status is `due`,
+-- `exit_claim_verdict due reason outcome`: the verdict on an ATF case whose result file claims an
+-- expected exit for `reason`, and whose body has the outcome `outcome`. The claimed status is `due`,
 -- or any status if `due` is `None`.
 abbrev pub exit_claim_verdict : Option ℕ → List ℕ → Outcome → VerdictValue
 exit_claim_verdict None reason (Exited _) = expected_failure reason
 exit_claim_verdict (Some due) reason (Exited code) =
     if nat_eq due code then expected_failure reason else failed (codes "Expected exit code " ++ decimal due ++ codes " but got " ++ decimal code)
-exit_claim_verdict _ _ ending = broken (codes "Expected clean exit but " ++ outcome_text ending)
+exit_claim_verdict _ _ outcome = broken (codes "Expected clean exit but " ++ outcome_text outcome)
 
--- `signal_claim_verdict due reason ending`: the verdict on an ATF case whose result file claims an
--- expected signal for `reason`, and whose body has the outcome `ending`. The claimed signal is
+-- `signal_claim_verdict due reason outcome`: the verdict on an ATF case whose result file claims an
+-- expected signal for `reason`, and whose body has the outcome `outcome`. The claimed signal is
 -- `due`, or any signal if `due` is `None`.
 abbrev pub signal_claim_verdict : Option ℕ → List ℕ → Outcome → VerdictValue
 signal_claim_verdict None reason (Signaled _ _) = expected_failure reason
 signal_claim_verdict (Some due) reason (Signaled signal _) =
     if nat_eq due signal then expected_failure reason else failed (codes "Expected signal " ++ decimal due ++ codes " but got " ++ decimal signal)
-signal_claim_verdict _ _ ending = broken (codes "Expected signal but " ++ outcome_text ending)
+signal_claim_verdict _ _ outcome = broken (codes "Expected signal but " ++ outcome_text outcome)
 
--- `atf_exit_verdict claim ending`: the verdict on an ATF case if its claim is `claim`, and its body
--- exited or received a signal. `ending` is the outcome of the body.
+-- `atf_exit_verdict claim outcome`: the verdict on an ATF case if its claim is `claim`, and its body
+-- exited or received a signal. `outcome` is the outcome of the body.
 abbrev pub atf_exit_verdict : Claim → Outcome → VerdictValue
-atf_exit_verdict Missing ending = broken (codes "Premature exit; test case " ++ outcome_text ending)
-atf_exit_verdict Unreadable ending = broken (codes "Results file could not be read")
-atf_exit_verdict (Malformed fault) ending = broken (codes "Invalid result file: " ++ claim_fault_text fault)
-atf_exit_verdict Passed ending = if exits_with 0 ending then passed else broken (codes "Passed test case should have reported success but " ++ outcome_text ending)
-atf_exit_verdict (Skipped reason) ending = if exits_with 0 ending then skipped reason else broken (codes "Skipped test case should have reported success but " ++ outcome_text ending)
-atf_exit_verdict (ExpectedFailure reason) ending =
-    if exits_with 0 ending then expected_failure reason else broken (codes "Expected failure should have reported success but " ++ outcome_text ending)
-atf_exit_verdict (Failed reason) ending = if exits_with 1 ending then failed reason else broken (codes "Failed test case should have reported failure but " ++ outcome_text ending)
-atf_exit_verdict (ExpectedDeath reason) ending = expected_failure reason
-atf_exit_verdict (ExpectedExit due reason) ending = exit_claim_verdict due reason ending
-atf_exit_verdict (ExpectedSignal due reason) ending = signal_claim_verdict due reason ending
-atf_exit_verdict (ExpectedTimeout reason) ending = broken (codes "Expected timeout but " ++ outcome_text ending)
+atf_exit_verdict Missing outcome = broken (codes "Premature exit; test case " ++ outcome_text outcome)
+atf_exit_verdict Unreadable outcome = broken (codes "Results file could not be read")
+atf_exit_verdict (Malformed fault) outcome = broken (codes "Invalid result file: " ++ claim_fault_text fault)
+atf_exit_verdict Passed outcome = if exits_with 0 outcome then passed else broken (codes "Passed test case should have reported success but " ++ outcome_text outcome)
+atf_exit_verdict (Skipped reason) outcome = if exits_with 0 outcome then skipped reason else broken (codes "Skipped test case should have reported success but " ++ outcome_text outcome)
+atf_exit_verdict (ExpectedFailure reason) outcome =
+    if exits_with 0 outcome then expected_failure reason else broken (codes "Expected failure should have reported success but " ++ outcome_text outcome)
+atf_exit_verdict (Failed reason) outcome = if exits_with 1 outcome then failed reason else broken (codes "Failed test case should have reported failure but " ++ outcome_text outcome)
+atf_exit_verdict (ExpectedDeath reason) outcome = expected_failure reason
+atf_exit_verdict (ExpectedExit due reason) outcome = exit_claim_verdict due reason outcome
+atf_exit_verdict (ExpectedSignal due reason) outcome = signal_claim_verdict due reason outcome
+atf_exit_verdict (ExpectedTimeout reason) outcome = broken (codes "Expected timeout but " ++ outcome_text outcome)
 
 -- `atf_timeout_verdict claim`: the verdict on an ATF case if its claim is `claim`, and its body
 -- timed out.
@@ -63,14 +63,14 @@ abbrev pub atf_timeout_verdict : Claim → VerdictValue
 atf_timeout_verdict (ExpectedTimeout reason) = expected_failure reason
 atf_timeout_verdict _ = broken (codes "Test case body timed out")
 
--- `atf_verdict claim ending`: the verdict on an ATF case if its claim is `claim`, and its body has
--- the outcome `ending`.
+-- `atf_verdict claim outcome`: the verdict on an ATF case if its claim is `claim`, and its body has
+-- the outcome `outcome`.
 abbrev pub atf_verdict : Claim → Outcome → VerdictValue
 atf_verdict claim WaitFailed = broken (codes "Test case could not be waited for")
 atf_verdict claim TimedOut = atf_timeout_verdict claim
-atf_verdict claim ending = atf_exit_verdict claim ending
+atf_verdict claim outcome = atf_exit_verdict claim outcome
 
--- `plain_verdict ending`: the verdict on the case of a plain program with the outcome `ending`.
+-- `plain_verdict outcome`: the verdict on the case of a plain program with the outcome `outcome`.
 abbrev pub plain_verdict : Outcome → VerdictValue
 plain_verdict WaitFailed = broken (codes "Test case could not be waited for")
 plain_verdict TimedOut = broken (codes "Test case timed out")
@@ -88,7 +88,7 @@ tap_exit_verdict (Counted some all) code =
     else if nat_eq code 0 then passed
     else broken (codes "Dubious test program: reported all tests as passed but returned exit code " ++ decimal code)
 
--- `tap_verdict tap ending`: the verdict on the case of a TAP program with the outcome `ending`.
+-- `tap_verdict tap outcome`: the verdict on the case of a TAP program with the outcome `outcome`.
 -- `tap` is the summary of its TAP output.
 abbrev pub tap_verdict : Tap → Outcome → VerdictValue
 tap_verdict tap WaitFailed = broken (codes "Test case could not be waited for")
@@ -96,27 +96,27 @@ tap_verdict tap TimedOut = broken (codes "Test case timed out")
 tap_verdict tap (Signaled signal _) = broken (codes "Received signal " ++ decimal signal)
 tap_verdict tap (Exited code) = tap_exit_verdict tap code
 
--- `verdict_of evidence ending`: the verdict on a body with this `evidence` and the outcome
--- `ending`, by the table for ATF, TAP or plain programs.
+-- `verdict_of evidence outcome`: the verdict on a body with this `evidence` and the outcome
+-- `outcome`, by the table for ATF, TAP or plain programs.
 abbrev pub verdict_of : Evidence → Outcome → VerdictValue
-verdict_of (evidence.Atf claim) ending = atf_verdict claim ending
-verdict_of (evidence.Tap tap) ending = tap_verdict tap ending
-verdict_of evidence.Plain ending = plain_verdict ending
+verdict_of (evidence.Atf claim) outcome = atf_verdict claim outcome
+verdict_of (evidence.Tap tap) outcome = tap_verdict tap outcome
+verdict_of evidence.Plain outcome = plain_verdict outcome
 
 -- `verdict_of_refusal r`: the verdict on a case if the start of its body, or of the program that
 -- lists its cases, failed with the error `r`.
 abbrev pub verdict_of_refusal : Refused → VerdictValue
 verdict_of_refusal r = broken (reason_text (refused_reason r))
 
--- `verdict_if_body_good body end`: the verdict on a case after a cleanup with the result `end`, if
+-- `verdict_after_good_body body end`: the verdict on a case after a cleanup with the result `end`, if
 -- `body`, the verdict on the case's body, counts as a success.
-abbrev pub verdict_if_body_good : VerdictValue → CleanupEnd → VerdictValue
-verdict_if_body_good body (cleanup.Ended (Exited code)) = if nat_eq code 0 then body else broken (codes "Test case cleanup did not terminate successfully")
-verdict_if_body_good body (cleanup.Ended TimedOut) = broken (codes "Test case cleanup timed out")
-verdict_if_body_good body (cleanup.Ended _) = broken (codes "Test case cleanup did not terminate successfully")
-verdict_if_body_good body cleanup.Refused = broken (codes "Test case cleanup could not be started")
+abbrev pub verdict_after_good_body : VerdictValue → CleanupEnd → VerdictValue
+verdict_after_good_body body (cleanup.Ended (Exited code)) = if nat_eq code 0 then body else broken (codes "Test case cleanup did not terminate successfully")
+verdict_after_good_body body (cleanup.Ended TimedOut) = broken (codes "Test case cleanup timed out")
+verdict_after_good_body body (cleanup.Ended _) = broken (codes "Test case cleanup did not terminate successfully")
+verdict_after_good_body body cleanup.Refused = broken (codes "Test case cleanup could not be started")
 
 -- `verdict_after_cleanup body end`: the verdict on a case whose body has the verdict `body`, after
 -- a cleanup with the result `end`. A verdict on the body that does not count as a success is kept.
 abbrev pub verdict_after_cleanup : VerdictValue → CleanupEnd → VerdictValue
-verdict_after_cleanup body end = if good body.kind then verdict_if_body_good body end else body
+verdict_after_cleanup body end = if good body.kind then verdict_after_good_body body end else body

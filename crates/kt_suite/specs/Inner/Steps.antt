@@ -8,9 +8,9 @@ use Rattle.kt_base.specs.LastValues.{last_values}
 use Rattle.kt_metadata.specs.Properties.{definition_fault}
 use Rattle.kt_script.specs.declared.fault.ScriptFault.TheVariants as script
 use Rattle.kt_suite.specs.Faults.{IsNoMemory, fault_at}
-use Rattle.kt_suite.specs.Filters.{counts}
-use Rattle.kt_suite.specs.Selecting.{places, matches_item}
-use Rattle.kt_suite.specs.Tables.{value_cause, pair_fault, table_of, cause_or_value}
+use Rattle.kt_suite.specs.Filters.{is_kept_component}
+use Rattle.kt_suite.specs.Selecting.{passing_positions, matches_item}
+use Rattle.kt_suite.specs.Tables.{value_cause, pair_cause, table_of, cause_or_value}
 
 -- `props_with before pair`: the properties that are set by the pairs `before` and then by the pair
 -- `pair`, or the cause of the error in `pair`.
@@ -27,7 +27,7 @@ with_props found (Err cause) = Err cause
 -- `table_with before pair`: the table that the pairs `before` and then the pair `pair` declare, or
 -- the cause of the error in `pair`.
 abbrev pub table_with : List Variable → Variable → Result ProgramTable SuiteCause
-table_with before pair = cause_or_value (pair_fault pair) (table_of (before ++ pair ∷ []))
+table_with before pair = cause_or_value (pair_cause pair) (table_of (before ++ pair ∷ []))
 
 -- `path_and_component path component`: the path `path` with the component `component` appended. A
 -- slash (47) separates them unless `path` is empty.
@@ -38,11 +38,11 @@ path_and_component (c ∷ path) component = c ∷ path ++ 47 ∷ component
 -- `with_component path component`: the path `path` with the component `component` appended, or
 -- `path` alone if `component` is empty or `.`.
 abbrev pub with_component : List ℕ → List ℕ → List ℕ
-with_component path component = if counts component then path_and_component path component else path
+with_component path component = if is_kept_component component then path_and_component path component else path
 
 -- `all_positions filters`: the positions of all filters in the list `filters`, ascending, from 0.
 abbrev pub all_positions : List Filter → List ℕ
-all_positions filters = places (λ filter. true) 0 filters
+all_positions filters = passing_positions (λ filter. true) 0 filters
 
 -- `first_match filters item`: the position of the first filter in the list `filters` that matches
 -- the item `item`, if any.

@@ -9,8 +9,8 @@ use Rattle.kt_suite.specs.declared.registry.LoadStep.TheVariants.{Next, Enter}
 use Rattle.kt_base.specs.Chains.{Chain}
 use Rattle.kt_suite.specs.Answers.{Asked, Read, Exists}
 use Rattle.kt_suite.specs.Faults.{fault_at, IsNoMemory}
-use Rattle.kt_suite.specs.Marks.{Site, site_fault, lookup_mark, Mark, CallMark, File, ProgramMark, Fault, Part, OneMark, Includes, statement_parts, FileGivesParts, include_fault, Unfolds}
-use Rattle.kt_suite.specs.Meanings.{opening_fault}
+use Rattle.kt_suite.specs.Marks.{Site, site_fault, lookup_mark, Mark, CallMark, File, ProgramMark, Fault, Part, OneMark, Includes, statement_parts, HasFileParts, include_cause, Unfolds}
+use Rattle.kt_suite.specs.Meanings.{opening_cause}
 use Rattle.kt_suite.specs.Registered.{file_limit, program_limit, calls_in, Decides, IsAtMostNextCall}
 
 -- `AddsMarks r marks after`: the loader's registry `after` is the registry `r` with the files and
@@ -43,17 +43,17 @@ pub data LoadsMarks {S : Type 0} (leads : S → Asked → S → Type 0) (old new
       → Gives (front ++ back) → IsAtMostNextCall back more → Chain leads old (calls_in front ++ more) new → AddsMarks r front mid
       → IsNoMemory fault → LoadsMarks leads old new Gives r (Err fault)
 
--- `FileGives files file marks`: `marks` are the events of reading the file `file` while the files
+-- `HasFileMarks files file marks`: `marks` are the events of reading the file `file` while the files
 -- `files` are open. The calls among these events may have any results.
-pub record FileGives (files : List (List ℕ)) (file : List ℕ) (marks : List Mark) : Type 0 where
+pub record HasFileMarks (files : List (List ℕ)) (file : List ℕ) (marks : List Mark) : Type 0 where
   pub parts : List Part
-  pub says : FileGivesParts file parts
+  pub says : HasFileParts file parts
   pub unfolds : Unfolds (files ++ file ∷ []) parts marks
 
--- `MeaningGives files at meaning marks`: `marks` are the events of executing a statement with the
+-- `HasMeaningMarks files at meaning marks`: `marks` are the events of executing a statement with the
 -- meaning `meaning` at the site `at` while the files `files` are open. The calls among these events
 -- may have any results.
-pub record MeaningGives (files : List (List ℕ)) (at : Site) (meaning : Meaning) (marks : List Mark) : Type 0 where
+pub record HasMeaningMarks (files : List (List ℕ)) (at : Site) (meaning : Meaning) (marks : List Mark) : Type 0 where
   pub there : Bool
   pub unfolds : Unfolds files (statement_parts at there meaning) marks
 
@@ -66,20 +66,20 @@ module _ {S : Type 0} (leads : S → Asked → S → Type 0) (old new : S) where
   RegistersProgram at r program result =
       LoadsMarks leads old new (λ marks. (there : Bool) × (marks ≡ CallMark (Exists program.path there) ∷ lookup_mark at program there ∷ [])) r result
 
--- `Enters at r path result`: the statement at the site `at` includes the file at the path `path`.
+-- `CountsInclude at r path result`: the statement at the site `at` includes the file at the path `path`.
 -- `result` is the registry `r` with this file counted, or the error if the file may not be included
 -- or an allocation failed.
-pub data Enters (at : Site) (r : Registry) (path : List ℕ) : Result Registry SuiteFault → Type 0 where
-  refuses : (cause : SuiteCause) → include_fault r.reading path ≡ Some cause → Enters at r path (Err (site_fault at cause))
-  exceeds : include_fault r.reading path ≡ None → file_limit ≤ r.files → Enters at r path (Err (site_fault at TooMany))
-  counts : include_fault r.reading path ≡ None → r.files < file_limit
-      → Enters at r path (Ok (record r { files = r.files + 1 }))
-  scant : (fault : SuiteFault) → IsNoMemory fault → Enters at r path (Err fault)
+pub data CountsInclude (at : Site) (r : Registry) (path : List ℕ) : Result Registry SuiteFault → Type 0 where
+  refuses : (cause : SuiteCause) → include_cause r.open_kyuafiles path ≡ Some cause → CountsInclude at r path (Err (site_fault at cause))
+  exceeds : include_cause r.open_kyuafiles path ≡ None → file_limit ≤ r.files → CountsInclude at r path (Err (site_fault at TooMany))
+  counts : include_cause r.open_kyuafiles path ≡ None → r.files < file_limit
+      → CountsInclude at r path (Ok (record r { files = r.files + 1 }))
+  scant : (fault : SuiteFault) → IsNoMemory fault → CountsInclude at r path (Err fault)
 
--- `EntersFile at r path step`: the step `step` of the statement at the site `at` reads the file at
+-- `EntersInclude at r path step`: the step `step` of the statement at the site `at` reads the file at
 -- the path `path` next. The step's registry is `r` with this file counted.
-abbrev pub EntersFile : Site → Registry → List ℕ → LoadStep → Type 0
-EntersFile at r path step = (next : Registry) × Enters at r path (Ok next) × (step ≡ Enter next path)
+abbrev pub EntersInclude : Site → Registry → List ℕ → LoadStep → Type 0
+EntersInclude at r path step = (next : Registry) × CountsInclude at r path (Ok next) × (step ≡ Enter next path)
 
 -- `StepsTo leads old new r at meaning result`: a statement at the site `at` with the meaning
 -- `meaning` was executed with the registry `r`. By the relation `leads`, its calls lead from the
@@ -87,23 +87,23 @@ EntersFile at r path step = (next : Registry) × Enters at r path (Ok next) × (
 -- statement, or the error of a failed allocation.
 pub data StepsTo {S : Type 0} (leads : S → Asked → S → Type 0) (old new : S) (r : Registry) (at : Site)
     (meaning : Meaning) : Result LoadStep SuiteFault → Type 0 where
-  goes : (after : Registry) → LoadsMarks leads old new (MeaningGives r.reading at meaning) r (Ok after)
+  goes : (after : Registry) → LoadsMarks leads old new (HasMeaningMarks r.open_kyuafiles at meaning) r (Ok after)
       → StepsTo leads old new r at meaning (Ok (Next after))
   enters : (path : List ℕ) → statement_parts at true meaning ≡ Includes at path ∷ []
-      → include_fault r.reading path ≡ None → r.files < file_limit → new ≡ old
+      → include_cause r.open_kyuafiles path ≡ None → r.files < file_limit → new ≡ old
       → StepsTo leads old new r at meaning (Ok (Enter (record r { files = r.files + 1 }) path))
-  fails : (fault : SuiteFault) → LoadsMarks leads old new (MeaningGives r.reading at meaning) r (Err fault)
+  fails : (fault : SuiteFault) → LoadsMarks leads old new (HasMeaningMarks r.open_kyuafiles at meaning) r (Err fault)
       → StepsTo leads old new r at meaning (Err fault)
 
 -- `ChecksOpening file stmts result`: `result` has the statements `stmts` of the file `file` if they
 -- begin with `syntax(2)`. Otherwise, it is the error of `file`. It may also be the error of a
 -- failed allocation.
 pub data ChecksOpening (file : List ℕ) (stmts : List Stmt) : Result (List Stmt) SuiteFault → Type 0 where
-  well : (first : Stmt) (rest : List Stmt) → stmts ≡ first ∷ rest → opening_fault first.action ≡ None
+  well : (first : Stmt) (rest : List Stmt) → stmts ≡ first ∷ rest → opening_cause first.action ≡ None
       → ChecksOpening file stmts (Ok stmts)
   empty : stmts ≡ [] → ChecksOpening file stmts (Err (fault_at file 1 NoSyntax))
   badly : (first : Stmt) (rest : List Stmt) (cause : SuiteCause)
-      → stmts ≡ first ∷ rest → opening_fault first.action ≡ Some cause
+      → stmts ≡ first ∷ rest → opening_cause first.action ≡ Some cause
       → ChecksOpening file stmts (Err (fault_at file first.line cause))
   unclear : (fault : SuiteFault) → IsNoMemory fault → ChecksOpening file stmts (Err fault)
 
@@ -113,10 +113,10 @@ pub data ChecksOpening (file : List ℕ) (stmts : List Stmt) : Result (List Stmt
 pub data OpensFile {S : Type 0} (leads : S → Asked → S → Type 0) (old new : S) (file : List ℕ)
     : Result (List Stmt) SuiteFault → Type 0 where
   opens : (text : List ℕ) (first : Stmt) (rest : List Stmt)
-      → leads old (Read file (Ok text)) new → Spells text (first ∷ rest) → opening_fault first.action ≡ None
+      → leads old (Read file (Ok text)) new → Spells text (first ∷ rest) → opening_cause first.action ≡ None
       → OpensFile leads old new file (Ok (first ∷ rest))
   declines : (answer : Result (List ℕ) ReadFault) (fault : SuiteFault)
-      → leads old (Read file answer) new → FileGivesParts file (OneMark (CallMark (Read file answer)) ∷ OneMark (Fault fault) ∷ [])
+      → leads old (Read file answer) new → HasFileParts file (OneMark (CallMark (Read file answer)) ∷ OneMark (Fault fault) ∷ [])
       → OpensFile leads old new file (Err fault)
   lacks : (answer : Result (List ℕ) ReadFault) (fault : SuiteFault)
       → leads old (Read file answer) new → IsNoMemory fault → OpensFile leads old new file (Err fault)

@@ -1,12 +1,12 @@
 use Rattle.std.proofs.Common.{ap, ◌∙◌, codes}
 use Rattle.kt_report.proofs.Common.{seconds, printable_reason, shows_as, shows_both, shows_error, shows_more}
-use Rattle.kt_base.specs.Kinds.{word}
+use Rattle.kt_base.specs.Kinds.{kind_keyword}
 use Rattle.kt_report.proofs.entry_line.line.Goals as goal
 
 pub returns-in_err-emit_all : goal.returns-in_err-emit_all
 returns-in_err-emit_all g c =
     let e = c.args.entry.now in
-    shows_error _ _ c.from_residual.ensures.1 (shows_more (codes "s]\n") (shows_more (seconds e.millis) (shows_more (codes "  [") (shows_more (printable_reason e.verdict.kind e.verdict.reason) (shows_more (word e.verdict.kind) (rw (c.as_bytes.ensures, c.as_bytes-case_name.ensures) at c.in_err-emit_all.ensures))))))
+    shows_error _ _ c.from_residual.ensures.1 (shows_more (codes "s]\n") (shows_more (seconds e.millis) (shows_more (codes "  [") (shows_more (printable_reason e.verdict.kind e.verdict.reason) (shows_more (kind_keyword e.verdict.kind) (rw (c.as_bytes.ensures, c.as_bytes-case_name.ensures) at c.in_err-emit_all.ensures))))))
 
 pub returns-in_err-emit : goal.returns-in_err-emit
 returns-in_err-emit g c =

@@ -40,5 +40,5 @@ returns g n c = reading_all g.T.Tree.asks _ _ c.args.registry _ _ _ _ _ c.in_def
 
 pub load_file-requires : goal.load_file-requires
 load_file-requires g n c =
-    let d : 32 - length c.in-Enter.next.reading < 32 - length c.args.registry.reading = deeper g.T.Tree.asks _ _ _ c.args.registry _ _ _ _ _ _ _ _ _ c.in-Enter.is c.loop-stmt.invariant c.in-Ok-execute_statement.ensures.step in
+    let d : 32 - length c.in-Enter.next.open_kyuafiles < 32 - length c.args.registry.open_kyuafiles = deeper g.T.Tree.asks _ _ _ c.args.registry _ _ _ _ _ _ _ _ _ c.in-Enter.is c.loop-stmt.invariant c.in-Ok-execute_statement.ensures.step in
     search rules

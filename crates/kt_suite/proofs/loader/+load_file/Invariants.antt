@@ -9,4 +9,4 @@ abbrev pub decreases-loop-stmt : goal.decreases-loop-stmt
 decreases-loop-stmt g l = length l.rest
 
 abbrev pub decreases-load_file : goal.decreases-load_file
-decreases-load_file g l = 32 - length l.registry.reading
+decreases-load_file g l = 32 - length l.registry.open_kyuafiles

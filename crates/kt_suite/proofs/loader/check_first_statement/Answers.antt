@@ -1,5 +1,5 @@
 use Rattle.std.proofs.Common.{None, rules, ◌≡◌, ◌∷◌}
-use Rattle.kt_suite.proofs.Common.{opening_fault}
+use Rattle.kt_suite.proofs.Common.{opening_cause}
 use Rattle.kt_suite.proofs.Openings.{well_empty, well_wrong, well_right}
 use Rattle.kt_suite.proofs.loader.check_first_statement.Goals as goal
 
@@ -14,5 +14,5 @@ returns-in-Some-first_statement_cause c =
 pub returns : goal.returns
 returns c =
     let e : c.args.stmts ≡ c.in-Some.first.now ∷ c.in-Some._rest.now = search rules in
-    let w : None ≡ opening_fault c.in-Some.first.now.action = search rules in
+    let w : None ≡ opening_cause c.in-Some.first.now.action = search rules in
     well_right _ _ _ _ e w

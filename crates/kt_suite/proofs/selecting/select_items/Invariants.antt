@@ -1,5 +1,5 @@
 use Rattle.std.proofs.Common.{◌≡◌, ◌++◌, drop}
-use Rattle.kt_suite.proofs.Common.{filter, places, is_selected, selected_positions, unmatched_positions}
+use Rattle.kt_suite.proofs.Common.{filter, passing_positions, is_selected, selected_positions, unmatched_positions}
 use Rattle.kt_suite.proofs.Picking.{is_unmatched_at}
 use Rattle.kt_suite.proofs.selecting.select_items.Given as goal
 
@@ -7,7 +7,7 @@ use Rattle.kt_suite.proofs.selecting.select_items.Given as goal
 -- unmatched filters without the matches of the remaining items are the final unmatched filters.
 abbrev pub invariant-loop-item : goal.invariant-loop-item
 invariant-loop-item l = record {
-  found : l.cases.items ++ places (is_selected l.filters) l.place (drop l.item-index l.items) ≡ selected_positions l.items l.filters;
+  found : l.cases.items ++ passing_positions (is_selected l.filters) l.place (drop l.item-index l.items) ≡ selected_positions l.items l.filters;
   counted : l.place ≡ l.item-index;
   left : filter (is_unmatched_at (drop l.item-index l.items) l.filters) l.unmatched.items ≡ unmatched_positions l.items l.filters;
 }

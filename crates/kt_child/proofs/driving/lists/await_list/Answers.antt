@@ -12,12 +12,12 @@ returns g c =
     let d = is_ok c.remove_tree.result in
     let on = rw c.new_running_child.ensures at w.2 in
     let k = new_running_child p.limit c.args.case in
-    let heard = wait_heard (k ∷ []) w.0 c.poll_until_finished-first.result.place c.poll_until_finished-first.result.outcome _ (All-cons IsRunningChild k [] c.requires (All-nil IsRunningChild)) on in
+    let heard = wait_heard (k ∷ []) w.0 c.poll_until_finished-first.result.index c.poll_until_finished-first.result.outcome _ (All-cons IsRunningChild k [] c.requires (All-nil IsRunningChild)) on in
     let last : List Call = ReadFile p.out 1048576 r.0 ∷ RemoveTree p.dir d ∷ [] in (
       w.0 ++ last,
       chain_append g.O.Os.leads _ _ _ w.0 last w.1 (_, r.1, (_, c.remove_tree.ensures, refl)),
       (
-        c.poll_until_finished-first.result.place,
+        c.poll_until_finished-first.result.index,
         c.poll_until_finished-first.new.children,
         w.0,
         r.0,

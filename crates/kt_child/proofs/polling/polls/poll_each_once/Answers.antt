@@ -21,10 +21,10 @@ loop-i-preserved g c =
       asked =
           step_more init l.children l.i d lt l.invariant.children g.O.Os.leads c.args.os.now l.os c.poll_once.new.os c.child.result c.child.ensures
           l.invariant.asked c.in-StillRunning.ensures.asked;
-      children = step_set init l.children l.i d lt l.invariant.children e c.poll_once.new.watch (c.in-StillRunning.ensures.watched refl).0;
+      children = step_set init l.children l.i d lt l.invariant.children e c.poll_once.new.counts (c.in-StillRunning.ensures.watched refl).0;
       on =
-          All-set IsRunningChild l.children l.i (record (get_or l.children l.i e) { watch = c.poll_once.new.watch }) (
-            subst (λ (t : RunningChild). AreRunningCounts t.limit c.poll_once.new.watch) (same_at init l.children l.i d lt l.invariant.children e)
+          All-set IsRunningChild l.children l.i (record (get_or l.children l.i e) { counts = c.poll_once.new.counts }) (
+            subst (λ (t : RunningChild). AreRunningCounts t.limit c.poll_once.new.counts) (same_at init l.children l.i d lt l.invariant.children e)
                 (c.in-StillRunning.ensures.watched refl).1,
             (on_at init l.children l.i e lt l.invariant.children c.requires).1,
           )

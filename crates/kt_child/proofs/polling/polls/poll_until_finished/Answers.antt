@@ -5,16 +5,16 @@ use Rattle.kt_child.proofs.polling.polls.poll_until_finished.Goals as goal
 
 pub returns-in-Some-clause-waited : goal.returns-in-Some-clause-waited
 returns-in-Some-clause-waited g c =
-    waiting_over g.O.Os.leads c.args.os.now c.turns.os c.poll_each_once.new.os c.args.children.now c.turns.children c.poll_each_once.new.children
-    c.in-Some.over.place c.in-Some.over.outcome c.turns.invariant.waiting c.in-Some.ensures.over c.in-Some.ensures.before
+    waiting_over g.O.Os.leads c.args.os.now c.rounds.os c.poll_each_once.new.os c.args.children.now c.rounds.children c.poll_each_once.new.children
+    c.in-Some.over.index c.in-Some.over.outcome c.rounds.invariant.waiting c.in-Some.ensures.over c.in-Some.ensures.before
 
-pub turns-preserved : goal.turns-preserved
-turns-preserved g c =
+pub rounds-preserved : goal.rounds-preserved
+rounds-preserved g c =
     let P : List RunningChild → Type 0 = λ t. Waiting g.O.Os.leads c.args.os.now c.args.children.now c.pause.new.self t in
     record {
       waiting =
           subst P (sym (c.in_default.ensures.went_on refl))
-          (waiting_more g.O.Os.leads c.args.os.now c.turns.os c.poll_each_once.new.os c.pause.new.self c.args.children.now c.turns.children
-          (is_ok c.pause.result) c.turns.invariant.waiting (c.in_default.ensures.none refl) c.pause.ensures);
+          (waiting_more g.O.Os.leads c.args.os.now c.rounds.os c.poll_each_once.new.os c.pause.new.self c.args.children.now c.rounds.children
+          (is_ok c.pause.result) c.rounds.invariant.waiting (c.in_default.ensures.none refl) c.pause.ensures);
       on = c.poll_each_once.ensures.on;
     }

@@ -1,5 +1,5 @@
 use Rattle.std.proofs.Common.{◌∙◌, ap, List}
-use Rattle.kt_metadata.proofs.Common.{chars, option_map, Variable, value_of, PropertyDefinition, texts_of, given}
+use Rattle.kt_metadata.proofs.Common.{chars, option_map, Variable, value_of, PropertyDefinition, texts_of, parsed_value}
 use Rattle.kt_metadata.proofs.Layers.{text-found, value-found}
 use Rattle.kt_metadata.proofs.layer.Layer.get.Goals as goal
 
@@ -11,4 +11,4 @@ returns-clause-text c =
 pub returns-clause-value : goal.returns-clause-value
 returns-clause-value c =
     ap (option_map (λ (it : PropertyDefinition). it.value)) c.get.ensures.value ∙ value-found c.args.name.now c.utf8.name c.self.inside.given.entries c.self.invariant
-    ∙ ap (λ (pairs : List Variable). given (texts_of pairs) (chars c.args.name.now)) c.self.view_is
+    ∙ ap (λ (pairs : List Variable). parsed_value (texts_of pairs) (chars c.args.name.now)) c.self.view_is

@@ -1,15 +1,15 @@
 use Rattle.std.proofs.Common.{◌≡◌, ◌∙◌, ℕ, Bool, List, [], Option, ap, refl, sym, subst, codes, unwrap_or}
-use Rattle.kt_metadata.proofs.Common.{fun_ext, chars, value_of, value_is, given, words_in, truth_in, size_in, user_in, timeout_in, meta_of, texts_of}
+use Rattle.kt_metadata.proofs.Common.{fun_ext, chars, value_of, value_is, parsed_value, elements_in, truth_in, size_or_default, user_in, timeout_or_default, meta_of, texts_of}
 use Rattle.kt_metadata.specs.declared.meta.Meta.{Meta}
 use Rattle.kt_metadata.specs.declared.value.RequiredUser.{RequiredUser}
 use Rattle.kt_metadata.proofs.Timeouts.{IsTimeout, timeout-within}
 use Rattle.kt_metadata.proofs.props.Props.effective.Goals as goal
 
 meta-is : (texts : List ℕ → Option (List ℕ)) {a b f h i : List (List ℕ)} {d : List ℕ} {t x : Bool} {k m s : ℕ} {u : RequiredUser}
-    → a ≡ words_in (given texts (codes "allowed_architectures")) → b ≡ words_in (given texts (codes "allowed_platforms")) → d ≡ unwrap_or (texts (codes "description")) []
-    → t ≡ truth_in (given texts (codes "has_cleanup")) → x ≡ truth_in (given texts (codes "is_exclusive")) → f ≡ words_in (given texts (codes "required_configs"))
-    → k ≡ size_in (given texts (codes "required_disk_space")) → h ≡ words_in (given texts (codes "required_files")) → m ≡ size_in (given texts (codes "required_memory"))
-    → i ≡ words_in (given texts (codes "required_programs")) → u ≡ user_in (given texts (codes "required_user")) → s ≡ timeout_in (given texts (codes "timeout"))
+    → a ≡ elements_in (parsed_value texts (codes "allowed_architectures")) → b ≡ elements_in (parsed_value texts (codes "allowed_platforms")) → d ≡ unwrap_or (texts (codes "description")) []
+    → t ≡ truth_in (parsed_value texts (codes "has_cleanup")) → x ≡ truth_in (parsed_value texts (codes "is_exclusive")) → f ≡ elements_in (parsed_value texts (codes "required_configs"))
+    → k ≡ size_or_default (parsed_value texts (codes "required_disk_space")) → h ≡ elements_in (parsed_value texts (codes "required_files")) → m ≡ size_or_default (parsed_value texts (codes "required_memory"))
+    → i ≡ elements_in (parsed_value texts (codes "required_programs")) → u ≡ user_in (parsed_value texts (codes "required_user")) → s ≡ timeout_or_default (parsed_value texts (codes "timeout"))
     → ◌≡◌ {A = Meta} (record {
       allowed_architectures = a;
       allowed_platforms = b;

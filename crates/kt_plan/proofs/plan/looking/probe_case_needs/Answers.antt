@@ -1,11 +1,11 @@
 use Rattle.std.proofs.Common.{◌≡◌, ◌∷◌, ◌++◌, ◌+◌, ◌<◌, ap, arith, drop, get_or, length, subst, List, ℕ}
-use Rattle.kt_plan.proofs.Common.{common_steps, err_from_is_err_and, LeadsByCalls, IsCallPrefix, ChecksNeeds, Need, RecordsFound, Meta, candidate_meta, needed, needs_of_kinds, needs_of_kind}
+use Rattle.kt_plan.proofs.Common.{common_steps, err_from_is_err_and, LeadsByCalls, IsCallPrefix, ChecksNeeds, Need, RecordsFound, Meta, candidate_meta, required_objects, needs_of_kinds, needs_of_kind}
 use Rattle.kt_plan.proofs.Chains.{asked_short}
 use Rattle.kt_plan.proofs.LookLaws.{looking_next, looking_all, looking_stopped}
 use Rattle.kt_plan.proofs.plan.looking.probe_case_needs.Goals as goal
 use Rattle.std.proofs.lemmas.List.{nil_from_length}
 
-among_next : (needs : List Need) (i : ℕ) (d : Need) (meta : Meta) (words : List (List ℕ)) → i < length needs → words ≡ needed (get_or needs i d) meta
+among_next : (needs : List Need) (i : ℕ) (d : Need) (meta : Meta) (words : List (List ℕ)) → i < length needs → words ≡ required_objects (get_or needs i d) meta
     → needs_of_kinds (drop i needs) meta ≡ needs_of_kind (get_or needs i d) words ++ needs_of_kinds (drop (i + 1) needs) meta
 among_next needs i d meta words few same =
     let e : drop i needs ≡ get_or needs i d ∷ drop (i + 1) needs = grind (arith, few, common_steps) in

@@ -5,5 +5,5 @@ abbrev pub invariant-loop : goal.invariant-loop
 invariant-loop g l =
     record {
       root : l.self.root ≡ l.initial.self.root;
-      place : l.self.place ≡ l.initial.self.place;
+      queue_dir : l.self.queue_dir ≡ l.initial.self.queue_dir;
     }

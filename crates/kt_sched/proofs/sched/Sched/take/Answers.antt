@@ -1,4 +1,4 @@
-use Rattle.kt_sched.proofs.Common.{◌<◌, ℕ, sym, ◌∙◌, ap, subst, SchedState, RepresentsRun, work}
+use Rattle.kt_sched.proofs.Common.{◌<◌, ℕ, sym, ◌∙◌, ap, subst, SchedState, RepresentsRun, changes_left}
 use Rattle.kt_sched.proofs.Begin.{entry_taken, stands_taken, less_taken}
 use Rattle.kt_sched.proofs.sched.Sched.take.Goals as goal
 
@@ -18,5 +18,5 @@ returns-clause-entry c = λ plan n fed h. entry_taken (subst (RepresentsRun plan
 pub returns-clause-less : goal.returns-clause-less
 returns-clause-less c =
     let t = c.take_entry-taken in
-    subst (λ (k : ℕ). work t.new.cases.items < k) (ap (λ (b : SchedState). work b.cases) c.self.view_is)
+    subst (λ (k : ℕ). changes_left t.new.cases.items < k) (ap (λ (b : SchedState). changes_left b.cases) c.self.view_is)
     (less_taken c.self.inside.cases.items c.args.position t.new.cases.items t.result t.ensures)

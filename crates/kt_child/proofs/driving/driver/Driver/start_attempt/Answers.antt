@@ -1,11 +1,11 @@
 use Rattle.std.proofs.Common.{◌≡◌, ◌∙◌, ℕ, List, refl, subst, ap}
-use Rattle.kt_child.proofs.Common.{Chain, ChildrenState, Job, CaseAttempt, SpawnPlan, Call, StartsByPlan, state_after_start, job_purpose, limit_of, case_of, spawn_plan_for, job_spawn_plan, want_of, launcher_child_in, new_running_child}
+use Rattle.kt_child.proofs.Common.{Chain, ChildrenState, Job, CaseAttempt, SpawnPlan, Call, StartsByPlan, state_after_start, job_purpose, child_timeout_seconds, case_of, spawn_plan_for, job_spawn_plan, want_of, launcher_child_in, new_running_child}
 use Rattle.kt_child.specs.declared.planning.Want.{Want}
 use Rattle.kt_child.proofs.StateWaits.{shown_started}
 use Rattle.kt_child.proofs.driving.driver.Driver.start_attempt.Goals as goal
 
 -- The plan with this purpose and timeout is the plan of the job's child.
-planned : (source : List ℕ) (job : Job) (c : CaseAttempt) (want : Want) (limit : ℕ) → want ≡ want_of c.role → limit ≡ limit_of job c.role
+planned : (source : List ℕ) (job : Job) (c : CaseAttempt) (want : Want) (limit : ℕ) → want ≡ want_of c.role → limit ≡ child_timeout_seconds job c.role
     → spawn_plan_for source (record (job_purpose job c.role) { want = want; limit = limit }) c ≡ job_spawn_plan source job c
 planned source job c want limit e f = rw (e, f) refl
 

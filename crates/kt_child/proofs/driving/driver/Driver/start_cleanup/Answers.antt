@@ -1,5 +1,5 @@
 use Rattle.std.proofs.Common.{◌∙◌, refl, ap, inr, rules}
-use Rattle.kt_child.proofs.Common.{ChildrenState, Cleanup, case_of, limit_of, new_running_child, state_after_start}
+use Rattle.kt_child.proofs.Common.{ChildrenState, Cleanup, case_of, child_timeout_seconds, new_running_child, state_after_start}
 use Rattle.kt_child.proofs.BoardSteps.{board_started}
 use Rattle.kt_child.proofs.driving.driver.Driver.start_cleanup.Goals as goal
 
@@ -10,7 +10,7 @@ returns g c =
     let owed = c.take_pending_cleanup-owed.result in
     let case = case_of job Cleanup owed.attempt owed.paths in
     let b = c.start_attempt.ensures.begun in
-    let L : ChildrenState → ChildrenState = λ s. state_after_start s (new_running_child (limit_of job Cleanup) case) c.start_attempt.result in
+    let L : ChildrenState → ChildrenState = λ s. state_after_start s (new_running_child (child_timeout_seconds job Cleanup) case) c.start_attempt.result in
     let after = board_started _ _ job case c.start_attempt.result (c.start_attempt.ensures.state ∙ ap L t.2) in
     record {
       starts = (

@@ -2,9 +2,9 @@
 use Rattle.std.specs.Prelude.{List, Option}
 use Rattle.kt_atflist.specs.declared.listing.CaseDef.{CaseDef}
 
--- `Read`: a state of the reader of a list: the cases of the finished blocks, and the block that has
+-- `ReaderState`: a state of the reader of a list: the cases of the finished blocks, and the block that has
 -- begun, if any.
-pub record Read : Type 0 where
+pub record ReaderState : Type 0 where
   -- The test cases whose blocks in the list are finished, in order.
   pub cases : List CaseDef
   -- The case of the block that has begun, or nothing between two blocks.

@@ -9,7 +9,7 @@ use Rattle.kt_child.specs.Polling.ChildOutcome.{Yields, responses_so_far}
 
 -- `child_after_running k`: the running child `k` after one more poll that reports it as running.
 abbrev pub child_after_running : RunningChild → RunningChild
-child_after_running k = record { case = k.case; limit = k.limit; watch = counts_after_running k.limit k.watch }
+child_after_running k = record { case = k.case; limit = k.limit; counts = counts_after_running k.limit k.counts }
 
 -- `children_after_running n children`: the running children `children`, after one more poll of each
 -- of the first `n`. Each of these polls reports the child as running.
@@ -24,8 +24,8 @@ abbrev pub PollsAll : List RunningChild → List Call → Type 0
 PollsAll [] calls = calls ≡ []
 PollsAll (k ∷ children) calls =
     (answer : Result ChildState OsFault) × (done : Bool) × (more : List Call)
-    × (calls ≡ poll_calls (child_of k.case) k.limit k.watch answer done ++ more)
-    × (progress_after_poll k.limit k.watch answer done ≡ StillRunning)
+    × (calls ≡ poll_calls (child_of k.case) k.limit k.counts answer done ++ more)
+    × (progress_after_poll k.limit k.counts answer done ≡ StillRunning)
     × PollsAll children more
 
 -- `EndsAtPoll k calls outcome`: `k` is a child, not `None`, and `calls` are one poll of it and the
@@ -35,9 +35,9 @@ abbrev pub EndsAtPoll : Option RunningChild → List Call → Outcome → Type 0
 EndsAtPoll None calls outcome = ⊥
 EndsAtPoll (Some k) calls outcome =
     (answer : Result ChildState OsFault) × (done : Bool)
-    × (calls ≡ poll_calls (child_of k.case) k.limit k.watch answer done)
-    × (progress_after_poll k.limit k.watch answer done ≡ Ended outcome)
-    × Yields k.limit (responses_so_far k.limit k.watch ++ poll_responses k.limit k.watch answer done) outcome
+    × (calls ≡ poll_calls (child_of k.case) k.limit k.counts answer done)
+    × (progress_after_poll k.limit k.counts answer done ≡ Ended outcome)
+    × Yields k.limit (responses_so_far k.limit k.counts ++ poll_responses k.limit k.counts answer done) outcome
 
 -- `PollsUntil children i calls outcome`: `calls` are one poll of each of the running children
 -- `children` from the first to that at the index `i`, in order. A kill may follow a poll. The child
@@ -47,13 +47,13 @@ PollsUntil children i calls outcome =
     (before : List Call) × (last : List Call) × (calls ≡ before ++ last)
     × PollsAll (take i children) before × EndsAtPoll (slice_get children i) last outcome
 
--- `PollsInTurns children calls place outcome after`: `calls` poll the running children `children`
+-- `PollsInRounds children calls place outcome after`: `calls` poll the running children `children`
 -- in turns until a child has finished. A pause follows each turn without a finished child. In the
 -- last turn, the child at the index `place` finishes with `outcome`. `after` are the children with
 -- their poll counts after these polls.
-pub data PollsInTurns : List RunningChild → List Call → ℕ → Outcome → List RunningChild → Type 0 where
-  last_turn : (children : List RunningChild) (calls : List Call) (place : ℕ) (outcome : Outcome)
-      → PollsUntil children place calls outcome → PollsInTurns children calls place outcome (children_after_running place children)
-  whole_turn : (children after : List RunningChild) (turn more : List Call) (done : Bool) (place : ℕ) (outcome : Outcome)
-      → PollsAll children turn → PollsInTurns (map child_after_running children) more place outcome after
-      → PollsInTurns children (turn ++ Pause done ∷ more) place outcome after
+pub data PollsInRounds : List RunningChild → List Call → ℕ → Outcome → List RunningChild → Type 0 where
+  last_round : (children : List RunningChild) (calls : List Call) (place : ℕ) (outcome : Outcome)
+      → PollsUntil children place calls outcome → PollsInRounds children calls place outcome (children_after_running place children)
+  whole_round : (children after : List RunningChild) (round more : List Call) (done : Bool) (place : ℕ) (outcome : Outcome)
+      → PollsAll children round → PollsInRounds (map child_after_running children) more place outcome after
+      → PollsInRounds children (round ++ Pause done ∷ more) place outcome after

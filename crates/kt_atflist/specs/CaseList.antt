@@ -15,11 +15,11 @@ use Rattle.kt_atflist.specs.declared.list_fault.ListCause.TheVariants as cause
 use Rattle.kt_atflist.specs.declared.list_fault.ListCause.TheVariants.{BadHeader, BadLine, NoIdent, RepeatedKey, RepeatedIdent, UnknownKey, BadValue, EmptyList, NotUtf8}
 use Rattle.kt_atflist.specs.declared.list_fault.ListFault.{ListFault}
 use Rattle.kt_atflist.specs.declared.listing.CaseDef.{CaseDef}
-use Rattle.kt_atflist.specs.Read.{Read}
+use Rattle.kt_atflist.specs.ReaderState.{ReaderState}
 
--- `Outcome`: the result of parsing a list: the cases of the list, or its first fault.
-abbrev pub Outcome : Type 0
-Outcome = Result (List CaseDef) ListFault
+-- `ParseResult`: the result of parsing a list: the cases of the list, or its first fault.
+abbrev pub ParseResult : Type 0
+ParseResult = Result (List CaseDef) ListFault
 
 -- `header`: the first line of each list of test cases, without its newline.
 abbrev pub header : List ℕ
@@ -34,7 +34,7 @@ fault_at cause line = record { cause = cause; line = line }
 -- `IsNextState cases line block next`: the line `line` is valid, and `next` is the reader's state
 -- after it. Before the line, the finished blocks have the cases `cases`, and `block` is the block
 -- that has begun, or nothing between two blocks.
-pub data IsNextState (cases : List CaseDef) (line : List ℕ) : Option CaseDef → Read → Type 0 where
+pub data IsNextState (cases : List CaseDef) (line : List ℕ) : Option CaseDef → ReaderState → Type 0 where
   begins : (name : List ℕ) → line_ident line ≡ Some name → is_case_name name ≡ true → is_listed cases (lossy name) ≡ false
       → IsNextState cases line None (record { cases = cases; block = Some (empty_case (lossy name)) })
   gives : (block : CaseDef) (value : List ℕ) (property : List ℕ) → is_empty line ≡ false → line_value line ≡ Some value → is_empty (line_key line) ≡ false
@@ -49,7 +49,7 @@ pub data IsNextState (cases : List CaseDef) (line : List ℕ) : Option CaseDef �
 pub data IsBlockSequence : List CaseDef → Option CaseDef → List (List ℕ) → List CaseDef → Type 0 where
   no_block : (cases : List CaseDef) → IsBlockSequence cases None [] cases
   last_block : (cases : List CaseDef) (block : CaseDef) → IsBlockSequence cases (Some block) [] (cases ++ block ∷ [])
-  line : (cases : List CaseDef) (block : Option CaseDef) (first : List ℕ) (rest : List (List ℕ)) (next : Read) (all : List CaseDef)
+  line : (cases : List CaseDef) (block : Option CaseDef) (first : List ℕ) (rest : List (List ℕ)) (next : ReaderState) (all : List CaseDef)
       → IsNextState cases first block next → IsBlockSequence next.cases next.block rest all → IsBlockSequence cases block (first ∷ rest) all
 
 -- ---- faulty lines
@@ -111,7 +111,7 @@ pub data IsFaultyLine (cases : List CaseDef) (line : List ℕ) : Option CaseDef 
 pub data HasFirstFault : ℕ → List CaseDef → Option CaseDef → List (List ℕ) → ListFault → Type 0 where
   here : (n : ℕ) (cases : List CaseDef) (block : Option CaseDef) (first : List ℕ) (rest : List (List ℕ)) (cause : ListCause)
       → IsFaultyLine cases first block cause → HasFirstFault n cases block (first ∷ rest) (fault_at cause n)
-  later : (n : ℕ) (cases : List CaseDef) (block : Option CaseDef) (first : List ℕ) (rest : List (List ℕ)) (next : Read) (fault : ListFault)
+  later : (n : ℕ) (cases : List CaseDef) (block : Option CaseDef) (first : List ℕ) (rest : List (List ℕ)) (next : ReaderState) (fault : ListFault)
       → IsNextState cases first block next → HasFirstFault (n + 1) next.cases next.block rest fault → HasFirstFault n cases block (first ∷ rest) fault
 
 -- ---- whole texts
@@ -150,10 +150,10 @@ IsResult text (Ok cases) = IsListText text cases
 IsResult text (Err fault) = HasFault text fault
 
 -- `IsOutOfMemory result`: the result `result` of a parser is the error of a failed allocation.
-abbrev pub IsOutOfMemory : Outcome → Type 0
+abbrev pub IsOutOfMemory : ParseResult → Type 0
 IsOutOfMemory result = (refusal : NoMemory) × (result ≡ Err (fault_at (cause.NoMemory refusal) 0))
 
 -- `IsResultOrOutOfMemory result answer`: the result `result` of a parser is the specified result
 -- `answer`, or the error of a failed allocation.
-abbrev pub IsResultOrOutOfMemory : Outcome → Outcome → Type 0
+abbrev pub IsResultOrOutOfMemory : ParseResult → ParseResult → Type 0
 IsResultOrOutOfMemory result answer = IsOutOfMemory result ⊎ (result ≡ answer)
