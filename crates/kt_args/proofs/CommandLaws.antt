@@ -1,6 +1,6 @@
 -- Each command line that `clap` accepts names a command.
 use Rattle.std.proofs.Common.{rules, tests, arith, IfOk, IfSome, ◌≤◌, subst, ◌≡◌, ◌∙◌, ℕ, Bool, true, false, cond, ◌||◌, ◌&&◌, List, [], ◌∷◌, Option, Some, None, refl, ap, ap₂, sym, is_some, Result, Ok, Err, bytes_eq, codes, find, option_map}
-use Rattle.kt_args.proofs.Common.{list_all, App, IsParsedFrom, Row, Shape, Text, app_of, built, fault_of, first_of, is_simple, is_simple_and_free, matches_of, subcommand_of, subcommand_rows_of, out-Command, out-ArgMatches, argument_words, entered, label_of, names_of, rows_at, Kind, kyua_app, Reads, IsArgsFault, command_in, report_or_error, junit_or_error, report_in, junit_in, options_in, results_path, kinds_option, run_option}
+use Rattle.kt_args.proofs.Common.{list_all, App, IsParsedFrom, Row, Shape, Text, app_of, built, fault_of, first_of, is_simple, is_simple_and_free, matches_of, subcommand_of, subcommand_rows_of, out-Command, out-ArgMatches, argument_words, entered, label_of, names_of, rows_at, Kind, kyua_app, ParsesCommand, IsArgsFault, command_in, report_or_error, junit_or_error, report_in, junit_in, case_options_in, results_path, kinds_option, run_option}
 use Rattle.std.specs.Option.{option_map_or}
 use Rattle.clap.specs.declared.builder.command.Command.{Command as ClapCommand}
 use Rattle.clap.specs.declared.parser.matches.ArgMatches.{ArgMatches}
@@ -12,7 +12,7 @@ use Rattle.kt_args.specs.declared.options.CaseOptions.{CaseOptions}
 use Rattle.kt_args.specs.Commands.{HasValidRun}
 use Rattle.kt_base.specs.Limits.{greatest_run_number}
 use Rattle.kt_args.specs.declared.command_fault.CommandFault.{CommandFault}
-use Rattle.kt_args.specs.Inner.Reading.{Answers}
+use Rattle.kt_args.specs.Inner.Reading.{IsResultOrNoMemory}
 use Rattle.kt_args.specs.declared.command.Command.TheVariants as command
 use Rattle.kt_args.specs.declared.command_fault.CommandFault.TheVariants as fault
 
@@ -85,7 +85,7 @@ in_fits : (before : List Row) (o : Option (Text × List Row)) → Fits (is_some 
 in_fits before None = refl
 in_fits before (Some p) =
     named_fits (bytes_eq p.0 (codes "list")) (bytes_eq p.0 (codes "test")) (bytes_eq p.0 (codes "debug")) (bytes_eq p.0 (codes "report")) (bytes_eq p.0 (codes "report-junit"))
-    (options_in before p.1) (results_path p.1) (report_in before p.1) (junit_in before p.1)
+    (case_options_in before p.1) (results_path p.1) (report_in before p.1) (junit_in before p.1)
     (report_fits before p.1 (kinds_option (first_of (codes "kinds") p.1)) _ (run_in_range (first_of (codes "run") p.1))) (junit_fits before p.1 _ (run_in_range (first_of (codes "run") p.1)))
 
 both_true : (a b : Bool) → a ≡ true → b ≡ true → (a && b) ≡ false → ⊥
@@ -99,7 +99,7 @@ no_usage before words message some is =
     (subst (Fits _) is (in_fits before (subcommand_of kyua_app words)))
 
 -- The run number of each result is in its range.
-pub number_in_range : (words : List Text) (r : Result Command CommandFault) → Reads words r → IfOk r HasValidRun
+pub number_in_range : (words : List Text) (r : Result Command CommandFault) → ParsesCommand words r → IfOk r HasValidRun
 number_in_range words (Err f) s = tt
 number_in_range words (Ok c) s = subst (Fits _) (sym s.1) (in_fits (matches_of kyua_app words) (subcommand_of kyua_app words))
 
@@ -118,7 +118,7 @@ is_free_line = refl
 -- A result for the values that `clap` finds is a result for the arguments.
 pub reads_found : (words : List Text) (before : List Row) (o : Option (Text × List Row)) (r : Result Command CommandFault)
     → before ≡ matches_of kyua_app words → o ≡ subcommand_of kyua_app words → is_some o ≡ true → fault_of kyua_app words ≡ []
-    → Answers (command_in before o) r → Reads words r
+    → IsResultOrNoMemory (command_in before o) r → ParsesCommand words r
 reads_found words before o (Ok c) e d some none a = (none, sym a ∙ ap₂ command_in e d)
 reads_found words before o (Err fault.BadKind) e d some none a = (none, sym a ∙ ap₂ command_in e d)
 reads_found words before o (Err fault.BadRun) e d some none a = (none, sym a ∙ ap₂ command_in e d)

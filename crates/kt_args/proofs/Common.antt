@@ -9,5 +9,5 @@ pub use Rattle.clap.specs.declared.builder.command.Command.TheViews.{out-Command
 pub use Rattle.clap.specs.declared.parser.matches.ArgMatches.TheViews.{out-ArgMatches, out-SubCommand}
 pub use Rattle.kt_base.specs.declared.verdict.Kind.{Kind}
 pub use Rattle.kt_args.specs.Grammar.{bare_app, kyua_app}
-pub use Rattle.kt_args.specs.Reading.{Reads, IsArgsFault, command_in, junit_in, junit_or_error, kinds_option, options_in, report_in, report_or_error, results_path, run_option, option_texts}
+pub use Rattle.kt_args.specs.Reading.{ParsesCommand, IsArgsFault, command_in, junit_in, junit_or_error, kinds_option, case_options_in, report_in, report_or_error, results_path, run_option, option_texts}
 pub use Rattle.kt_args.specs.Words.{comma_elements, kind_of_element, kinds_of_elements, with_kind}

@@ -7,21 +7,21 @@ use Rattle.kt_args.specs.declared.filter_rule.FilterRule.{FilterRule}
 use Rattle.kt_args.specs.declared.filter_rule.FilterRule.TheVariants.{AnyFilters, OneCase}
 use Rattle.kt_args.specs.declared.command.Command.TheVariants as command
 
--- `cases_of c`: the options of the command `c` if it is `list`, `test` or `debug`, and otherwise
+-- `case_options_of c`: the options of the command `c` if it is `list`, `test` or `debug`, and otherwise
 -- `None`.
-abbrev pub cases_of : Command → Option CaseOptions
-cases_of (command.List options) = Some options
-cases_of (command.Test options file) = Some options
-cases_of (command.Debug options) = Some options
-cases_of other = None
+abbrev pub case_options_of : Command → Option CaseOptions
+case_options_of (command.List options) = Some options
+case_options_of (command.Test options file) = Some options
+case_options_of (command.Debug options) = Some options
+case_options_of other = None
 
--- `results_of c`: the path of the results file that the command `c` reads or writes, or `None` if
+-- `results_file_of c`: the path of the results file that the command `c` reads or writes, or `None` if
 -- it uses no results file.
-abbrev pub results_of : Command → Option (List ℕ)
-results_of (command.Test options file) = Some file
-results_of (command.Report options kinds verbose) = Some options.results
-results_of (command.ReportJunit options) = Some options.results
-results_of other = None
+abbrev pub results_file_of : Command → Option (List ℕ)
+results_file_of (command.Test options file) = Some file
+results_file_of (command.Report options kinds verbose) = Some options.results
+results_file_of (command.ReportJunit options) = Some options.results
+results_file_of other = None
 
 -- `adds_run c`: the command `c` is `test`, which adds a run to its results file.
 abbrev pub adds_run : Command → Bool

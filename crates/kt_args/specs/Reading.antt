@@ -56,11 +56,11 @@ kinds_option (Some word) = kinds_of_elements (comma_elements word)
 
 -- ---- commands
 
--- `options_in before own`: the options and arguments of `list`, `test` or `debug`. `before` are the
+-- `case_options_in before own`: the options and arguments of `list`, `test` or `debug`. `before` are the
 -- options before the command's name, and `own` are the options and arguments after it, with their
 -- values.
-abbrev pub options_in : List Row → List Row → CaseOptions
-options_in before own = record {
+abbrev pub case_options_in : List Row → List Row → CaseOptions
+case_options_in before own = record {
   config = option_text (codes "config") before;
   variables = option_texts (codes "variables") before;
   kyuafile = option_text_or_default (codes "Kyuafile") (codes "kyuafile") own;
@@ -115,9 +115,9 @@ junit_in before own = junit_or_error before own (run_option (first_of (codes "ru
 -- `own` are the options and arguments after it, with their values.
 abbrev pub command_named : List Row → Text → List Row → Result Command CommandFault
 command_named before name own =
-    if bytes_eq name (codes "list") then Ok (command.List (options_in before own))
-    else if bytes_eq name (codes "test") then Ok (command.Test (options_in before own) (results_path own))
-    else if bytes_eq name (codes "debug") then Ok (command.Debug (options_in before own))
+    if bytes_eq name (codes "list") then Ok (command.List (case_options_in before own))
+    else if bytes_eq name (codes "test") then Ok (command.Test (case_options_in before own) (results_path own))
+    else if bytes_eq name (codes "debug") then Ok (command.Debug (case_options_in before own))
     else if bytes_eq name (codes "report") then report_in before own
     else if bytes_eq name (codes "report-junit") then junit_in before own
     else Err (fault.Usage [])
@@ -131,18 +131,18 @@ command_in before (Some entered) = command_named before entered.0 entered.1
 
 -- ---- results
 
--- `Reads words result`: `result` is the result of parsing the arguments `words`. If `clap` rejects
+-- `ParsesCommand words result`: `result` is the result of parsing the arguments `words`. If `clap` rejects
 -- the arguments, `result` is `Usage`. Otherwise, `result` is the command with the values that
 -- `clap` finds, or the error of this command. `result` may also be `NoMemory`.
-abbrev pub Reads : List Text → Result Command CommandFault → Type 0
-Reads words (Err (fault.NoMemory shortage)) = ⊤
-Reads words (Err (fault.Usage message)) = fault_of kyua_app words ≢ []
-Reads words result =
+abbrev pub ParsesCommand : List Text → Result Command CommandFault → Type 0
+ParsesCommand words (Err (fault.NoMemory shortage)) = ⊤
+ParsesCommand words (Err (fault.Usage message)) = fault_of kyua_app words ≢ []
+ParsesCommand words result =
     (fault_of kyua_app words ≡ []) × (result ≡ command_in (matches_of kyua_app words) (subcommand_of kyua_app words))
 
--- `IsArgsFault short fault`: `fault`, an error of a command line, is `Usage` or `NoMemory`. It is
--- `NoMemory` if `short`, the condition that memory ran short, is true.
+-- `IsArgsFault out_of_memory fault`: `fault`, an error of a command line, is `Usage` or `NoMemory`. It is
+-- `NoMemory` if `out_of_memory`, the condition that memory ran short, is true.
 abbrev pub IsArgsFault : Type 0 → CommandFault → Type 0
-IsArgsFault short (fault.NoMemory shortage) = ⊤
-IsArgsFault short (fault.Usage message) = short → ⊥
-IsArgsFault short other = ⊥
+IsArgsFault out_of_memory (fault.NoMemory shortage) = ⊤
+IsArgsFault out_of_memory (fault.Usage message) = out_of_memory → ⊥
+IsArgsFault out_of_memory other = ⊥

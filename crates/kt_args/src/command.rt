@@ -50,11 +50,11 @@ impl Drop for Command {
 
 impl Command {
     ghost use Rattle.std.specs.Prelude.{◌≡◌};
-    ghost use Rattle.kt_args.specs.Common.{adds_run, cases_of, option_copied, results_of};
+    ghost use Rattle.kt_args.specs.Common.{adds_run, case_options_of, option_copied, results_file_of};
 
     /// Returns the options of `list`, `test` or `debug`, or `None` for a report.
     pub fn case_options(&self) -> Option<&CaseOptions>
-        ensures { option_copied result ≡ cases_of self.now }
+        ensures { option_copied result ≡ case_options_of self.now }
     {
         match self {
             Command::List(options) | Command::Test { options, .. } | Command::Debug(options) => {
@@ -75,7 +75,7 @@ impl Command {
     ///
     /// Returns `None` for `list` and `debug`, which use no results file.
     pub fn results_file(&self) -> Option<&Text>
-        ensures { option_copied result ≡ results_of self.now }
+        ensures { option_copied result ≡ results_file_of self.now }
     {
         match self {
             Command::Test { results, .. } => Some(results),

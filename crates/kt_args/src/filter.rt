@@ -23,15 +23,15 @@ fn parse_kind(word: &[u8]) -> Option<Kind>
     value_of_keyword_bytes(word, &KIND_NAMES)
 }
 
-/// Splits the results filter `words` at each comma and returns the elements.
-fn split_at_commas(alloc: Global, words: &[u8]) -> Result<Vec<&[u8]>, NoMemory>
+/// Splits the results filter `filter` at each comma and returns the elements.
+fn split_at_commas(alloc: Global, filter: &[u8]) -> Result<Vec<&[u8]>, NoMemory>
     ensures { IfOk result (λ elements.
-        map (λ element. element.now) elements.items ≡ comma_elements words.now) }
+        map (λ element. element.now) elements.items ≡ comma_elements filter.now) }
 {
-    Ok(words.split(|c| *c == b',').collect(alloc)?)
+    Ok(filter.split(|c| *c == b',').collect(alloc)?)
 }
 
-/// Parses `words` as a results filter: one or more kinds of verdicts, separated by commas.
+/// Parses `filter` as a results filter: one or more kinds of verdicts, separated by commas.
 ///
 /// Returns the kinds in the order of the filter. A kind may be given several times.
 ///
@@ -39,10 +39,10 @@ fn split_at_commas(alloc: Global, words: &[u8]) -> Result<Vec<&[u8]>, NoMemory>
 ///
 /// - `BadKind`: an element does not name a kind. An empty filter has one empty element.
 /// - `NoMemory`: an allocation fails.
-pub fn parse_kinds(alloc: Global, words: &[u8]) -> Result<Items<Kind>, CommandFault>
-    ensures { ParsesKinds (kinds_of_elements (comma_elements words.now)) result }
+pub fn parse_kinds(alloc: Global, filter: &[u8]) -> Result<Items<Kind>, CommandFault>
+    ensures { ParsesKinds (kinds_of_elements (comma_elements filter.now)) result }
 {
-    let elements = split_at_commas(alloc, words)?;
+    let elements = split_at_commas(alloc, filter)?;
     let mut kinds = Items::new(alloc);
     for element in &elements {
         let Some(kind) = parse_kind(*element) else {

@@ -1,5 +1,5 @@
 ghost use Rattle.std.specs.Prelude.{◌≡◌, drop, map, chars, codes, option_map, IfOk, IfErr, IsErrAnd};
-ghost use Rattle.kt_args.specs.Common.{string_bytes, into_iter_items, all_of, first_of, found_of, rows_of, subcommand_rows_of, error_kind, OutOfMemory, HasValidRun, Reads, IsArgsFault, command_in, command_named, is_true, junit_in, kinds_option, options_in, report_in, report_options, results_path, run_option, option_text, option_text_or_default, option_texts, Answers, ParsesRun, ParsesKinds};
+ghost use Rattle.kt_args.specs.Common.{string_bytes, into_iter_items, all_of, first_of, found_of, rows_of, subcommand_rows_of, error_kind, OutOfMemory, HasValidRun, ParsesCommand, IsArgsFault, command_in, command_named, is_true, junit_in, kinds_option, case_options_in, report_in, report_options, results_path, run_option, option_text, option_text_or_default, option_texts, IsResultOrNoMemory, ParsesRun, ParsesKinds};
 
 use crate::arguments::{DEFAULT_KYUAFILE, DEFAULT_RESULTS_FILE, DEFAULT_WORK_DIR, kyua_command};
 use crate::filter::{default_kinds, parse_kinds};
@@ -157,7 +157,7 @@ fn parse_case_options<'a>(
     own: &ArgMatches<'a>,
 ) -> Result<CaseOptions, NoMemory>
     ensures { IfOk result (λ options.
-        options ≡ options_in (rows_of (found_of before.now)) (rows_of (found_of own.now))) }
+        options ≡ case_options_in (rows_of (found_of before.now)) (rows_of (found_of own.now))) }
 {
     let config = option_text(alloc, before, "config")?;
     let variables = option_texts(alloc, before, "variables")?;
@@ -215,7 +215,7 @@ fn parse_report_command<'a>(
     before: &ArgMatches<'a>,
     own: &ArgMatches<'a>,
 ) -> Result<Command, CommandFault>
-    ensures { Answers (report_in (rows_of (found_of before.now)) (rows_of (found_of own.now)))
+    ensures { IsResultOrNoMemory (report_in (rows_of (found_of before.now)) (rows_of (found_of own.now)))
         result }
 {
     let kinds = parse_kinds_option(alloc, own)?;
@@ -237,7 +237,7 @@ fn parse_junit_command<'a>(
     before: &ArgMatches<'a>,
     own: &ArgMatches<'a>,
 ) -> Result<Command, CommandFault>
-    ensures { Answers (junit_in (rows_of (found_of before.now)) (rows_of (found_of own.now)))
+    ensures { IsResultOrNoMemory (junit_in (rows_of (found_of before.now)) (rows_of (found_of own.now)))
         result }
 {
     let run = parse_run_option(own)?;
@@ -257,7 +257,7 @@ fn parse_subcommand<'a>(
     name: &str,
     own: &ArgMatches<'a>,
 ) -> Result<Command, CommandFault>
-    ensures { Answers (command_named (rows_of (found_of before.now)) name.now
+    ensures { IsResultOrNoMemory (command_named (rows_of (found_of before.now)) name.now
         (rows_of (found_of own.now))) result }
 {
     if name == "list" {
@@ -299,7 +299,7 @@ fn get_subcommand<'b, 'a>(matches: &'b ArgMatches<'a>) -> Option<(&'a str, &'b A
 /// empty text if there is no command. This does not happen, because `clap` rejects such a command
 /// line first.
 fn parse_matches<'a>(alloc: Global, matches: &ArgMatches<'a>) -> Result<Command, CommandFault>
-    ensures { Answers (command_in (rows_of (found_of matches.now))
+    ensures { IsResultOrNoMemory (command_in (rows_of (found_of matches.now))
         (subcommand_rows_of matches.now)) result }
 {
     match get_subcommand(matches) {
@@ -324,7 +324,7 @@ fn parse_matches<'a>(alloc: Global, matches: &ArgMatches<'a>) -> Result<Command,
 /// - `BadRun`: the run number is not a decimal number from 1 to 1,000,000.
 /// - `NoMemory`: an allocation fails.
 pub fn read_command<'a>(alloc: Global, words: &'a [String]) -> Result<Command, CommandFault>
-    ensures value { Reads (map (λ word. string_bytes word) words.entry.now) result }
+    ensures value { ParsesCommand (map (λ word. string_bytes word) words.entry.now) result }
     ensures range { IfOk result HasValidRun }
 {
     let line = kyua_command(alloc)?;
@@ -382,7 +382,7 @@ fn args_error(alloc: Global, error: &io::Error) -> CommandFault
 /// - `NoMemory`: an allocation fails.
 pub fn read_process_args(alloc: Global, words: io::Result<Args>) -> Result<Command, CommandFault>
     ensures value { IfOk words (λ all.
-        Reads (map (λ word. string_bytes word) (drop 1 (into_iter_items all))) result) }
+        ParsesCommand (map (λ word. string_bytes word) (drop 1 (into_iter_items all))) result) }
     ensures refused { IfErr words (λ e.
         IsErrAnd result (λ fault. IsArgsFault (error_kind e ≡ OutOfMemory) fault)) }
     ensures range { IfOk result HasValidRun }

@@ -1,6 +1,6 @@
 -- The run that is shown is the chosen one.
 use Rattle.std.proofs.Common.{Option, Some, None, slice_get, map, get_or, drop, unwrap_or, ◌++◌, ◌==◌, ◌≡◌, ℕ, zero, suc, List, [], ◌∷◌, length, arith, refl, sym, ap, ◌∙◌, ◌⊎◌, inl, inr}
-use Rattle.kt_cli.proofs.Common.{find, option_map, nat_tests, Entry, Run, IsDatabaseFault, head_at, head_of, outline_entry, DifferInOutputs, AreNumbered, run_at, RunHead, StoreFault}
+use Rattle.kt_cli.proofs.Common.{find, option_map, nat_tests, Entry, Run, IsDatabaseFault, head_at, head_of, outline_entry, AreEqualExceptOutputs, AreNumbered, run_at, RunHead, StoreFault}
 use Rattle.kt_store.specs.declared.store_fault.StoreFault.TheVariants.{NoRun as Absent}
 use Rattle.std.proofs.lemmas.Option.{same_Some}
 use Rattle.kt_store.proofs.RunsByNumber.{number_at}
@@ -30,7 +30,7 @@ entries_there number runs head fault h e (inr s) =
     let z = sym s.1 ∙ n in absurd (cc)
 
 -- each entry of an outline is in the run, by its position
-pub entry_found : (es xs rest : List Entry) (e : Entry) → DifferInOutputs (xs ++ e ∷ rest) (map outline_entry es) → find (λ (d : Entry). d.position == e.position) es ≡ None → ⊥
+pub entry_found : (es xs rest : List Entry) (e : Entry) → AreEqualExceptOutputs (xs ++ e ∷ rest) (map outline_entry es) → find (λ (d : Entry). d.position == e.position) es ≡ None → ⊥
 entry_found [] [] rest e same none = absurd (cc)
 entry_found [] (x ∷ xs) rest e same none = absurd (cc)
 entry_found (y ∷ es) [] rest e same none = grind (arith, nat_tests, ap (λ (ds : List Entry). (get_or ds 0 e).position) same)

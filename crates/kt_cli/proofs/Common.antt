@@ -22,7 +22,7 @@ pub use Rattle.kt_plan.proofs.PlansFit.{plan_fits}
 pub use Rattle.kt_plan.specs.WorldCalls.{CallToHost, CallToTree, WorldCall, WorldLeads, host_calls}
 pub use Rattle.kt_plan.specs.declared.cases.Candidate.{Candidate}
 pub use Rattle.kt_report.proofs.InTurn.{shows_cut_off, shows_whole}
-pub use Rattle.kt_report.specs.Junits.{case_bytes, ending, heading, junit_bytes, junit_layout}
+pub use Rattle.kt_report.specs.Junits.{case_bytes, junit_end, junit_start, junit_bytes, junit_layout}
 pub use Rattle.kt_report.specs.Lines.{line_bytes}
 pub use Rattle.kt_report.specs.Texts.{IsDateOf, entries_by_section, has_kind, last_kind, title_line_after, text_bytes, text_layout, titled_lines}
 pub use Rattle.kt_sched.specs.Children.{IsIdle}
@@ -45,7 +45,7 @@ pub use Rattle.kt_store.specs.declared.result_store.CaseOutputs.{CaseOutputs}
 pub use Rattle.kt_store.specs.declared.result_store.RunHead.{RunHead}
 pub use Rattle.kt_store.specs.declared.store_fault.StoreFault.{StoreFault}
 pub use Rattle.kt_store.specs.declared.store_fault.StoreFault.TheVariants.{NoRun}
-pub use Rattle.kt_args.specs.Commands.{cases_of, filter_rule_of}
+pub use Rattle.kt_args.specs.Commands.{case_options_of, filter_rule_of}
 pub use Rattle.kt_args.specs.declared.command.Command.{Command}
 pub use Rattle.kt_args.specs.declared.filter_rule.FilterRule.{FilterRule}
 pub use Rattle.kt_args.specs.declared.filter_rule.FilterRule.TheVariants.{AnyFilters, OneCase}
@@ -56,25 +56,25 @@ pub use Rattle.kt_cli.specs.CaseLines.{case_line}
 pub use Rattle.kt_cli.specs.Debugging.{all_debug_bytes, debug_bytes, debug_exit}
 pub use Rattle.kt_cli.specs.FaultLines.{memory_line, store_fault_line}
 pub use Rattle.kt_cli.specs.HostReplies.{IsHostReply, IsFileCall, host_world, file_call_keeps_children, call_keeps_children}
-pub use Rattle.kt_cli.specs.Inner.Debugging.{DebugEnds, ExecutesDebug, Prints}
+pub use Rattle.kt_cli.specs.Inner.Debugging.{IsDebugResult, ExecutesDebug, Prints}
 pub use Rattle.kt_cli.specs.Inner.FaultLines.{run_line}
 pub use Rattle.kt_cli.specs.Inner.Pages.{WritesNext, WritesMore}
-pub use Rattle.kt_cli.specs.Inner.Recording.{Recorded, Recording, recording, sink_fault_of}
-pub use Rattle.kt_cli.specs.Inner.Recordings.{RecordEnds, RecordedAll, RecordedNone, RecordedSome, Records}
+pub use Rattle.kt_cli.specs.Inner.Recording.{RecordsEntry, Recording, recording, sink_fault_of}
+pub use Rattle.kt_cli.specs.Inner.Recordings.{IsRecordingResult, RecordedAll, RecordedNone, RecordedSome, ExecutesAndRecords}
 pub use Rattle.kt_cli.specs.Inner.Reports.{WritesReport}
-pub use Rattle.kt_cli.specs.Inner.StoredDetails.{Reading, ReadsEntry, WritesStored, outputs_reading, pairs_reading}
-pub use Rattle.kt_cli.specs.Inner.Stores.{put_all}
+pub use Rattle.kt_cli.specs.Inner.StoredDetails.{Reading, ReadsEntry, WritesStoredReport, outputs_reading, pairs_reading}
+pub use Rattle.kt_cli.specs.Inner.Stores.{runs_after_puts}
 pub use Rattle.kt_cli.specs.Inner.Testing.{ExecutesPlan}
 pub use Rattle.kt_cli.specs.Command.{CommandResult, Means, debugged, listed, no_memory, nothing_to_debug, reported, reported_junit, stopped, tested}
-pub use Rattle.kt_cli.specs.Courses.{CommandCalls, IsPrepared, CallsWorld, MakesCallPrefix, OnlyCallsStore, OnlyListsCases, preparing, selecting, taken}
+pub use Rattle.kt_cli.specs.Courses.{CommandCalls, IsPrepared, CallsWorld, MakesCallPrefix, OnlyCallsStore, OnlyListsCases, preparing, selecting, executed_cases}
 pub use Rattle.kt_cli.specs.Pages.{Printed}
-pub use Rattle.kt_cli.specs.Performing.{ExecutesInFile, ExecutesOnHost, FailsToCreateRoot, Program, needs_nothing, closed, done, no_driver, no_file, no_surroundings, no_world, none_made, not_absolute, not_opened, program, state}
+pub use Rattle.kt_cli.specs.Performing.{ExecutesInFile, ExecutesOnHost, FailsToCreateRoot, ProgramRelations, needs_nothing, closed, done, no_driver, no_file, no_surroundings, no_world, none_made, not_absolute, not_opened, program, state}
 pub use Rattle.kt_cli.specs.Recordings.{AllRecorded, IsStopped}
-pub use Rattle.kt_cli.specs.Reports.{DifferInOutputs, ReportCompletes, JunitCompletes, asked_outputs, asked_pairs, no_output, no_pairs, not_shown, pairs_shown, run_of, run_shown}
+pub use Rattle.kt_cli.specs.Reports.{AreEqualExceptOutputs, PrintsReport, PrintsJunitReport, outputs_calls, pairs_calls, no_output, no_pairs, not_shown, pairs_shown, run_of, run_shown}
 pub use Rattle.kt_cli.specs.CommandStates.{CommandState, World, launcher_of, command_state, world_of}
-pub use Rattle.kt_cli.specs.SoundStores.{StoreIsSound, with_new_run}
-pub use Rattle.kt_cli.specs.Stores.{Agree, CallsStore, crash_runs_after_calls, crash_runs_after, entries_by_position, runs_after_calls, insert_all, puts}
-pub use Rattle.kt_cli.specs.Testing.{PlannedRun, begin_call, exit_of, results, results_exit, run_for}
+pub use Rattle.kt_cli.specs.SoundStores.{IsSoundExecution, with_new_run}
+pub use Rattle.kt_cli.specs.Stores.{Agree, CallsStore, crash_runs_after_calls, crash_runs_after, entries_by_position, runs_after_calls, with_entries_inserted, put_calls}
+pub use Rattle.kt_cli.specs.Testing.{PlannedRun, begin_call, exit_status, test_output, test_exit, planned_run}
 pub use Rattle.kt_cli.specs.Totals.{bad_count, good_count, lines}
 pub use Rattle.kt_cli.specs.Warnings.{warning_at, warnings}
 pub use Rattle.kt_report.specs.declared.write_report_error.WriteReportError.TheVariants.{Details, Report}

@@ -1,6 +1,6 @@
 -- The execution of a plan for `debug`: cases are run and printed one at a time.
 use Rattle.std.proofs.Common.{Option, Result, Ok, Err, take, ◌≡◌, ℕ, Bool, List, [], ◌∷◌, length, refl, sym, ◌∙◌, subst}
-use Rattle.kt_cli.proofs.Common.{Entry, Job, SinkFault, Totals, RunFault, NoMemory, SinkFailed, PutsInOrder, AreEntries, EndsAs, Trace, Prints, DebugEnds, debug_bytes, all_debug_bytes, WritesNext}
+use Rattle.kt_cli.proofs.Common.{Entry, Job, SinkFault, Totals, RunFault, NoMemory, SinkFailed, PutsInOrder, AreEntries, EndsAs, Trace, Prints, IsDebugResult, debug_bytes, all_debug_bytes, WritesNext}
 use Rattle.kt_sched.specs.RecordOrder.{recorded as record_order}
 use Rattle.kt_cli.proofs.Gainings.{all_entries}
 use Rattle.kt_cli.proofs.Saying.{says_both, says_nothing}
@@ -11,21 +11,21 @@ module _ {S : Type 0} (gives : S → Entry → Result (Unit {0}) SinkFault → S
   -- entries `es` were printed
   pub record Printed (es : List Entry) (s t : S) : Type 0 where
     pub same_out : name t ≡ name s
-    pub says : WritesNext (held s) (failed s) (held t) (failed t) (all_debug_bytes es)
+    pub written : WritesNext (held s) (failed s) (held t) (failed t) (all_debug_bytes es)
 
   -- `Ended plan T es answer s t`: from printer `s` to `t`, the entries `es` were printed, and
   -- `plan` with the trace `T` ended with the result `answer`
   pub record Ended (plan : List Job) (T : Trace) (es : List Entry) (answer : Result Totals RunFault) (s t : S) : Type 0 where
     pub printed : Printed es s t
-    pub ends : DebugEnds plan T es answer
+    pub ends : IsDebugResult plan T es answer
 
   printed_all : (es : List Entry) (s t : S) → PutsInOrder gives es s t → Printed es s t
-  printed_all [] s t g = subst (λ (u : S). Printed [] s u) (sym g) (record { same_out = refl; says = says_nothing (held s) (failed s) })
+  printed_all [] s t g = subst (λ (u : S). Printed [] s u) (sym g) (record { same_out = refl; written = says_nothing (held s) (failed s) })
   printed_all (e ∷ es) s t g =
       let m = g.0 in
       let p = each s m e (Ok tt) g.1 in
       let r = printed_all es m t g.2 in
-      record { same_out = r.same_out ∙ p.0; says = says_both (held s) (held m) (held t) (failed s) (failed m) (failed t) (debug_bytes e) (all_debug_bytes es) p.1.1 r.says }
+      record { same_out = r.same_out ∙ p.0; written = says_both (held s) (held m) (held t) (failed s) (failed m) (failed t) (debug_bytes e) (all_debug_bytes es) p.1.1 r.written }
 
   -- a plan that is executed for `debug` meets `Ended`
   pub debug_ends : (plan : List Job) (T : Trace) (es : List Entry) (answer : Result Totals RunFault) (s t : S) → AreEntries plan T (take (length es) (record_order plan 1 T)) es

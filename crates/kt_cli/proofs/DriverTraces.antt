@@ -21,5 +21,5 @@ module _ {M O : Type 0} (m : machine.Ghosts M) (o : system.Ghosts O) where
   courses_by_trace seen old new course none =
       let d = course.begun.driver in
       let P : ChildrenState → Type 0 = λ b. RunsFrom o.leads seen.plan seen.trace (driver_state_of b d.next) d new.driver in
-      subst P (all_running_kept seen.questions old course.begun course.asked ∙ none)
+      subst P (all_running_kept seen.world_calls old course.begun course.asked ∙ none)
       (ends_follow o.leads (λ (w : HostWorld M O). w.driver) _ _ (λ d e job role answer h. h.0) (λ d e ended h. h.0) seen.plan seen.trace course.begun new course.ran)

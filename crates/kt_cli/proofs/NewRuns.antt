@@ -1,7 +1,7 @@
 -- The run that a command appends to the runs of a store.
 use Rattle.std.proofs.Common.{Option, Some, Bool, true, false, nat_le, ◌≡◌, ℕ, suc, ◌+◌, List, [], ◌∷◌, ◌++◌, length, arith, refl, sym, ap, ◌∙◌}
 use Rattle.std.proofs.lemmas.Option.{gets}
-use Rattle.kt_cli.proofs.Common.{common_steps, nat_tests, Entry, Run, StoreFault, AreNumbered, new_run, insert_by_position, has_position, run_at, put_refusal, put_refusal_of, finish, finish_refusal, finish_refusal_of, with_new_run, put_all, insert_all, entries_by_position}
+use Rattle.kt_cli.proofs.Common.{common_steps, nat_tests, Entry, Run, StoreFault, AreNumbered, new_run, insert_by_position, has_position, run_at, put_refusal, put_refusal_of, finish, finish_refusal, finish_refusal_of, with_new_run, runs_after_puts, with_entries_inserted, entries_by_position}
 use Rattle.kt_cli.proofs.Numbered.{entries_last, finish_last}
 
 -- `new_one runs moment total finished entries`: the run with the number after those of `runs`, the
@@ -10,7 +10,7 @@ abbrev new_one : List Run → ℕ → ℕ → Bool → List Entry → Run
 new_one runs moment total finished entries = record { number = suc (length runs); started = moment; total = total; finished = finished; entries = entries }
 
 -- putting entries into a new run gives the new run with these entries
-pub put_new : (runs : List Run) (number total moment : ℕ) (es : List Entry) → AreNumbered 1 runs → number ≡ suc (length runs) → put_all number es (runs ++ new_run runs total moment ∷ []) ≡ with_new_run runs moment total false es
+pub put_new : (runs : List Run) (number total moment : ℕ) (es : List Entry) → AreNumbered 1 runs → number ≡ suc (length runs) → runs_after_puts number es (runs ++ new_run runs total moment ∷ []) ≡ with_new_run runs moment total false es
 put_new runs number total moment es h n = entries_last runs (new_run runs total moment) number es h (omega arith) (n ∙ omega arith)
 
 -- finishing a new run marks it as finished
@@ -21,7 +21,7 @@ inserted_length : (e : Entry) (es : List Entry) → length (insert_by_position e
 inserted_length e [] = refl
 inserted_length e (x ∷ es) = grind (arith, nat_tests, inserted_length e es)
 
-among_length : (there es : List Entry) → length (insert_all there es) ≡ length there + length es
+among_length : (there es : List Entry) → length (with_entries_inserted there es) ≡ length there + length es
 among_length there [] = omega arith
 among_length there (e ∷ es) = omega (arith, among_length (insert_by_position e there) es, inserted_length e there)
 

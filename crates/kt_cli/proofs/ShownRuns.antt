@@ -1,6 +1,6 @@
 -- Runs that are read and shown.
 use Rattle.std.proofs.Common.{Option, Some, None, Result, Ok, Err, Bool, true, false, if◌then◌else◌, flat_map, ◌≡◌, ℕ, List, [], ◌∷◌, ◌++◌, refl, ap, sym, subst}
-use Rattle.kt_cli.proofs.Common.{Emits, utf8, Entry, Kind, Run, shows_as, shows_both, case_bytes, ending, junit_bytes, junit_layout, StoreCall, Head, IsNumbered, Outline, Outputs, Pairs, RunHead, StoreFault, Details, Report, memory_line, store_fault_line, WritesReport, WritesStored, outputs_reading, pairs_reading, run_of, ReportCompletes, run_shown, pairs_shown, JunitCompletes, no_pairs, no_output, asked_outputs, asked_pairs, IsDateOf, entries_by_section, last_kind, title_line_after, text_bytes, text_layout, titled_lines, CallsStore, Date}
+use Rattle.kt_cli.proofs.Common.{Emits, utf8, Entry, Kind, Run, shows_as, shows_both, case_bytes, junit_end, junit_bytes, junit_layout, StoreCall, Head, IsNumbered, Outline, Outputs, Pairs, RunHead, StoreFault, Details, Report, memory_line, store_fault_line, WritesReport, WritesStoredReport, outputs_reading, pairs_reading, run_of, PrintsReport, run_shown, pairs_shown, PrintsJunitReport, no_pairs, no_output, outputs_calls, pairs_calls, IsDateOf, entries_by_section, last_kind, title_line_after, text_bytes, text_layout, titled_lines, CallsStore, Date}
 use Rattle.kt_report.specs.Layouts.{bytes_up_to}
 use Rattle.kt_report.specs.declared.report_fault.ReportFault.{ReportFault}
 use Rattle.kt_report.specs.declared.write_report_error.WriteReportError.{WriteReportError}
@@ -65,10 +65,10 @@ not_found number calls why (missing cs other m) = m
 module _ {R : Type 0} (keep : keeping.Ghosts R) (number : Option ℕ) where
   module _ (old new : R) (was now : Option (List ℕ)) (exit : ℕ) where
     -- a report did what its calls and its output show
-    did : {M : Bool → List StoreCall → List ℕ → ℕ → Type 0} (calls : List StoreCall) (bytes : List ℕ) (due : ℕ) (f : Bool)
+    did : {M : Bool → List StoreCall → List ℕ → ℕ → Type 0} (calls : List StoreCall) (bytes : List ℕ) (intended_exit : ℕ) (f : Bool)
         → CallsStore keep calls old new
-        → M f calls bytes due → Emits was now f bytes → exit ≡ (if f then 2 else due) → WritesReport keep old new was now exit M
-    did calls bytes due f p is s e = record { calls = calls; stored = p; bytes = bytes; due = due; printed = record { failed = f; shows = s; exits = e }; is = is }
+        → M f calls bytes intended_exit → Emits was now f bytes → exit ≡ (if f then 2 else intended_exit) → WritesReport keep old new was now exit M
+    did calls bytes intended_exit f p is s e = record { calls = calls; stored = p; bytes = bytes; intended_exit = intended_exit; printed = record { failed = f; shows = s; exits = e }; is = is }
 
     -- a report without a run prints the error line
     pub did_not_show : (M : Bool → List StoreCall → List ℕ → ℕ → Type 0) (why : ReportError) (f : Bool)
@@ -77,22 +77,22 @@ module _ {R : Type 0} (keep : keeping.Ghosts R) (number : Option ℕ) where
     did_not_show M why f none r s e = did r.calls (utf8 (not_shown_line why)) 2 f r.stored (none r.calls (not_shown_line why) (not_found number r.calls why r.finds)) s e
 
     -- a report that read the run makes the calls for the run and then for its properties or outputs
-    did_more : {M : Bool → List StoreCall → List ℕ → ℕ → Type 0} (mid : R) (calls asked : List StoreCall) (bytes : List ℕ) (due : ℕ) (f : Bool)
-        → CallsStore keep calls old mid → CallsStore keep asked mid new → M f (calls ++ asked) bytes due → Emits was now f bytes → exit ≡ (if f then 2 else due)
+    did_more : {M : Bool → List StoreCall → List ℕ → ℕ → Type 0} (mid : R) (calls asked : List StoreCall) (bytes : List ℕ) (intended_exit : ℕ) (f : Bool)
+        → CallsStore keep calls old mid → CallsStore keep asked mid new → M f (calls ++ asked) bytes intended_exit → Emits was now f bytes → exit ≡ (if f then 2 else intended_exit)
         → WritesReport keep old new was now exit M
-    did_more mid calls asked bytes due f p q is s e = did (calls ++ asked) bytes due f (stored_both keep calls asked old mid new p q) is s e
+    did_more mid calls asked bytes intended_exit f p q is s e = did (calls ++ asked) bytes intended_exit f (stored_both keep calls asked old mid new p q) is s e
 
     module _ (kinds : List Kind) (verbose : Bool) where
       -- `Texts verbose`: the effect of `report`
       abbrev Texts : Bool → Type 0
-      Texts v = WritesReport keep old new was now exit (λ failed. ReportCompletes number kinds failed v)
+      Texts v = WritesReport keep old new was now exit (λ failed. PrintsReport number kinds failed v)
 
       -- `StoredText run mid held answer`: the text report of `run` with properties was written from
       -- the store `mid`
       abbrev StoredText : Run → R → Option (List ℕ) → Result (Unit {0}) (WriteReportError StoreFault OutputFault) → Type 0
       StoredText run mid held answer =
           (date : Date) × IsDateOf run.started date
-          × WritesStored keep pairs_reading run.number (text_layout date true run) (entries_by_section kinds run.entries) mid new was held answer
+          × WritesStoredReport keep pairs_reading run.number (text_layout date true run) (entries_by_section kinds run.entries) mid new was held answer
 
       -- `report` prints the text without properties
       pub did_show : (calls : List StoreCall) (run : Run) (f : Bool) → verbose ≡ false → CallsStore keep calls old new → FindsRun number calls (Ok run)
@@ -103,7 +103,7 @@ module _ {R : Type 0} (keep : keeping.Ghosts R) (number : Option ℕ) where
       pub did_show_pairs : (mid : R) (calls : List StoreCall) (run : Run) → verbose ≡ true → CallsStore keep calls old mid → FindsRun number calls (Ok run) → StoredText run mid now (Ok tt) → exit ≡ 0 → Texts verbose
       did_show_pairs mid calls run on p (read head outline e) u x =
           subst Texts (sym on)
-          (did_more mid calls (asked_pairs run.number u.2.ends.0) (bytes_up_to (text_layout u.0 true run) u.2.ends.0 []) 0 false p u.2.ends.2 (pairs_shown head outline u.2.ends.0 u.0 e u.1 u.2.ends.1) u.2.ends.3 x)
+          (did_more mid calls (pairs_calls run.number u.2.ends.0) (bytes_up_to (text_layout u.0 true run) u.2.ends.0 []) 0 false p u.2.ends.2 (pairs_shown head outline u.2.ends.0 u.0 e u.1 u.2.ends.1) u.2.ends.3 x)
 
       -- `report` ends early if properties can't be read
       pub did_refuse_pairs : (mid : R) (calls : List StoreCall) (run : Run) (held : Option (List ℕ)) (f : Bool) (fault : StoreFault) → verbose ≡ true → CallsStore keep calls old mid
@@ -111,7 +111,7 @@ module _ {R : Type 0} (keep : keeping.Ghosts R) (number : Option ℕ) where
           → exit ≡ (if f then 2 else 2) → Texts verbose
       did_refuse_pairs mid calls run held f fault on p (read head outline e) u s x =
           subst Texts (sym on)
-          (did_more mid calls (asked_pairs run.number u.2.ends.0 ++ Pairs run.number u.2.ends.2.position (Err fault) ∷ [])
+          (did_more mid calls (pairs_calls run.number u.2.ends.0 ++ Pairs run.number u.2.ends.2.position (Err fault) ∷ [])
           (titled_lines true None u.2.ends.0 ++ title_line_after (last_kind None u.2.ends.0) u.2.ends.2.verdict.kind ++ utf8 (store_fault_line fault)) 2 f p u.2.ends.4
           (no_pairs head outline u.2.ends.0 u.2.ends.1 u.2.ends.2 fault e u.2.ends.3) (shows_both u.2.ends.5 s) x)
 
@@ -120,28 +120,28 @@ module _ {R : Type 0} (keep : keeping.Ghosts R) (number : Option ℕ) where
           → StoredText run mid now (Err (Report fault)) → exit ≡ 2 → Texts verbose
       did_stop_pairs mid calls run fault on p (read head outline e) u x =
           subst Texts (sym on)
-          (did_more mid calls (asked_pairs run.number u.2.ends.0) (bytes_up_to (text_layout u.0 true run) u.2.ends.0 u.2.ends.1) 2 true p u.2.ends.3
+          (did_more mid calls (pairs_calls run.number u.2.ends.0) (bytes_up_to (text_layout u.0 true run) u.2.ends.0 u.2.ends.1) 2 true p u.2.ends.3
           (no_output head outline u.2.ends.0 u.2.ends.1 u.0 refl e u.1 u.2.ends.2) u.2.ends.4 x)
 
     -- the effect of `report-junit`
     abbrev Junit : Type 0
-    Junit = WritesReport keep old new was now exit (JunitCompletes number)
+    Junit = WritesReport keep old new was now exit (PrintsJunitReport number)
 
     -- `Stored run mid held answer`: the JUnit report of `run` was written from the store `mid`
     abbrev Stored : Run → R → Option (List ℕ) → Result (Unit {0}) (WriteReportError StoreFault ReportFault) → Type 0
-    Stored run mid held answer = WritesStored keep outputs_reading run.number (junit_layout run) run.entries mid new was held answer
+    Stored run mid held answer = WritesStoredReport keep outputs_reading run.number (junit_layout run) run.entries mid new was held answer
 
     -- `report-junit` prints the JUnit report
     pub did_show_junit : (mid : R) (calls : List StoreCall) (run : Run) → CallsStore keep calls old mid → FindsRun number calls (Ok run) → Stored run mid now (Ok tt) → exit ≡ 0 → Junit
     did_show_junit mid calls run p (read head outline e) w x =
-        did_more mid calls (asked_outputs run.number w.ends.0) (junit_bytes (record run { entries = w.ends.0 })) 0 false p w.ends.2 (run_shown_junit head outline w.ends.0 e w.ends.1)
-        (shows_as (ap (λ (xs : List ℕ). xs ++ flat_map case_bytes w.ends.0 ++ ending) (heading_shown run w.ends.0 w.ends.1)) w.ends.3) x
+        did_more mid calls (outputs_calls run.number w.ends.0) (junit_bytes (record run { entries = w.ends.0 })) 0 false p w.ends.2 (run_shown_junit head outline w.ends.0 e w.ends.1)
+        (shows_as (ap (λ (xs : List ℕ). xs ++ flat_map case_bytes w.ends.0 ++ junit_end) (heading_shown run w.ends.0 w.ends.1)) w.ends.3) x
 
     -- `report-junit` ends early if outputs can't be read
     pub did_refuse : (mid : R) (calls : List StoreCall) (run : Run) (held : Option (List ℕ)) (f : Bool) (fault : StoreFault) → CallsStore keep calls old mid → FindsRun number calls (Ok run)
         → Stored run mid held (Err (Details fault)) → Emits held now f (utf8 (store_fault_line fault)) → exit ≡ (if f then 2 else 2) → Junit
     did_refuse mid calls run held f fault p (read head outline e) w s x =
-        did_more mid calls (asked_outputs run.number w.ends.0 ++ Outputs run.number w.ends.2.position (Err fault) ∷ []) (bytes_up_to (junit_layout run) w.ends.0 (w.ends.2 ∷ w.ends.1) ++ utf8 (store_fault_line fault)) 2 f p
+        did_more mid calls (outputs_calls run.number w.ends.0 ++ Outputs run.number w.ends.2.position (Err fault) ∷ []) (bytes_up_to (junit_layout run) w.ends.0 (w.ends.2 ∷ w.ends.1) ++ utf8 (store_fault_line fault)) 2 f p
         w.ends.4 (no_outputs head outline w.ends.0 w.ends.1 w.ends.2 fault e w.ends.3) (shows_both w.ends.5 s) x
 
     -- `report-junit` ends early if an allocation fails
@@ -149,11 +149,11 @@ module _ {R : Type 0} (keep : keeping.Ghosts R) (number : Option ℕ) where
         → Stored run mid held (Err (Report fault)) → Emits held now f (utf8 memory_line) → exit ≡ (if f then 2 else 2) → Junit
     did_cut mid calls run held f fault p (read head outline e) w s x =
         let h = w.ends.4.holds in
-        did_more mid calls (asked_outputs run.number w.ends.0) (h.0 ++ utf8 memory_line) 2 f p w.ends.3 (no_memory head outline w.ends.0 w.ends.1 h.0 h.1 h.2 e w.ends.2 h.3)
+        did_more mid calls (outputs_calls run.number w.ends.0) (h.0 ++ utf8 memory_line) 2 f p w.ends.3 (no_memory head outline w.ends.0 w.ends.1 h.0 h.1 h.2 e w.ends.2 h.3)
         (shows_both {xs = h.0} (record { holds = h.4 }) s) x
 
     -- a report ends early if a write fails
     pub did_stop : (mid : R) (calls : List StoreCall) (run : Run) (fault : ReportFault) → CallsStore keep calls old mid → FindsRun number calls (Ok run) → Stored run mid now (Err (Report fault)) → exit ≡ 2 → Junit
     did_stop mid calls run fault p (read head outline e) w x =
-        did_more mid calls (asked_outputs run.number w.ends.0) (bytes_up_to (junit_layout run) w.ends.0 w.ends.1) 2 true p w.ends.3
+        did_more mid calls (outputs_calls run.number w.ends.0) (bytes_up_to (junit_layout run) w.ends.0 w.ends.1) 2 true p w.ends.3
         (no_junit_output head outline w.ends.0 w.ends.1 refl e w.ends.2) w.ends.4 x

@@ -1,8 +1,8 @@
 -- Reports whose details are read from a results store.
 use Rattle.std.proofs.Common.{Option, Result, Ok, Err, false, ◌≡◌, ℕ, List, [], ◌∷◌, ◌++◌, map, refl, ap, ap₂, ◌∙◌, sym, subst}
-use Rattle.kt_cli.proofs.Common.{Entry, Run, StoreFault, heading, without_outputs, DifferInOutputs, Reading, ReadsEntry, WritesStored, CallsStore}
-use Rattle.kt_report.proofs.Outlines.{same_heading}
-use Rattle.kt_report.specs.Details.{ReadsDetails, WritesOverDetails, none, more}
+use Rattle.kt_cli.proofs.Common.{Entry, Run, StoreFault, junit_start, without_outputs, AreEqualExceptOutputs, Reading, ReadsEntry, WritesStoredReport, CallsStore}
+use Rattle.kt_report.proofs.HiddenParts.{same_heading}
+use Rattle.kt_report.specs.Details.{ReadsDetails, WritesLayout, none, more}
 use Rattle.kt_report.specs.Layouts.{Layout}
 use Rattle.kt_report.specs.declared.write_report_error.WriteReportError.{WriteReportError}
 use Rattle.kt_report.specs.declared.write_report_error.WriteReportError.TheVariants.{Details, Report}
@@ -11,9 +11,9 @@ use Rattle.kt_cli.proofs.StoreChains.{stored_none, stored_both}
 use Rattle.std.proofs.lemmas.List.{map-append}
 
 -- the heading does not depend on the outputs of the entries
-pub heading_shown : (run : Run) (shown : List Entry) → DifferInOutputs shown run.entries → heading run ≡ heading (record run { entries = shown })
+pub heading_shown : (run : Run) (shown : List Entry) → AreEqualExceptOutputs shown run.entries → junit_start run ≡ junit_start (record run { entries = shown })
 heading_shown run shown same =
-    sym (same_heading false without_outputs (λ e. refl) run) ∙ ap (λ (es : List Entry). heading (record run { entries = es })) (sym same)
+    sym (same_heading false without_outputs (λ e. refl) run) ∙ ap (λ (es : List Entry). junit_start (record run { entries = es })) (sym same)
     ∙ same_heading false without_outputs (λ e. refl) (record run { entries = shown })
 
 module _ {S R : Type 0} (keep : keeping.Ghosts R) (reading : Reading) (reads : S → Entry → Result Entry StoreFault → S → Type 0) (store : S → R) (name number : S → ℕ)
@@ -45,8 +45,8 @@ module _ {S R : Type 0} (keep : keeping.Ghosts R) (reading : Reading) (reads : S
   differ_before read shown rest d = map-append reading.without shown rest ∙ ap (λ (es : List Entry). es ++ map reading.without rest) d ∙ sym (map-append reading.without read rest)
 
   -- a report over details that are read from a store makes the calls for them
-  pub report_stored : {E : Type 0} {layout : Layout} {due : List Entry} {s t : S} {was now : Option (List ℕ)} (answer : Result (Unit {0}) (WriteReportError StoreFault E)) → WritesOverDetails reads layout due s was now t answer
-      → (name t ≡ name s) × WritesStored keep reading (number s) layout due (store s) (store t) was now answer
+  pub report_stored : {E : Type 0} {layout : Layout} {due : List Entry} {s t : S} {was now : Option (List ℕ)} (answer : Result (Unit {0}) (WriteReportError StoreFault E)) → WritesLayout reads layout due s was now t answer
+      → (name t ≡ name s) × WritesStoredReport keep reading (number s) layout due (store s) (store t) was now answer
   report_stored (Ok done) w = let a = all_read w.ends.1 in (a.same_store, record { ends = (w.ends.0, a.differ, a.stored, w.ends.2) })
   report_stored {s = s} {t = t} (Err (Details fault)) w =
       let read = w.ends.0 in

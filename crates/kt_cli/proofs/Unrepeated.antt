@@ -1,6 +1,6 @@
 -- The next entry to record has a position that no entry before it has.
 use Rattle.std.proofs.Common.{Some, slice_get, count_by, take, ◌==◌, nat_le, ◌≡◌, ℕ, zero, suc, ◌≤◌, Bool, true, false, List, [], ◌∷◌, length, refl, ◌∙◌, ap, arith}
-use Rattle.kt_cli.proofs.Common.{nat_tests, option_map, slice_get-map, slice_get_within, Entry, Run, Job, IsEntry, decided, IsEntryOf, AreEntries, IsPlan, ScheduledPut, recorded, Event, Trace, events_of, StoreFault, has_position, insert_by_position, put_refusal, IsStopped, with_new_run, insert_all, entries_by_position}
+use Rattle.kt_cli.proofs.Common.{nat_tests, option_map, slice_get-map, slice_get_within, Entry, Run, Job, IsEntry, decided, IsEntryOf, AreEntries, IsPlan, ScheduledPut, recorded, Event, Trace, events_of, StoreFault, has_position, insert_by_position, put_refusal, IsStopped, with_new_run, with_entries_inserted, entries_by_position}
 use Rattle.kt_sched.specs.RecordOrder.{scheduled_puts}
 use Rattle.kt_sched.proofs.Lists.{count-cons, counted_one}
 use Rattle.kt_cli.proofs.NewRuns.{takes_entry}
@@ -10,7 +10,7 @@ insert_none : (i : ℕ) (e : Entry) (es : List Entry) → (e.position == i) ≡ 
 insert_none i e [] n h = grind (arith, nat_tests)
 insert_none i e (x ∷ es) n h = grind (arith, nat_tests, insert_none i e es n)
 
-among_none : (i : ℕ) (there es : List Entry) → has_position i there ≡ false → has_position i es ≡ false → has_position i (insert_all there es) ≡ false
+among_none : (i : ℕ) (there es : List Entry) → has_position i there ≡ false → has_position i es ≡ false → has_position i (with_entries_inserted there es) ≡ false
 among_none i there [] t h = t
 among_none i there (e ∷ es) t h =
     among_none i (insert_by_position e there) es (insert_none i e there (grind (arith, nat_tests)) t) (grind (arith, nat_tests))

@@ -14,7 +14,7 @@ pub mod Listings
 pub mod NoStores
 pub mod Pages
 pub mod Performing
-pub mod Places
+pub mod KyuafilePaths
 pub mod Platforms
 pub mod Recordings
 pub mod Refused

@@ -6,12 +6,12 @@ use Rattle.kt_cli.specs.CaseLines.{case_line}
 use Rattle.kt_cli.specs.Testing.{all_matched}
 use Rattle.kt_cli.specs.Warnings.{warnings}
 
--- `listing words chosen`: the output of `list`: a line for each case of the selection `chosen`, and
+-- `list_output words chosen`: the output of `list`: a line for each case of the selection `chosen`, and
 -- a warning for each of the filters `words` that selects no case.
-abbrev pub listing : List (List ℕ) → CaseSelection → List ℕ
-listing words chosen = utf8 (flat_map case_line chosen.cases) ++ utf8 (warnings words chosen.unmatched)
+abbrev pub list_output : List (List ℕ) → CaseSelection → List ℕ
+list_output words chosen = utf8 (flat_map case_line chosen.cases) ++ utf8 (warnings words chosen.unmatched)
 
--- `listing_exit chosen`: the exit status of `list`: 0 if each filter of the selection `chosen`
+-- `list_exit chosen`: the exit status of `list`: 0 if each filter of the selection `chosen`
 -- selects a case, else 1.
-abbrev pub listing_exit : CaseSelection → ℕ
-listing_exit chosen = if all_matched chosen.unmatched then 0 else 1
+abbrev pub list_exit : CaseSelection → ℕ
+list_exit chosen = if all_matched chosen.unmatched then 0 else 1

@@ -4,10 +4,10 @@ use Rattle.kt_cli.specs.Types.{AreNumbered, Run, StoreCall}
 use Rattle.kt_store.specs.declared.result_store.StoreSpec as keeping
 use Rattle.kt_store.specs.Runs.{AreOrdered}
 
--- `AnswersNothing s call t`: `call` may lead the store from `s` to `t`. The relation always holds:
+-- `AllowsAnyCall s call t`: `call` may lead the store from `s` to `t`. The relation always holds:
 -- the store has one state, and the clauses of a command state which calls the command makes.
-abbrev pub AnswersNothing : Unit {0} → StoreCall → Unit {0} → Type 0
-AnswersNothing s call t = Unit {0}
+abbrev pub AllowsAnyCall : Unit {0} → StoreCall → Unit {0} → Type 0
+AllowsAnyCall s call t = Unit {0}
 
 -- `HasNoRuns s runs`: the store `s` represents the list `runs`, which is empty.
 abbrev pub HasNoRuns : Unit {0} → List Run → Type 0
@@ -25,4 +25,4 @@ LeavesAny s may = ⊤
 
 -- The specification of a store without runs: the four relations and two facts of `StoreSpec`.
 abbrev pub no_store : keeping.Ghosts (Unit {0})
-no_store = record { answers = AnswersNothing; stands = HasNoRuns; sound = IsNeverSound; leaves = LeavesAny; numbered = λ s runs h. h.1; ordered = λ s runs h sound. h.2 }
+no_store = record { answers = AllowsAnyCall; stands = HasNoRuns; sound = IsNeverSound; leaves = LeavesAny; numbered = λ s runs h. h.1; ordered = λ s runs h sound. h.2 }

@@ -31,70 +31,70 @@ pub data RunIsNotShown : Option ℕ → List StoreCall → List ℕ → Type 0 w
 abbrev pub run_of : RunHead → List Entry → Run
 run_of head entries = record { number = head.number; started = head.started; total = head.total; finished = head.finished; entries = entries }
 
--- `DifferInPairs xs ys`: the entries `xs` and `ys` are equal except for their properties.
-abbrev pub DifferInPairs : List Entry → List Entry → Type 0
-DifferInPairs xs ys = map without_pairs xs ≡ map without_pairs ys
+-- `AreEqualExceptPairs xs ys`: the entries `xs` and `ys` are equal except for their properties.
+abbrev pub AreEqualExceptPairs : List Entry → List Entry → Type 0
+AreEqualExceptPairs xs ys = map without_pairs xs ≡ map without_pairs ys
 
--- `asked_pairs number entries`: the calls that read the properties of each of `entries` of run
+-- `pairs_calls number entries`: the calls that read the properties of each of `entries` of run
 -- `number`, with the properties of the entry as the result.
-abbrev pub asked_pairs : ℕ → List Entry → List StoreCall
-asked_pairs number entries = map (λ (e : Entry). Pairs number e.position (Ok e.meta)) entries
+abbrev pub pairs_calls : ℕ → List Entry → List StoreCall
+pairs_calls number entries = map (λ (e : Entry). Pairs number e.position (Ok e.meta)) entries
 
--- `DifferInOutputs xs ys`: the entries `xs` and `ys` are equal except for their outputs.
-abbrev pub DifferInOutputs : List Entry → List Entry → Type 0
-DifferInOutputs xs ys = map without_outputs xs ≡ map without_outputs ys
+-- `AreEqualExceptOutputs xs ys`: the entries `xs` and `ys` are equal except for their outputs.
+abbrev pub AreEqualExceptOutputs : List Entry → List Entry → Type 0
+AreEqualExceptOutputs xs ys = map without_outputs xs ≡ map without_outputs ys
 
--- `asked_outputs number entries`: the calls that read the outputs of each of `entries` of run
+-- `outputs_calls number entries`: the calls that read the outputs of each of `entries` of run
 -- `number`, with the outputs of the entry as the result.
-abbrev pub asked_outputs : ℕ → List Entry → List StoreCall
-asked_outputs number entries = map (λ (e : Entry). Outputs number e.position (Ok (outputs_of e))) entries
+abbrev pub outputs_calls : ℕ → List Entry → List StoreCall
+outputs_calls number entries = map (λ (e : Entry). Outputs number e.position (Ok (outputs_of e))) entries
 
--- `ReportCompletes number kinds failed verbose calls bytes exit`: by the store calls `calls`,
+-- `PrintsReport number kinds failed verbose calls bytes exit`: by the store calls `calls`,
 -- `report` prints `bytes` and has the exit status `exit`. It shows run `number`, or the last run if
 -- `number` is `None`, with the entries whose verdicts are of the kinds `kinds`. No outputs are
 -- read. If `verbose` is true, the properties of each entry are read before its line is written, and
 -- else no properties are read. If a call for properties fails, its error line follows the lines of
 -- the entries before. If the entry is the first of its section, the title of the section precedes
 -- the error line. If a write failed (`failed`), no further properties are read.
-pub data ReportCompletes (number : Option ℕ) (kinds : List Kind) (failed : Bool) : Bool → List StoreCall → List ℕ → ℕ → Type 0 where
+pub data PrintsReport (number : Option ℕ) (kinds : List Kind) (failed : Bool) : Bool → List StoreCall → List ℕ → ℕ → Type 0 where
   run_shown : (head : RunHead) (outline : List Entry) (date : Date) → IsNumbered number head → IsDateOf head.started date
-      → ReportCompletes number kinds failed false (Head number (Ok (Some head)) ∷ Outline head.number (Ok outline) ∷ []) (text_bytes date kinds false (run_of head outline)) 0
+      → PrintsReport number kinds failed false (Head number (Ok (Some head)) ∷ Outline head.number (Ok outline) ∷ []) (text_bytes date kinds false (run_of head outline)) 0
   pairs_shown : (head : RunHead) (outline shown : List Entry) (date : Date) → IsNumbered number head
       → IsDateOf head.started date
-      → DifferInPairs shown (entries_by_section kinds outline)
-      → ReportCompletes number kinds failed true (Head number (Ok (Some head)) ∷ Outline head.number (Ok outline) ∷ asked_pairs head.number shown) (bytes_up_to (text_layout date true (run_of head outline)) shown []) 0
-  not_shown : (verbose : Bool) (calls : List StoreCall) (line : List ℕ) → RunIsNotShown number calls line → ReportCompletes number kinds failed verbose calls (utf8 line) 2
+      → AreEqualExceptPairs shown (entries_by_section kinds outline)
+      → PrintsReport number kinds failed true (Head number (Ok (Some head)) ∷ Outline head.number (Ok outline) ∷ pairs_calls head.number shown) (bytes_up_to (text_layout date true (run_of head outline)) shown []) 0
+  not_shown : (verbose : Bool) (calls : List StoreCall) (line : List ℕ) → RunIsNotShown number calls line → PrintsReport number kinds failed verbose calls (utf8 line) 2
   no_pairs : (head : RunHead) (outline shown rest : List Entry) (e : Entry) (fault : StoreFault)
       → IsNumbered number head
-      → DifferInPairs (shown ++ e ∷ rest) (entries_by_section kinds outline)
-      → ReportCompletes number kinds failed true (Head number (Ok (Some head)) ∷ Outline head.number (Ok outline) ∷ (asked_pairs head.number shown ++ Pairs head.number e.position (Err fault) ∷ []))
+      → AreEqualExceptPairs (shown ++ e ∷ rest) (entries_by_section kinds outline)
+      → PrintsReport number kinds failed true (Head number (Ok (Some head)) ∷ Outline head.number (Ok outline) ∷ (pairs_calls head.number shown ++ Pairs head.number e.position (Err fault) ∷ []))
       (titled_lines true None shown ++ title_line_after (last_kind None shown) e.verdict.kind ++ utf8 (store_fault_line fault)) 2
   no_output : (head : RunHead) (outline shown rest : List Entry) (date : Date) → failed ≡ true
       → IsNumbered number head → IsDateOf head.started date
-      → DifferInPairs (shown ++ rest) (entries_by_section kinds outline)
-      → ReportCompletes number kinds failed true (Head number (Ok (Some head)) ∷ Outline head.number (Ok outline) ∷ asked_pairs head.number shown)
+      → AreEqualExceptPairs (shown ++ rest) (entries_by_section kinds outline)
+      → PrintsReport number kinds failed true (Head number (Ok (Some head)) ∷ Outline head.number (Ok outline) ∷ pairs_calls head.number shown)
       (bytes_up_to (text_layout date true (run_of head outline)) shown rest) 2
 
--- `JunitCompletes number failed calls bytes exit`: by the store calls `calls`, `report-junit`
+-- `PrintsJunitReport number failed calls bytes exit`: by the store calls `calls`, `report-junit`
 -- prints `bytes` and has the exit status `exit`. It shows run `number`, or the last run if `number`
 -- is `None`. The outputs of each entry are read, but no properties. If a call for the outputs of an
 -- entry fails, its error line follows the cases of the entries before. If an allocation fails, the
 -- out-of-memory line follows a proper prefix of the report. If a write failed (`failed`), no
 -- further outputs are read.
-pub data JunitCompletes (number : Option ℕ) (failed : Bool) : List StoreCall → List ℕ → ℕ → Type 0 where
-  run_shown : (head : RunHead) (outline shown : List Entry) → IsNumbered number head → DifferInOutputs shown outline
-      → JunitCompletes number failed (Head number (Ok (Some head)) ∷ Outline head.number (Ok outline) ∷ asked_outputs head.number shown) (junit_bytes (run_of head shown)) 0
-  not_shown : (calls : List StoreCall) (line : List ℕ) → RunIsNotShown number calls line → JunitCompletes number failed calls (utf8 line) 2
+pub data PrintsJunitReport (number : Option ℕ) (failed : Bool) : List StoreCall → List ℕ → ℕ → Type 0 where
+  run_shown : (head : RunHead) (outline shown : List Entry) → IsNumbered number head → AreEqualExceptOutputs shown outline
+      → PrintsJunitReport number failed (Head number (Ok (Some head)) ∷ Outline head.number (Ok outline) ∷ outputs_calls head.number shown) (junit_bytes (run_of head shown)) 0
+  not_shown : (calls : List StoreCall) (line : List ℕ) → RunIsNotShown number calls line → PrintsJunitReport number failed calls (utf8 line) 2
   no_outputs : (head : RunHead) (outline shown rest : List Entry) (e : Entry) (fault : StoreFault)
       → IsNumbered number head
-      → DifferInOutputs (shown ++ e ∷ rest) outline
-      → JunitCompletes number failed (Head number (Ok (Some head)) ∷ Outline head.number (Ok outline) ∷ (asked_outputs head.number shown ++ Outputs head.number e.position (Err fault) ∷ []))
+      → AreEqualExceptOutputs (shown ++ e ∷ rest) outline
+      → PrintsJunitReport number failed (Head number (Ok (Some head)) ∷ Outline head.number (Ok outline) ∷ (outputs_calls head.number shown ++ Outputs head.number e.position (Err fault) ∷ []))
       (bytes_up_to (junit_layout (run_of head outline)) shown (e ∷ rest) ++ utf8 (store_fault_line fault)) 2
   no_memory : (head : RunHead) (outline shown rest : List Entry) (front back : List ℕ) (next : ℕ)
       → IsNumbered number head
-      → DifferInOutputs (shown ++ rest) outline → bytes_up_to (junit_layout (run_of head outline)) shown rest ≡ front ++ next ∷ back
-      → JunitCompletes number failed (Head number (Ok (Some head)) ∷ Outline head.number (Ok outline) ∷ asked_outputs head.number shown) (front ++ utf8 memory_line) 2
+      → AreEqualExceptOutputs (shown ++ rest) outline → bytes_up_to (junit_layout (run_of head outline)) shown rest ≡ front ++ next ∷ back
+      → PrintsJunitReport number failed (Head number (Ok (Some head)) ∷ Outline head.number (Ok outline) ∷ outputs_calls head.number shown) (front ++ utf8 memory_line) 2
   no_output : (head : RunHead) (outline shown rest : List Entry) → failed ≡ true → IsNumbered number head
-      → DifferInOutputs (shown ++ rest) outline
-      → JunitCompletes number failed (Head number (Ok (Some head)) ∷ Outline head.number (Ok outline) ∷ asked_outputs head.number shown)
+      → AreEqualExceptOutputs (shown ++ rest) outline
+      → PrintsJunitReport number failed (Head number (Ok (Some head)) ∷ Outline head.number (Ok outline) ∷ outputs_calls head.number shown)
       (bytes_up_to (junit_layout (run_of head outline)) shown rest) 2

@@ -44,10 +44,10 @@ pub data AddsAtMostOneRun (runs : List Run) (calls : List StoreCall) : Type 0 wh
       → (finished ≡ true → length (entries_put calls) ≡ total) → AddsAtMostOneRun runs calls
 
 module _ {W R : Type 0} {w : World W} {r : keeping.Ghosts R} {c : Command} {old new : CommandState W R} {exit : ℕ} (did : CommandResult w r c old new exit) (runs : List Run) where
-  -- `StoreIsSound did runs`: each store call of the command execution `did` meets
+  -- `IsSoundExecution did runs`: each store call of the command execution `did` meets
   -- `HasAllowedFault`. All its store calls together meet `AddsAtMostOneRun` for `runs`, the runs
   -- before the command. For each store, `CommandResult.stored` states when the results of the calls
   -- agree with the runs, and which runs a crash leaves.
-  pub record StoreIsSound : Type 0 where
+  pub record IsSoundExecution : Type 0 where
     pub only_fails : AllByRecursion HasAllowedFault did.seen.calls
     pub adds : AddsAtMostOneRun runs did.seen.calls

@@ -4,20 +4,20 @@ use Rattle.kt_cli.specs.Types.{Agrees, Began, Chain, Entry, Finished, Head, Outl
 use Rattle.kt_store.specs.Runs.{new_run, insert_by_position, finish}
 use Rattle.kt_store.specs.declared.result_store.StoreSpec as keeping
 
--- `insert_all there entries`: the entries `there` with each of `entries` inserted in the order of
+-- `with_entries_inserted present entries`: the entries `present` with each of `entries` inserted in the order of
 -- their positions in the plan.
-abbrev pub insert_all : List Entry → List Entry → List Entry
-insert_all there [] = there
-insert_all there (e ∷ es) = insert_all (insert_by_position e there) es
+abbrev pub with_entries_inserted : List Entry → List Entry → List Entry
+with_entries_inserted present [] = present
+with_entries_inserted present (e ∷ es) = with_entries_inserted (insert_by_position e present) es
 
 -- `entries_by_position entries`: `entries` sorted by their positions in the plan.
 abbrev pub entries_by_position : List Entry → List Entry
-entries_by_position entries = insert_all [] entries
+entries_by_position entries = with_entries_inserted [] entries
 
--- `puts number entries`: the calls that put each of `entries` into run `number`, all successful.
-abbrev pub puts : ℕ → List Entry → List StoreCall
-puts number [] = []
-puts number (e ∷ es) = Put number e (Ok tt) ∷ puts number es
+-- `put_calls number entries`: the calls that put each of `entries` into run `number`, all successful.
+abbrev pub put_calls : ℕ → List Entry → List StoreCall
+put_calls number [] = []
+put_calls number (e ∷ es) = Put number e (Ok tt) ∷ put_calls number es
 
 -- `crash_runs_after call runs may`: the lists of runs that a crash after `call` may leave, apart
 -- from the list that the store then represents. Before the call the store represents `runs`, and a

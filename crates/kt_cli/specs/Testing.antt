@@ -10,27 +10,27 @@ abbrev pub all_matched : List ℕ → Bool
 all_matched [] = true
 all_matched (position ∷ unmatched) = false
 
--- `ending good total bad words unmatched`: the end of the output of `test`: the totals of the run,
+-- `totals_and_warnings good total bad words unmatched`: the end of the output of `test`: the totals of the run,
 -- and a warning for each of the filters `words` at an index in `unmatched`. `good` of `total` cases
 -- passed, were skipped or failed as expected, and `bad` cases failed or are broken.
-abbrev pub ending : ℕ → ℕ → ℕ → List (List ℕ) → List ℕ → List ℕ
-ending good total bad words unmatched = utf8 (totals_text good total bad) ++ utf8 (warnings words unmatched)
+abbrev pub totals_and_warnings : ℕ → ℕ → ℕ → List (List ℕ) → List ℕ → List ℕ
+totals_and_warnings good total bad words unmatched = utf8 (totals_text good total bad) ++ utf8 (warnings words unmatched)
 
--- `results entries words unmatched`: the output of `test`: the lines of `entries`, the totals, and
+-- `test_output entries words unmatched`: the output of `test`: the lines of `entries`, the totals, and
 -- a warning for each of the filters `words` at an index in `unmatched`.
-abbrev pub results : List Entry → List (List ℕ) → List ℕ → List ℕ
-results entries words unmatched = lines entries ++ ending (good_count entries) (length entries) (bad_count entries) words unmatched
+abbrev pub test_output : List Entry → List (List ℕ) → List ℕ → List ℕ
+test_output entries words unmatched = lines entries ++ totals_and_warnings (good_count entries) (length entries) (bad_count entries) words unmatched
 
--- `exit_of bad unmatched`: the exit status of a command with `bad` failed or broken cases and the
+-- `exit_status bad unmatched`: the exit status of a command with `bad` failed or broken cases and the
 -- unmatched filters `unmatched`: 0 if there are neither, else 1.
-abbrev pub exit_of : ℕ → List ℕ → ℕ
-exit_of bad unmatched = if bad == 0 && all_matched unmatched then 0 else 1
+abbrev pub exit_status : ℕ → List ℕ → ℕ
+exit_status bad unmatched = if bad == 0 && all_matched unmatched then 0 else 1
 
--- `results_exit entries unmatched`: the exit status of `test` with the recorded `entries` and the
+-- `test_exit entries unmatched`: the exit status of `test` with the recorded `entries` and the
 -- unmatched filters `unmatched`: 0 if no entry failed or is broken and `unmatched` is empty, else
 -- 1.
-abbrev pub results_exit : List Entry → List ℕ → ℕ
-results_exit entries unmatched = exit_of (bad_count entries) unmatched
+abbrev pub test_exit : List Entry → List ℕ → ℕ
+test_exit entries unmatched = exit_status (bad_count entries) unmatched
 
 -- A plan before its run begins, with its jobs and its width. `words` are the filters as given, and
 -- `unmatched` are the indexes of the filters that select no case. `moment` is the start of the run,
@@ -42,10 +42,10 @@ pub record PlannedRun : Type 0 where
   pub unmatched : List ℕ
   pub moment : ℕ
 
--- `run_for plan options picked moment`: the planned run of `plan`, for the selection `picked` by
+-- `planned_run plan options picked moment`: the planned run of `plan`, for the selection `picked` by
 -- `options`, with the start `moment`.
-abbrev pub run_for : List Job → CaseOptions → CommandSelection → ℕ → PlannedRun
-run_for plan options picked moment =
+abbrev pub planned_run : List Job → CaseOptions → CommandSelection → ℕ → PlannedRun
+planned_run plan options picked moment =
     record { plan = plan; width = picked.settings.config.parallelism; words = options.filters; unmatched = picked.chosen.unmatched; moment = moment }
 
 -- `begin_call planned answer`: the store call that begins the run `planned`, with its result `answer`.

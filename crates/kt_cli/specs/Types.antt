@@ -38,7 +38,7 @@ pub use Rattle.kt_store.specs.declared.result_store.RunHead.{RunHead}
 pub use Rattle.kt_store.specs.declared.store_fault.StoreFault.{StoreFault}
 pub use Rattle.kt_suite.specs.Answers.{Asked}
 pub use Rattle.kt_suite.specs.declared.tree.ReadFault.{ReadFault}
-pub use Rattle.kt_args.specs.Commands.{cases_of, filter_rule_of}
+pub use Rattle.kt_args.specs.Commands.{case_options_of, filter_rule_of}
 pub use Rattle.kt_args.specs.declared.command.Command.{Command}
 pub use Rattle.kt_args.specs.declared.command_fault.CommandFault.{CommandFault}
 pub use Rattle.kt_args.specs.declared.filter_rule.FilterRule.{FilterRule}

@@ -1,7 +1,7 @@
 //! The error messages and warnings of commands.
 
 ghost use Rattle.std.specs.Prelude.{◌≡◌, chars, is_err, slice_get};
-ghost use Rattle.kt_cli.specs.Common.{Emits, utf8, ClosesResults, fault_line, memory_line, store_fault_line, run_line, WritesNext, Printed, driver_line, command_text, command_exit, failure_exit, Refused, stop_exit, stop_line, warning_at, warnings};
+ghost use Rattle.kt_cli.specs.Common.{Emits, utf8, ClosesResults, fault_line, memory_line, store_fault_line, run_line, WritesNext, Printed, driver_line, command_text, command_exit, failure_exit, PrintedWithStatus, stop_exit, stop_line, warning_at, warnings};
 
 use crate::Exit;
 use crate::output::exit::{FAILURE, exit_after_write};
@@ -161,7 +161,7 @@ fn command_fault_status(fault: &CommandFault) -> u8
 ///
 /// A failed write does not change the status.
 pub fn print_command_fault<O: Write>(fault: &CommandFault, out: &mut O) -> Exit
-    ensures { Refused (O.contents out.old) (O.contents out.new) result.status
+    ensures { PrintedWithStatus (O.contents out.old) (O.contents out.new) result.status
         (utf8 (command_text fault.now)) (command_exit fault.now) }
 {
     let _ = write_command_fault(fault, out);

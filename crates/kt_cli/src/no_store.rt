@@ -15,9 +15,9 @@ impl Model for NoStore {
 }
 
 impl StoreSpec for NoStore {
-    ghost use Rattle.kt_cli.specs.NoStores.{AnswersNothing, HasNoRuns, IsNeverSound, LeavesAny};
+    ghost use Rattle.kt_cli.specs.NoStores.{AllowsAnyCall, HasNoRuns, IsNeverSound, LeavesAny};
 
-    ghost answers = { AnswersNothing };
+    ghost answers = { AllowsAnyCall };
 
     ghost stands = { HasNoRuns };
 

@@ -69,8 +69,8 @@ pub use Rattle.sqlite_wal.specs.Files.{outcomes, seen_image}
 pub use Rattle.sqlite_wal.specs.Reads.{AreClean, are_clean}
 pub use Rattle.sqlite_wal.specs.Recovery.{AreWhole, IsIgnored, only_page}
 pub use Rattle.kt_store.specs.Attaching.{Schema2}
-pub use Rattle.kt_store.specs.Files.{OpensAndCloses, Ends, FailsToClose, HasTrees, StaysNumbered}
-pub use Rattle.kt_store.specs.Runs.{IsValidRun, HasSchemaNumber, Tables, entry_rows, prop_rows, finish, new_run, pair_rows, with_entry}
+pub use Rattle.kt_store.specs.Files.{OpensAndCloses, ClosesCleanly, FailsToClose, HasTrees, StaysNumbered}
+pub use Rattle.kt_store.specs.Runs.{IsValidRun, HasSchemaNumber, IsSchema2Database, entry_rows, prop_rows, finish, new_run, pair_rows, with_entry}
 pub use Rattle.kt_store.specs.Serving.{Agrees, SurvivesCrash, runs_after}
 pub use Rattle.kt_store.specs.StoreCalls.{StoreCall}
 pub use Rattle.kt_store.specs.TrustedContents.{IsTrustedImage, schema_2_objects}
@@ -85,7 +85,7 @@ pub use Rattle.kt_store.specs.declared.store_fault.StoreFault.{StoreFault}
 pub use Rattle.kt_store.specs.declared.store_fault.StoreFault.TheVariants.{NoRun}
 pub use Rattle.kt_dbfile.specs.Inner.Cursors.{IsUniqueRow, OnlyMovesCursors, IndexesRows, SelectsColumns, has_prefix}
 pub use Rattle.kt_dbfile.specs.Inner.Edits.{WritesEntryRows, IsSettledStore, new_run_row}
-pub use Rattle.kt_dbfile.specs.Inner.Known.{HasRuns, spec_over_trees, read_only_spec, runs_file}
+pub use Rattle.kt_dbfile.specs.Inner.Known.{HasRuns, spec_over_trees, read_only_spec, runs_file_spec}
 pub use Rattle.kt_dbfile.specs.Inner.NewFiles.{HoldsEmpty, IsNewNameOf}
-pub use Rattle.kt_dbfile.specs.Common.{AreNamed, AreNumbered, AreOrdered, AreValidRuns, AreWide, Began, CanAdd, CountsUnderKey, EndsTransaction, Finished, HasCommitted, Head, KeepsLastCommit, HoldsRuns, IsComplete, IsEncodableProperty, IsDatabaseFault, IsAttached, IsAttachedFiles, IsSchema2Of, IsSchema2OfOne, ListsRuns, OnlyReadsStore, ObeysSchema, Outline, Outputs, Pairs, Put, PutsRows, Serves, SelectsUnderKey, StandsFor, WritesRows, finished_run_row, entries_of, entry_row, has_position, head_of, selected_columns, outline_entry, outputs_of, pair_row, pair_rows_from, run_at, run_row, schema_2, map_success, row_without_rowid}
+pub use Rattle.kt_dbfile.specs.Common.{AreNamed, AreNumbered, AreOrdered, AreValidRuns, AreWide, Began, IsValidWithEntry, CountsUnderKey, EndsTransaction, Finished, HasCommitted, Head, KeepsLastCommit, HoldsRuns, IsComplete, IsEncodableProperty, IsDatabaseFault, IsAttached, IsAttachedFiles, IsSchema2Of, IsSchema2OfOne, ListsRuns, OnlyReadsStore, ObeysSchema, Outline, Outputs, Pairs, Put, PutsRows, Serves, SelectsUnderKey, StandsFor, WritesRows, finished_run_row, entries_of, entry_row, has_position, head_of, selected_columns, outline_entry, outputs_of, pair_row, pair_rows_from, run_at, run_row, schema_2, map_success, row_without_rowid}
 pub use Rattle.kt_dbfile.specs.Inner.Opening.{OpensOver}

@@ -1,6 +1,6 @@
 -- The conditions of a write on a store that obeys its schema, and the tables of runs after its
 -- rows.
-use Rattle.kt_dbfile.proofs.Common.{AreNumbered, CanAdd, Chosen, Database, Enforced, Entry, WritesEntryRows, Fits, ForeignKey, Given, IsCatalogOf, IsComplete, IsListed, IsOrdered, IsSound, IsSchema2Of, List, Lists, None, ObeysSchema, PutsRows, Refers, Row, Run, Schema, Some, Tables, Tally, Trees, Variable, View, [], all_from, ap, ap₂, arith, new_run_row, cast_row, catalog_tree, finished_run_row, drop, edit_of, entries_table, entry_row, entry_rows, false, finish, get_or, ids_of, last_id, length, lists_once, map, nat_tests, new_run, nothing_logged, one_step, pair_row, pair_rows, pair_rows_from, pos, prop_rows, props_table, refl, run_at, runs_table, schema_2, subst, suc, sym, take, true, row_without_rowid, with_entry, works, zero, ℕ, ℤ, ◌++◌, ◌+◌, ◌<◌, ◌==◌, ◌∙◌, ◌∷◌, ◌≡◌, ◌≤◌}
+use Rattle.kt_dbfile.proofs.Common.{AreNumbered, IsValidWithEntry, Chosen, Database, Enforced, Entry, WritesEntryRows, Fits, ForeignKey, Given, IsCatalogOf, IsComplete, IsListed, IsOrdered, IsSound, IsSchema2Of, List, Lists, None, ObeysSchema, PutsRows, Refers, Row, Run, Schema, Some, IsSchema2Database, Tally, Trees, Variable, View, [], all_from, ap, ap₂, arith, new_run_row, cast_row, catalog_tree, finished_run_row, drop, edit_of, entries_table, entry_row, entry_rows, false, finish, get_or, ids_of, last_id, length, lists_once, map, nat_tests, new_run, nothing_logged, one_step, pair_row, pair_rows, pair_rows_from, pos, prop_rows, props_table, refl, run_at, runs_table, schema_2, subst, suc, sym, take, true, row_without_rowid, with_entry, works, zero, ℕ, ℤ, ◌++◌, ◌+◌, ◌<◌, ◌==◌, ◌∙◌, ◌∷◌, ◌≡◌, ◌≤◌}
 use Rattle.sqlite_sql.specs.declared.query.Index.{Index}
 use Rattle.sqlite_exec.specs.Calls.{OnlyReads}
 use Rattle.sqlite_schema.specs.declared.schema.Among.TheVariants.{All}
@@ -69,8 +69,8 @@ props_works olds [] = refl
 props_works olds (x ∷ news) = let some : (length (x ∷ news) == 0) ≡ false = grind (arith, nat_tests) in rw some refl
 
 -- the trees of a database with runs are the trees of its tables, and list only its schema
-pub tables_in : (runs : List Run) (trees : Trees) → IsSchema2Of runs trees → Tables (in_trees trees) runs
-tables_in runs trees k = subst (λ (db : Database). Tables db runs) (ap₂ (λ (s : Schema) (t : Trees). record { schema = s; trees = t }) k.3.schema (sym k.2)) k.3
+pub tables_in : (runs : List Run) (trees : Trees) → IsSchema2Of runs trees → IsSchema2Database (in_trees trees) runs
+tables_in runs trees k = subst (λ (db : Database). IsSchema2Database db runs) (ap₂ (λ (s : Schema) (t : Trees). record { schema = s; trees = t }) k.3.schema (sym k.2)) k.3
 
 pub sound_in : (runs : List Run) (trees : Trees) → IsSchema2Of runs trees → IsSound schema_2 trees
 sound_in runs trees k = subst (λ s. IsSound s trees) k.3.schema (subst (IsSound k.0.schema) (sym k.2) k.1)
@@ -78,7 +78,7 @@ sound_in runs trees k = subst (λ s. IsSound s trees) k.3.schema (subst (IsSound
 pub schema_is : (schema : Schema) (runs : List Run) (trees : Trees) → IsSound schema trees → IsSchema2Of runs trees → schema ≡ schema_2
 schema_is schema runs trees sound k = lists_once (trees catalog_tree) schema schema_2 sound.lists (sound_in runs trees k).lists
 
-keeps_in : (runs : List Run) (schema : Schema) (trees : Trees) → schema ≡ schema_2 → IsSound schema trees → Tables (in_trees trees) runs → IsSchema2Of runs trees
+keeps_in : (runs : List Run) (schema : Schema) (trees : Trees) → schema ≡ schema_2 → IsSound schema trees → IsSchema2Database (in_trees trees) runs → IsSchema2Of runs trees
 keeps_in runs schema trees is sound has = (in_trees trees, subst (λ s. IsSound s trees) is sound, refl, has)
 
 module _ (schema : Schema) (runs : List Run) (old new : Trees) (was : IsSound schema old) (sound : IsSound schema new) (kept : IsSchema2Of runs old) where
@@ -114,7 +114,7 @@ module _ (schema : Schema) (runs : List Run) (old new : Trees) (was : IsSound sc
   cast_pairs n p j [] = refl
   cast_pairs n p j (v ∷ vs) = ap₂ (λ x xs. x ∷ xs) (rw (cast_null, cast_int (pos n), cast_int (pos p), cast_int (pos j)) refl) (cast_pairs n p (suc j) vs)
 
-  pub entry_filled : (run : ℕ) (e : Entry) → CanAdd run e runs → WritesEntryRows schema run e old new → IsSchema2Of (with_entry run e runs) new
+  pub entry_filled : (run : ℕ) (e : Entry) → IsValidWithEntry run e runs → WritesEntryRows schema run e old new → IsSchema2Of (with_entry run e runs) new
   entry_filled run e fits fills =
       let mid = fills.1.0 in
       let first = subst (λ (s : Schema). PutsRows s 2 [] Chosen 0 (row_without_rowid (entry_row run e) ∷ []) old mid) ours fills.1.1 entries_table refl in

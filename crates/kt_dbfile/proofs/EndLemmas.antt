@@ -1,5 +1,5 @@
 -- The ends of calls that write the trees of a store: a commit or a rollback.
-use Rattle.kt_dbfile.proofs.Common.{Agrees, Database, EndsTransaction, Err, Ghosts, HasCleanDisk, HasCommitted, HasRuns, Held, KeepsLastCommit, IsLive, IsSettledStore, IsSound, IsTrue, IsSchema2Of, IsSchema2OfOne, List, Lists, OnlyReadsStore, Ok, SurvivesCrash, Result, Run, Schema, Serves, StandsFor, StaysNumbered, StoreCall, StoreFault, Trees, WritesRows, ap, catalog_tree, runs_after, clean_if_open, false, inl, inr, is_err, lists_once, read_only_spec, refl, runs_file, state, subst, sym, true, true≢false, ◌∙◌, ◌∷◌, ◌≡◌}
+use Rattle.kt_dbfile.proofs.Common.{Agrees, Database, EndsTransaction, Err, Ghosts, HasCleanDisk, HasCommitted, HasRuns, Held, KeepsLastCommit, IsLive, IsSettledStore, IsSound, IsTrue, IsSchema2Of, IsSchema2OfOne, List, Lists, OnlyReadsStore, Ok, SurvivesCrash, Result, Run, Schema, Serves, StandsFor, StaysNumbered, StoreCall, StoreFault, Trees, WritesRows, ap, catalog_tree, runs_after, clean_if_open, false, inl, inr, is_err, lists_once, read_only_spec, refl, runs_file_spec, state, subst, sym, true, true≢false, ◌∙◌, ◌∷◌, ◌≡◌}
 use Rattle.sqlite_trees.specs.View.{View, IsClean, IsRolledBack}
 use Rattle.kt_dbfile.proofs.SeenLemmas.{read_serves}
 use Rattle.kt_store.proofs.ServeLemmas.{IsWrite}
@@ -36,27 +36,27 @@ module _ {S : Type 0} (g : Ghosts S) (dirty : (s : S) → (g.view s).is_clean �
     still runs h opened = let held = looks.held (clean_if_open (g.view new) (dirty new) opened) opened in subst (IsSchema2Of runs) (sym held.1) (h held.0)
 
     pub read_served : (call : StoreCall) → ((runs : List Run) → runs_after call runs ≡ runs)
-        → ((runs : List Run) (may : List (List Run)) → ((runs_file g).leaves old may → (runs_file g).leaves new may) → SurvivesCrash (runs_file g).leaves call runs may old new)
-        → Serves (read_only_spec g) call old new → Serves (runs_file g) call old new
+        → ((runs : List Run) (may : List (List Run)) → ((runs_file_spec g).leaves old may → (runs_file_spec g).leaves new may) → SurvivesCrash (runs_file_spec g).leaves call runs may old new)
+        → Serves (read_only_spec g) call old new → Serves (runs_file_spec g) call old new
     read_served call same lasts s = read_serves g old new looks HasCommitted still call same lasts (λ runs h. s.agrees runs (has_runs (g.view old) schema (shut old) is runs h.0, h.1, h.2))
 
   -- ---- a call that writes
 
-  module _ {T : Type 0} (call : Result T StoreFault → StoreCall) (change : List Run → List Run) (writes : IsWrite (runs_file g).leaves call change)
+  module _ {T : Type 0} (call : Result T StoreFault → StoreCall) (change : List Run → List Run) (writes : IsWrite (runs_file_spec g).leaves call change)
       (old mid new : S) (is : IsSettledStore (g.view old) schema) where
     wider : (runs : List Run) (may : List (List Run)) (trees : Trees) → IsSchema2OfOne (runs ∷ may) trees → IsSchema2OfOne (runs ∷ change runs ∷ may) trees
     wider runs may trees (inl one) = inl one
     wider runs may trees (inr more) = inr (inr more)
 
-    has : (runs : List Run) → (runs_file g).stands old runs → HasRuns (g.view old) runs
+    has : (runs : List Run) → (runs_file_spec g).stands old runs → HasRuns (g.view old) runs
     has runs h = has_runs (g.view old) schema (shut old) is runs h.0
 
-    made : (call' : StoreCall) (runs : List Run) → (runs_file g).stands old runs → (IsClean (g.view new) → Agrees runs call') → (IsClean (g.view new) → IsClean (g.view old)) → HasCommitted (g.view new) (runs_after call' runs)
-        → (runs_file g).stands new (runs_after call' runs)
+    made : (call' : StoreCall) (runs : List Run) → (runs_file_spec g).stands old runs → (IsClean (g.view new) → Agrees runs call') → (IsClean (g.view new) → IsClean (g.view old)) → HasCommitted (g.view new) (runs_after call' runs)
+        → (runs_file_spec g).stands new (runs_after call' runs)
     made call' runs h agrees earlier kept = (kept, numbers_changed call' runs h.1, λ late. ordered_changed call' runs h.1 (h.2 (earlier late)) (agrees late))
 
     -- the written trees are those of the changed runs
-    rows : (written : Result T StoreFault) → WritesRows g schema call old mid written → is_err written ≡ false → (runs : List Run) → (runs_file g).stands old runs → IsClean (g.view mid) → IsSchema2Of (change runs) (g.view mid).trees
+    rows : (written : Result T StoreFault) → WritesRows g schema call old mid written → is_err written ≡ false → (runs : List Run) → (runs_file_spec g).stands old runs → IsClean (g.view mid) → IsSchema2Of (change runs) (g.view mid).trees
     rows (Ok x) wrote none runs h clean = subst (λ l. IsSchema2Of l (g.view mid).trees) (writes.done x runs) (wrote.rows runs (has runs h) clean)
     rows (Err f) wrote none runs h clean = absurd (true≢false none)
 
@@ -68,7 +68,7 @@ module _ {S : Type 0} (g : Ghosts S) (dirty : (s : S) → (g.view s).is_clean �
         (first.0, second.1 ∙ first.2)
 
     -- the call serves, by its end
-    pub ended_served : (written result : Result T StoreFault) → WritesRows g schema call old mid written → EndsTransaction g mid new written result → Serves (runs_file g) (call result) old new
+    pub ended_served : (written result : Result T StoreFault) → WritesRows g schema call old mid written → EndsTransaction g mid new written result → Serves (runs_file_spec g) (call result) old new
     ended_served written (Ok x) wrote ended =
         let done = subst (λ r. WritesRows g schema call old mid r) ended.value wrote in
         record {
@@ -97,7 +97,7 @@ module _ {S : Type 0} (g : Ghosts S) (dirty : (s : S) → (g.view s).is_clean �
       ]);
     }
       where
-        agrees : (runs : List Run) → (runs_file g).stands old runs → IsClean (g.view new) → Agrees runs (call (Err e))
+        agrees : (runs : List Run) → (runs_file_spec g).stands old runs → IsClean (g.view new) → Agrees runs (call (Err e))
         agrees runs h late = elim ended.fault [
           | inl same ↦ subst (λ r. Agrees runs (call r)) same (wrote.agrees runs (has runs h) (ended.clean late))
           | inr failed ↦ writes.fails e runs failed

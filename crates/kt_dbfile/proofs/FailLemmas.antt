@@ -2,7 +2,7 @@
 use Rattle.kt_dbfile.proofs.Common.{AreClean, Bool, Schema2, FileStore, HasCleanDisk, HasSchemaNumber, HasTrees, Held, HoldsDatabase, HoldsIn, HoldsRuns, Image, IsClean, IsDatabaseFault, IsTrue, IsSchema2Of, List, OnlyReadsStore, OpensOver, Run, StoreFault, Trees, [], ap₂, arith, clean_is, cond, false, file_state, image, image_of, inl, inr, may_leave_is, no_doubt, outcomes, over_files, pool_files, pos, state_of, subst, subst₂, sym, true, true≢false, view, ℕ, ℤ, ∥∥₁_elim, ∥∥₁_map, ◌%◌, ◌∙◌, ◌∷◌, ◌≡◌, ◌≢◌, ◌⊎◌}
 use Rattle.kt_dbfile.proofs.OpeningLemmas.{held_older, held_stands, held_still, without_sums}
 use Rattle.kt_dbfile.proofs.ReopenLemmas.{database_of, holds, left_of}
-use Rattle.kt_dbfile.specs.FailedOpen.{Contains, FailsToOpen, HoldsAsBefore, HoldsInSchema1, KeepsRuns}
+use Rattle.kt_dbfile.specs.FailedOpen.{Contains, FailsToOpen, HoldsAsBefore, HoldsInSchema1, KeepsRunsOfFiles}
 use Rattle.kt_dbfile.specs.Inner.Opening.{FailsToAttach, HasOtherSchema, LeavesAsBefore, RecoversAsBefore}
 use Rattle.kt_store.specs.Attaching.{Schema1}
 use Rattle.kt_store.specs.Files.{IsConnectionTo, MustBeChecked, recovered}
@@ -20,7 +20,7 @@ use Rattle.sqlite_store.specs.Unopened.{Opens, files_of}
 use Rattle.sqlite_store.specs.declared.store.open.Unopened.{Unopened}
 
 -- files that contain the same databases have the same runs
-pub keeps_still : (before after : Image) → HoldsAsBefore before after → KeepsRuns before after
+pub keeps_still : (before after : Image) → HoldsAsBefore before after → KeepsRunsOfFiles before after
 keeps_still before after same = record {
   current = λ runs h. ∥∥₁_map h.1 (λ held. (h.0, inl (same h.0 held), h.2));
   checked = λ runs h must. ∥∥₁_map h.1 (λ held. (h.0, same h.0 held, h.2));
@@ -73,7 +73,7 @@ number_once n m trees a b = let both = sym a ∙ b in cc
 module _ {D : Type 0} {g : Ghosts D} (before : Image) where
   module _ (store left : FileStore D g) (looks : OnlyReadsStore over_files store left) (opens : IsClean (view store) → OpensOver before store) (lists : IsClean (view store) → ListsTables before) where
     -- a store of schema 2 that was only read leaves its runs
-    pub kept_by_reads : (IsClean (view store) → MustBeChecked before → IsTrue (view store).is_numbered) → AreClean g (files left).0 (files left).1 → (after : Image) → outcomes g (files left).0 (files left).1 after → KeepsRuns before after
+    pub kept_by_reads : (IsClean (view store) → MustBeChecked before → IsTrue (view store).is_numbered) → AreClean g (files left).0 (files left).1 → (after : Image) → outcomes g (files left).0 (files left).1 after → KeepsRunsOfFiles before after
     kept_by_reads tested honest after may =
         let late : IsClean (view left) = no_doubt _ (clean_is left.pool ∙ honest) in
         let clean = looks.clean late in
@@ -147,7 +147,7 @@ module _ {D : Type 0} {g : Ghosts D} (before : Image) where
           let sound = failed.1.sound late it.0 it.1 in
           ∥∥₁_map (database_of after _ it.0 it.2 (failed.1.numbered late) sound.0 sound.1) (λ held. (it.0, held, all it.0 it.1)))
 
-      pub kept_by_attach : KeepsRuns before after
+      pub kept_by_attach : KeepsRunsOfFiles before after
       kept_by_attach = record {
         current = λ runs h. ∥∥₁_map (contains (IsSchema2Of runs) (leaves_current runs h)) (λ it. (it.0, inl it.1, it.2));
         checked = λ runs h must. contains (IsSchema2Of runs) (leaves_current runs h);

@@ -1,6 +1,6 @@
 -- A file that holds runs lists the schema of their tables, and the results attached to it have
 -- these runs.
-use Rattle.kt_dbfile.proofs.Common.{AllByRecursion, AreOrdered, Bool, Schema2, Database, Err, FileStore, HasCleanDisk, HasCommitted, Held, HoldsAt, HoldsDatabase, HoldsIn, HoldsRuns, IfErr, IfOk, Image, Int, IsClean, IsValidRun, IsAttached, IsAttachedFiles, IsSchema2Of, List, Lists, OnlyReadsStore, Ok, OpensOver, OpensRuns, Option, PageMap, Recovers, Result, Row, Run, Schema, Shape, Some, StandsFor, StoreFault, Table, Tables, Trees, Trees-set, Value, View, [], ap, ap₂, arith, catalog_tree, clean_if_open, cond, entries_table, false, file_state, get_or, in_use, index_reals, inl, inr, joined, layout_at, layout_of, length, lists_once, map, map-map, meets, meta_table, none-some, number_in, over_files, plain, plain_adopts, pos, props_table, recovers_once, refl, rowid, rows_at, same_Some, schema_2, shut_if_dirty_at, state, subst, sym, table_reals, true, unrooted, version_in, view, with_version, ℕ, ∥∥₁_elim, ◌%◌, ◌-◌, ◌<◌, ◌∙◌, ◌∷◌, ◌≡◌, ◌≢◌, ◌≤◌}
+use Rattle.kt_dbfile.proofs.Common.{AllByRecursion, AreOrdered, Bool, Schema2, Database, Err, FileStore, HasCleanDisk, HasCommitted, Held, HoldsAt, HoldsDatabase, HoldsIn, HoldsRuns, IfErr, IfOk, Image, Int, IsClean, IsValidRun, IsAttached, IsAttachedFiles, IsSchema2Of, List, Lists, OnlyReadsStore, Ok, OpensOver, OpensRuns, Option, PageMap, Recovers, Result, Row, Run, Schema, Shape, Some, StandsFor, StoreFault, Table, IsSchema2Database, Trees, Trees-set, Value, View, [], ap, ap₂, arith, catalog_tree, clean_if_open, cond, entries_table, false, file_state, get_or, in_use, index_reals, inl, inr, joined, layout_at, layout_of, length, lists_once, map, map-map, meets, meta_table, none-some, number_in, over_files, plain, plain_adopts, pos, props_table, recovers_once, refl, rowid, rows_at, same_Some, schema_2, shut_if_dirty_at, state, subst, sym, table_reals, true, unrooted, version_in, view, with_version, ℕ, ∥∥₁_elim, ◌%◌, ◌-◌, ◌<◌, ◌∙◌, ◌∷◌, ◌≡◌, ◌≢◌, ◌≤◌}
 use Rattle.std.specs.Result.{result_ok}
 use Rattle.sqlite_trees.specs.declared.store.Shape.TheVariants as kind
 use Rattle.sqlite_store.specs.declared.catalog.Wanted.{Wanted}
@@ -22,7 +22,7 @@ use Rattle.kt_store.specs.Stands.{IsSettledWhileOpen, RepresentsInSchema1}
 use Rattle.kt_store.specs.Runs.{IsSchema1Database}
 use Rattle.kt_store.specs.Types.{IsDatabase}
 use Rattle.kt_dbfile.specs.FailedOpen.{HoldsInSchema1}
-use Rattle.kt_store.specs.Files.{AreResultsOf, Finds, Follows, IsConnectionTo, IsReadAs, recovered, unchanged}
+use Rattle.kt_store.specs.Files.{AreResultsOf, RepresentsImage, IsConvertedStore, IsConnectionTo, IsReadAs, recovered, unchanged}
 use Rattle.kt_dbfile.specs.Inner.Opening.{FailsToAttach, IsConvertedFrom, IsOnlyRead}
 use Rattle.kt_dbfile.proofs.Common.{adopts_of, same_image}
 
@@ -191,14 +191,14 @@ module _ {D : Type 0} {g : Ghosts D} (image : Image) where
 
   -- a connection over the file represents these runs
   pub held_stands : (conn : Held (FileStore D g)) → IsConnectionTo image conn → (runs : List Run) → HoldsRuns image runs → StandsFor (file_state conn) runs
-  held_stands conn over runs (db, found, (held, sound, trees, tables)) = held_settled (λ d. Tables d runs) conn over db found held sound trees tables
+  held_stands conn over runs (db, found, (held, sound, trees, tables)) = held_settled (λ d. IsSchema2Database d runs) conn over db found held sound trees tables
 
   -- a connection over a file of schema 1 represents its runs
   pub held_older : (conn : Held (FileStore D g)) → IsConnectionTo image conn → (runs : List Run) → HoldsInSchema1 image runs → RepresentsInSchema1 (file_state conn) runs
   held_older conn over runs (db, found, (held, sound, trees, tables), unlisted) = held_settled (λ d. IsSchema1Database d runs) conn over db found held sound trees tables
 
   -- the store of the attached results represents these runs
-  pub opens_of : (results : Held (FileStore D g)) (store : FileStore D g) → AreResultsOf image results → Follows results store → OpensRuns image store
+  pub opens_of : (results : Held (FileStore D g)) (store : FileStore D g) → AreResultsOf image results → IsConvertedStore results store → OpensRuns image store
   opens_of results store over follows =
       let taken = λ (runs : List Run) (h : HoldsRuns image runs). over.2 (Schema2 runs) (held_stands over.0 over.1 runs h) in
       record {
@@ -206,7 +206,7 @@ module _ {D : Type 0} {g : Ghosts D} (image : Image) where
         leaves = λ runs h clean trees found. (taken runs h).1 (follows.earlier clean) trees (follows.crash trees found);
       }
 
-  pub found_of : {E : Type 0} (conn : Held (FileStore D g)) (made : Result (FileStore D g) E) → IsConnectionTo image conn → IfOk made (IsAttachedFiles conn) → IfOk made (Finds image)
+  pub found_of : {E : Type 0} (conn : Held (FileStore D g)) (made : Result (FileStore D g) E) → IsConnectionTo image conn → IfOk made (IsAttachedFiles conn) → IfOk made (RepresentsImage image)
   found_of conn (Ok store) over (results, takes, follows) =
       let taken : AreResultsOf image results = (conn, over, takes) in
       record { held = opens_of results store taken follows; whose = inr (results, taken, follows); numbered = λ clean must. follows.numbered clean }

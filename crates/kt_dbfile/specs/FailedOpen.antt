@@ -30,11 +30,11 @@ HoldsAsBefore before after = (db : Trees) → HoldsDatabase before db → HoldsD
 abbrev pub Contains : Image → (Trees → Type 0) → Type 0
 Contains image P = ∥ ((db : Trees) × HoldsDatabase image db × P db) ∥₁
 
--- `KeepsRuns before after`: `before` and `after` are contents of the results file and its log,
+-- `KeepsRunsOfFiles before after`: `before` and `after` are contents of the results file and its log,
 -- earlier and later. The runs in `before` are also in `after`. If `before` has schema 1, `after`
 -- has schema 1 or 2. If `before` has schema 2 and doesn't meet `MustBeChecked`, the trees in
 -- `after` may be unnumbered.
-pub record KeepsRuns (before after : Image) : Type 0 where
+pub record KeepsRunsOfFiles (before after : Image) : Type 0 where
   pub current : (runs : List Run) → HoldsRuns before runs → ∥ ((trees : Trees) × (HoldsDatabase after trees ⊎ HasTrees false trees after) × IsSchema2Of runs trees) ∥₁
   pub checked : (runs : List Run) → HoldsRuns before runs → MustBeChecked before → Contains after (IsSchema2Of runs)
   pub older : (runs : List Run) → HoldsInSchema1 before runs → Contains after (IsAnySchemaOf runs)
@@ -47,7 +47,7 @@ module _ {D : Type 0} {g : Ghosts D} (was : Image → Type 0) (before : Image) (
   -- that memory ran out or that the database failed. Nothing is stated if the disk has returned
   -- wrong data.
   pub record LeavesRuns (fault : StoreFault) : Type 0 where
-    pub kept : AreClean g (files_left left).0 (files_left left).1 → (after : Image) → outcomes g (files_left left).0 (files_left left).1 after → was after ⊎ KeepsRuns before after
+    pub kept : AreClean g (files_left left).0 (files_left left).1 → (after : Image) → outcomes g (files_left left).0 (files_left left).1 after → was after ⊎ KeepsRunsOfFiles before after
     pub known : AreClean g (files_left left).0 (files_left left).1 → (runs : List Run) → HoldsRuns before runs ⊎ HoldsInSchema1 before runs → IsDatabaseFault fault
 
   -- `LeavesUnconnected was before left`: an open read the schema list of the results file and its

@@ -1,7 +1,7 @@
 //! Writes runs and entries into the trees of a store, without a commit.
 
 ghost use Rattle.std.specs.Prelude.{◌≡◌, ◌⊎◌, ◌<◌, ◌≤◌, ◌^◌, map, suc, length, Some, None, false, IfOk, IfErr, OnOk};
-ghost use Rattle.kt_dbfile.specs.Common.{AllByRecursion, Began, CanAdd, Finished, HasNoReasonIfPassed, IsComplete, IsMoment, IsEncodableProperty, IsStorable, IsDatabaseFault, IsEncodable, ReadsUnbrokenStore, HoldsForTrees, Put, Run, WritesRows, finished_run_row, entries_of, entry_row, finish_refusal, has_position, greatest_run_number, owned, pair_row, pair_rows_from, put_refusal, run_at, run_row, row_without_rowid};
+ghost use Rattle.kt_dbfile.specs.Common.{AllByRecursion, Began, IsValidWithEntry, Finished, HasNoReasonIfPassed, IsComplete, IsMoment, IsEncodableProperty, IsStorable, IsDatabaseFault, IsEncodable, ReadsUnbrokenStore, HoldsForTrees, Put, Run, WritesRows, finished_run_row, entries_of, entry_row, finish_refusal, has_position, greatest_run_number, owned, pair_row, pair_rows_from, put_refusal, run_at, run_row, row_without_rowid};
 ghost use Rattle.sqlite_trees.specs.View.{IsClean};
 ghost use Rattle.sqlite_catalog.specs.Listing.{IsSound};
 
@@ -166,10 +166,10 @@ pub(crate) fn write_run<S: Alter>(
         ],
     )?;
     let edit = TableEdit {
-        place: RUNS_AT,
-        gone: &[],
+        table_index: RUNS_AT,
+        removed_rowids: &[],
         rowids: Rowids::Chosen,
-        from: 0,
+        first_column: 0,
         sources: slice::from_ref(&row),
     };
     put_rows(store, alloc, schema, edit)?;
@@ -206,7 +206,7 @@ fn check_can_put<S: Alter>(
         IfErr result (λ e. IsDatabaseFault e ⊎ (put_refusal runs run entry.now ≡ Some e))) }
     ensures accepted { HoldsForTrees S.Store store.old store.new (λ runs.
         OnOk result (HasNoReasonIfPassed entry.now → (put_refusal runs run entry.now ≡ None)
-        × CanAdd run entry.now runs)) }
+        × IsValidWithEntry run entry.now runs)) }
     ensures looks { ReadsUnbrokenStore S.Store store.old store.new result }
 {
     let head = find_run_head(store, alloc, run)?;
@@ -242,19 +242,19 @@ pub(crate) fn write_entry<S: Alter>(
     let number = run_key(run);
     let row = create_entry_row(alloc, number, entry, &reason)?;
     let edit = TableEdit {
-        place: ENTRIES_AT,
-        gone: &[],
+        table_index: ENTRIES_AT,
+        removed_rowids: &[],
         rowids: Rowids::Chosen,
-        from: 0,
+        first_column: 0,
         sources: slice::from_ref(&row),
     };
     put_rows(store, alloc, schema, edit)?;
     let pairs = create_property_rows(alloc, number, entry.position, entry.meta.as_slice())?;
     let edit = TableEdit {
-        place: PROPS_AT,
-        gone: &[],
+        table_index: PROPS_AT,
+        removed_rowids: &[],
         rowids: Rowids::Chosen,
-        from: 0,
+        first_column: 0,
         sources: pairs.as_slice(),
     };
     put_rows(store, alloc, schema, edit)?;
@@ -327,12 +327,12 @@ pub(crate) fn mark_run_finished<S: Alter>(
 {
     let row = check_can_finish(store, alloc, run)?;
     let done = create_finished_row(alloc, &row)?;
-    let gone = [run_key(run) as i64];
+    let removed_rowids = [run_key(run) as i64];
     let edit = TableEdit {
-        place: RUNS_AT,
-        gone: &gone,
+        table_index: RUNS_AT,
+        removed_rowids: &removed_rowids,
         rowids: Rowids::Given,
-        from: 1,
+        first_column: 1,
         sources: slice::from_ref(&done),
     };
     put_rows(store, alloc, schema, edit)?;

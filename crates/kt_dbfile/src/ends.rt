@@ -5,7 +5,7 @@
 //! hides a result. The cost of the checks hardly grows with the size of the file.
 
 ghost use Rattle.std.specs.Prelude.{◌≡◌, ◌<◌, ◌≤◌, Some, length, map, option_map, true, IfOk};
-ghost use Rattle.kt_dbfile.specs.Common.{AllByRecursion, Entry as Stored, IsAscending, OnlyReadsStore, ReadsUnbrokenStore, HoldsForTrees, Run, ends_with, head_of, greatest_run_number, outline_entry, run_at};
+ghost use Rattle.kt_dbfile.specs.Common.{AllByRecursion, Entry as Stored, IsAscending, OnlyReadsStore, ReadsUnbrokenStore, HoldsForTrees, Run, is_possible_last_key, head_of, greatest_run_number, outline_entry, run_at};
 ghost use Rattle.kt_store.specs.Runs.{IsValidRun};
 
 use crate::tables::{
@@ -26,7 +26,7 @@ use std::alloc::Global;
 use std::cmp::Ordering;
 
 /// A run head with the number 0, which replaces the head of the last run if there are no runs.
-pub(crate) const NO_RUN: RunHead = RunHead {
+pub(crate) const HEAD_BEFORE_FIRST: RunHead = RunHead {
     number: 0,
     started: 0,
     total: 0,
@@ -89,7 +89,7 @@ fn read_last_key<S: Store>(
 /// last position. Otherwise, `end` must be below the key of the position `last.total`, at which the
 /// run can't have an entry.
 fn is_possible_last_key(alloc: Global, end: &Row, last: RunHead) -> Result<bool, NoMemory>
-    ensures { last.number ≤ greatest_run_number → IfOk result (λ is. is ≡ ends_with last end.now) }
+    ensures { last.number ≤ greatest_run_number → IfOk result (λ is. is ≡ is_possible_last_key last end.now) }
 {
     let number = run_key(last.number);
     if last.finished && last.total > 0 {
@@ -167,7 +167,7 @@ pub(crate) fn require_head<S: Store>(
     Ok(head)
 }
 
-/// Returns the head of run `last`, or [`NO_RUN`] if `last` is 0.
+/// Returns the head of run `last`, or [`HEAD_BEFORE_FIRST`] if `last` is 0.
 fn read_last_head<S: Store>(
     store: &mut S,
     alloc: Global,
@@ -176,7 +176,7 @@ fn read_last_head<S: Store>(
     ensures looks { OnlyReadsStore S.Store store.old store.new }
 {
     if last == 0 {
-        return Ok(NO_RUN);
+        return Ok(HEAD_BEFORE_FIRST);
     }
     require_head(store, alloc, last)
 }

@@ -17,7 +17,7 @@ use std::marker::PhantomData;
 /// in contracts. The method `returned` of `TrustedContents` exchanges the witness for this value,
 /// so that the open can be retried. Only [`open_file_and_log`] creates witnesses.
 #[derive(Drop)]
-pub struct OpenFailure<S> {
+pub struct FailedOpenWitness<S> {
     marker: PhantomData<S>,
 }
 
@@ -28,7 +28,7 @@ pub(crate) fn open_file_and_log<S: Start>(
     rt: &HostRuntime,
     file: &Text,
     start: S,
-) -> Result<Files<FileFrom<S>>, (DatabaseError, OpenFailure<S>)>
+) -> Result<Files<FileFrom<S>>, (DatabaseError, FailedOpenWitness<S>)>
     ensures log { IfOk result (λ files. IsTrue (file_is_usable S.Start files.log)) }
     ensures db { IfOk result (λ files. IsTrue (file_is_usable S.Start files.db)) }
     ensures fresh { IfOk result (λ files. IsFresh true files.log × IsFresh false files.db) }
@@ -36,7 +36,7 @@ pub(crate) fn open_file_and_log<S: Start>(
     match sqlite_std_file::open(rt, file.as_str(), start) {
         Ok(files) => Ok(files),
         Err(error) => {
-            let unused = OpenFailure {
+            let unused = FailedOpenWitness {
                 marker: PhantomData,
             };
             Err((convert_open_error(&error), unused))

@@ -16,7 +16,7 @@ mod tables;
 mod trees;
 mod trusted_contents;
 
-pub use files::OpenFailure;
+pub use files::FailedOpenWitness;
 pub use reopening::theorem_of_reopening;
 pub use runs_file::RunsFile;
 pub use trusted_contents::TrustedContents;

@@ -1,5 +1,5 @@
 ghost use Rattle.std.specs.Prelude.{◌≡◌, ◌⊎◌, [], ◌∷◌, pos, codes, map, drop, true, false, Ok, Err, IfOk, IfErr, OnOk, IfSome, IsTrue};
-ghost use Rattle.kt_dbfile.specs.Common.{Ends, FailsToClose, Int, IsOnlyRead, CachesPages, LeavesAsBefore, IsDatabaseFault, OnlyReadsStore, ListsRuns, MustBeChecked, RecoversAsBefore, HasOtherSchema, StaysNumbered};
+ghost use Rattle.kt_dbfile.specs.Common.{ClosesCleanly, FailsToClose, Int, IsOnlyRead, CachesPages, LeavesAsBefore, IsDatabaseFault, OnlyReadsStore, ListsRuns, MustBeChecked, RecoversAsBefore, HasOtherSchema, StaysNumbered};
 ghost use Rattle.kt_store.specs.TrustedContents.{IsTrustedImage, ListsTables, key_object, schema_2_objects, table_object};
 ghost use Rattle.sqlite_trees.specs.Tree.{Trees};
 ghost use Rattle.sqlite_value.specs.Value.{owned};
@@ -331,7 +331,7 @@ pub(crate) fn check_schema_number<S: Store>(store: &mut S, alloc: Global) -> Res
 pub(crate) fn close_store<D: Disk + Drop>(
     mut store: FileStore<D>,
 ) -> Result<(), (DatabaseError, FileStore<D>)>
-    ensures closed { OnOk result (Ends store) }
+    ensures closed { OnOk result (ClosesCleanly store) }
     ensures failed { IfErr result (λ e. FailsToClose store e.1) }
     ensures numbered { IfErr result (λ e. StaysNumbered (view store) (view e.1)) }
 {

@@ -1,5 +1,5 @@
 ghost use Rattle.std.specs.Prelude.{List, [], IsTrue};
-ghost use Rattle.kt_dbfile.specs.Common.{AreNumbered, AreOrdered, OpensAndCloses, FailsToClose, Finds, HasCommitted, HasTrees, HoldsRuns, IsSchema2Of, IsSchema2OfOne, Run, StaysNumbered};
+ghost use Rattle.kt_dbfile.specs.Common.{AreNumbered, AreOrdered, OpensAndCloses, FailsToClose, RepresentsImage, HasCommitted, HasTrees, HoldsRuns, IsSchema2Of, IsSchema2OfOne, Run, StaysNumbered};
 ghost use Rattle.kt_store.specs.TrustedContents.{IsTrustedImage};
 ghost use Rattle.sqlite_store.specs.FileStore.{files, recovers, view};
 ghost use Rattle.sqlite_store.specs.declared.store.FileStore.{FileStore as Stored};
@@ -12,7 +12,7 @@ ghost use Rattle.sqlite_wal.specs.Recovery.{Image};
 use sqlite_disk::Disk;
 
 /// Theorem: after a process has closed the results file, the next process that opens the file finds
-/// the runs of the last commit. The premises are `OpensAndCloses` for the first process and `Finds`
+/// the runs of the last commit. The premises are `OpensAndCloses` for the first process and `RepresentsImage`
 /// for the next process.
 ///
 /// The facts in `OpensAndCloses` are clauses of [`RunsFile`](crate::RunsFile), of its open, its
@@ -32,7 +32,7 @@ pub fn theorem_of_reopening<D: Disk, E: Disk>()
         → OpensAndCloses before last runs after
         → ∥ IsTrustedImage after ∥₁ × ∥ IsTrustedImage (record after { log = [] }) ∥₁ }
     ensures found { (before after : Image) (last : Stored D D.Disk) (runs : List Run)
-        → OpensAndCloses before last runs after → (next : Stored E E.Disk) → Finds after next
+        → OpensAndCloses before last runs after → (next : Stored E E.Disk) → RepresentsImage after next
         → HasCommitted (view next) runs × AreNumbered 1 runs
         × (IsClean (view next) → AreOrdered runs)
         × (IsClean (view next) → (trees : Trees) → recovers next trees → IsSchema2Of runs trees) }
@@ -47,7 +47,7 @@ pub fn theorem_of_reopening<D: Disk, E: Disk>()
         → FailsToClose store left → IsTrue (view left).is_numbered
         → AreClean D.Disk (files left).0 (files left).1
         → outcomes D.Disk (files left).0 (files left).1 after
-        → (next : Stored E E.Disk) → Finds after next → IsTrue (view next).is_open
+        → (next : Stored E E.Disk) → RepresentsImage after next → IsTrue (view next).is_open
         → ∥ IsSchema2OfOne may (view next).committed ∥₁ }
     ensures kept { (store left : Stored D D.Disk) (runs : List Run) (after : Image)
         → HasCommitted (view store) runs → IsTrue (view store).is_numbered
@@ -56,5 +56,5 @@ pub fn theorem_of_reopening<D: Disk, E: Disk>()
         → AreClean D.Disk (files left).0 (files left).1
         → outcomes D.Disk (files left).0 (files left).1 after
         → HoldsRuns after runs
-        × ((next : Stored E E.Disk) → Finds after next → HasCommitted (view next) runs) }
+        × ((next : Stored E E.Disk) → RepresentsImage after next → HasCommitted (view next) runs) }
 {}

@@ -20,15 +20,15 @@ use std::alloc::Global;
 #[derive(Clone, Copy)]
 pub(crate) struct TableEdit<'a> {
     /// The index of the edited table in the list of tables of the schema.
-    pub(crate) place: usize,
+    pub(crate) table_index: usize,
     /// The rowids of the rows that the edit removes from the table.
-    pub(crate) gone: &'a [i64],
+    pub(crate) removed_rowids: &'a [i64],
     /// `Chosen` if an added row with NULL in place of the rowid gets the next rowid, and `Given` if
     /// each added row has a rowid.
     pub(crate) rowids: Rowids,
     /// The index of the first column of each of `sources` that is copied to an added row: 0 or 1.
     /// The columns before it are skipped.
-    pub(crate) from: usize,
+    pub(crate) first_column: usize,
     /// The rows from which the added rows are made, one for each added row.
     pub(crate) sources: &'a [Row],
 }
@@ -67,12 +67,12 @@ fn apply_edit<S: Alter>(
 ) -> Result<(), DatabaseError>
     requires obeys { IsClean (S.Store.view store.old)
         → ObeysSchema (S.Store.view store.old) schema.now }
-    requires short { edit.from ≡ 0 ⊎ edit.from ≡ 1 }
+    requires short { edit.first_column ≡ 0 ⊎ edit.first_column ≡ 1 }
     requires indexes { IsCatalogOf schema.now indexes.now }
     requires untouched { work.old.touched ≡ [] }
     ensures puts { IsClean (S.Store.view store.new)
-        → OnOk result (PutsRows schema.now edit.entry.place edit.entry.gone.now edit.entry.rowids
-        edit.entry.from edit.entry.sources.now (S.Store.view store.old).trees
+        → OnOk result (PutsRows schema.now edit.entry.table_index edit.entry.removed_rowids.now edit.entry.rowids
+        edit.entry.first_column edit.entry.sources.now (S.Store.view store.old).trees
         (S.Store.view store.new).trees) }
     ensures obeys { IsClean (S.Store.view store.new)
         → OnOk result (ObeysSchema (S.Store.view store.new) schema.now) }
@@ -81,7 +81,7 @@ fn apply_edit<S: Alter>(
     ensures quiet { IsQuiet S.Store.view S.Store.faults S.Store.recovers S.Store.is_shielded
         store.old store.new }
 {
-    let Some(table) = schema.tables.as_slice().get(edit.place) else {
+    let Some(table) = schema.tables.as_slice().get(edit.table_index) else {
         return Err(DATABASE_FAILURE);
     };
     write(
@@ -91,11 +91,11 @@ fn apply_edit<S: Alter>(
         schema,
         indexes,
         Keys::Enforced,
-        edit.place,
+        edit.table_index,
         table,
-        edit.gone,
+        edit.removed_rowids,
         edit.rowids,
-        edit.from,
+        edit.first_column,
         edit.sources,
         &mut work.touched,
     )?;
@@ -122,10 +122,10 @@ pub(crate) fn put_rows<S: Alter>(
 ) -> Result<(), DatabaseError>
     requires obeys { IsClean (S.Store.view store.old)
         → ObeysSchema (S.Store.view store.old) schema.now }
-    requires short { edit.from ≡ 0 ⊎ edit.from ≡ 1 }
+    requires short { edit.first_column ≡ 0 ⊎ edit.first_column ≡ 1 }
     ensures puts { IsClean (S.Store.view store.new)
-        → OnOk result (PutsRows schema.now edit.entry.place edit.entry.gone.now edit.entry.rowids
-        edit.entry.from edit.entry.sources.now (S.Store.view store.old).trees
+        → OnOk result (PutsRows schema.now edit.entry.table_index edit.entry.removed_rowids.now edit.entry.rowids
+        edit.entry.first_column edit.entry.sources.now (S.Store.view store.old).trees
         (S.Store.view store.new).trees) }
     ensures obeys { IsClean (S.Store.view store.new)
         → OnOk result (ObeysSchema (S.Store.view store.new) schema.now) }

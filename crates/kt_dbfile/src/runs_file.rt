@@ -1,5 +1,5 @@
 ghost use Rattle.std.specs.Prelude.{◌≡◌, ◌⊎◌, codes, pos, true, false, IsTrue, IfErr, IfOk, IfSome, OnOk, Err, Ok, List};
-ghost use Rattle.kt_dbfile.specs.Common.{EndsTransaction, FailsToAttach, FailsToAttachFiles, FailsToOpen, Finds, HasCommitted, HasOtherSchema, IsConvertedFrom, IsOnlyRead, IsDatabaseFault, IsAttached, IsAttachedFiles, IsUri, LeavesRuns, OnlyReadsStore, Run, StandsFor, schema_2, state};
+ghost use Rattle.kt_dbfile.specs.Common.{EndsTransaction, FailsToAttach, FailsToAttachFiles, FailsToOpen, RepresentsImage, HasCommitted, HasOtherSchema, IsConvertedFrom, IsOnlyRead, IsDatabaseFault, IsAttached, IsAttachedFiles, IsUri, LeavesRuns, OnlyReadsStore, Run, StandsFor, schema_2, state};
 ghost use Rattle.kt_store.specs.Runs.{HasSchemaNumber};
 ghost use Rattle.kt_store.specs.TrustedContents.{IsTrustedImage};
 ghost use Rattle.sqlite.specs.Files.{image_of};
@@ -11,7 +11,7 @@ ghost use Rattle.sqlite_trees.specs.View.{IsClean, IsRolledBack};
 ghost use Rattle.sqlite_wal.specs.Files.{outcomes};
 
 use crate::edits::{mark_run_finished, write_entry, write_run};
-use crate::files::{OpenFailure, connect, open_file_and_log};
+use crate::files::{FailedOpenWitness, connect, open_file_and_log};
 use crate::layout::has_tables;
 use crate::mounts::is_mounted_alone;
 use crate::new_file::create_missing_file;
@@ -175,7 +175,7 @@ impl<S: Alter + Drop> RunsFile<S> {
 
 impl<D: Disk + Drop> RunsFile<FileStore<D>> {
     ghost use Rattle.std.specs.Prelude.{OnOk, IfErr};
-    ghost use Rattle.kt_dbfile.specs.Common.{Ends, FailsToClose, IsDatabaseFault, StaysNumbered};
+    ghost use Rattle.kt_dbfile.specs.Common.{ClosesCleanly, FailsToClose, IsDatabaseFault, StaysNumbered};
     ghost use Rattle.sqlite_store.specs.FileStore.{view};
 
     /// Closes the results file. On success, the database file alone, without the log, contains all
@@ -189,7 +189,7 @@ impl<D: Disk + Drop> RunsFile<FileStore<D>> {
     /// - `Store`: the log can't be copied into the file.
     /// - `NoMemory`: memory ran out.
     pub fn close(self) -> Result<(), (StoreFault, FileStore<D>)>
-        ensures closed { OnOk result (Ends self) }
+        ensures closed { OnOk result (ClosesCleanly self) }
         ensures failed { IfErr result (λ e. IsDatabaseFault e.0) }
         ensures left { IfErr result (λ e. FailsToClose self e.1) }
         ensures numbered { IfErr result (λ e. StaysNumbered (view self) (view e.1)) }
@@ -285,7 +285,7 @@ fn open_known_results<D: Disk + Drop>(
     requires log { IsTrue (D.Disk.is_usable files.log) }
     requires db { IsTrue (D.Disk.is_usable files.db) }
     requires held { IsTrustedImage (image_of D.Disk files) }
-    ensures found { IfOk result (λ found. IfOk found (Finds (image_of D.Disk files))) }
+    ensures found { IfOk result (λ found. IfOk found (RepresentsImage (image_of D.Disk files))) }
     ensures back { IfOk result (λ found. IfErr found (IsOnlyRead D.Disk files)) }
     ensures due { IfErr result (λ e. IsDatabaseFault e.0 ⊎ (e.0 ≡ StoreFault.UnknownSchema)) }
     ensures left { IfErr result (λ e.
@@ -315,7 +315,7 @@ fn open_results<D: Disk + Drop>(
     requires log { IsTrue (D.Disk.is_usable files.log) }
     requires db { IsTrue (D.Disk.is_usable files.db) }
     requires held { IsTrustedImage (image_of D.Disk files) }
-    ensures opened { IfOk result (Finds (image_of D.Disk files)) }
+    ensures opened { IfOk result (RepresentsImage (image_of D.Disk files)) }
     ensures due { IfErr result (λ e. IsDatabaseFault e.0 ⊎ (e.0 ≡ StoreFault.UnknownSchema)) }
     ensures left { IfErr result (λ e.
         FailsToOpen (outcomes D.Disk files.log files.db) (image_of D.Disk files) e.1 e.0) }
@@ -360,7 +360,7 @@ fn try_open<S: TrustedContents>(
     rt: &HostRuntime,
     file: &Text,
     start: S,
-) -> Result<Files<FileFrom<S>>, (StoreFault, OpenFailure<S>)>
+) -> Result<Files<FileFrom<S>>, (StoreFault, FailedOpenWitness<S>)>
     ensures log { IfOk result (λ files. IsTrue (file_is_usable S.Start files.log)) }
     ensures db { IfOk result (λ files. IsTrue (file_is_usable S.Start files.db)) }
     ensures fresh { IfOk result (λ files. IsFresh true files.log × IsFresh false files.db) }
@@ -428,7 +428,7 @@ fn store_options_for_path(
 
 impl<S: TrustedContents> RunsFile<FileStore<FileFrom<S>>> {
     ghost use Rattle.std.specs.Prelude.{◌≡◌, ◌⊎◌, IfOk, IfErr, is_some};
-    ghost use Rattle.kt_dbfile.specs.Common.{FailsToOpen, Finds, IsDatabaseFault, image_at};
+    ghost use Rattle.kt_dbfile.specs.Common.{FailsToOpen, RepresentsImage, IsDatabaseFault, image_at};
 
     /// Opens the results file at the path `file`. Creates the file if it doesn't exist.
     ///
@@ -454,7 +454,7 @@ impl<S: TrustedContents> RunsFile<FileStore<FileFrom<S>>> {
         access: Access,
         start: Option<S>,
     ) -> Result<Self, (StoreFault, Result<Leftover<FileFrom<S>>, Option<S>>)>
-        ensures opened { IfOk result (Finds (image_at S.Start)) }
+        ensures opened { IfOk result (RepresentsImage (image_at S.Start)) }
         ensures due { IfErr result (λ e. IsDatabaseFault e.0 ⊎ (e.0 ≡ StoreFault.UnknownSchema)) }
         // Before the open, a crash leaves the initial content.
         ensures left { IfErr result (λ e. IfOk e.1 (λ left.

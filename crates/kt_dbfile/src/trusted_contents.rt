@@ -1,4 +1,4 @@
-use crate::files::OpenFailure;
+use crate::files::FailedOpenWitness;
 use sqlite::{Start, Unknown};
 
 /// An interface to a value that represents the initial content of a results file and its log, in
@@ -13,7 +13,7 @@ pub trait TrustedContents: Start {
 
     /// Returns the value that the failed open consumed, so that another open can consume it. The
     /// program doesn't read the value.
-    fn recover_contents(failed: OpenFailure<Self>) -> Self;
+    fn recover_contents(failed: FailedOpenWitness<Self>) -> Self;
 
     /// The assumption that the initial content of the results file and its log meets
     /// `IsTrustedImage`.
@@ -25,7 +25,7 @@ impl TrustedContents for Unknown {
 
     ghost holds = { empty_files_are_trusted };
 
-    fn recover_contents(_failed: OpenFailure<Unknown>) -> Unknown {
+    fn recover_contents(_failed: FailedOpenWitness<Unknown>) -> Unknown {
         Unknown
     }
 }

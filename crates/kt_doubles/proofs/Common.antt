@@ -17,4 +17,4 @@ pub use Rattle.kt_store.specs.declared.result_store.RunHead.{RunHead}
 pub use Rattle.kt_store.specs.declared.store_fault.StoreFault.{StoreFault}
 pub use Rattle.kt_store.specs.declared.store_fault.StoreFault.TheVariants.{NoRun}
 pub use Rattle.kt_doubles.specs.Children.{is_cleanup_pending, running_child_at}
-pub use Rattle.kt_doubles.specs.MemoryRuns.{FindsPlace, LeavesInMemory, ServesInMemory, finish_error, put_error, memory_runs, insert_index}
+pub use Rattle.kt_doubles.specs.MemoryRuns.{FindsRunIndex, LeavesInMemory, ServesInMemory, finish_error, put_error, memory_runs, insert_index}

@@ -1,7 +1,7 @@
 -- Lookups and changes of runs in memory obey the contract of a store.
 use Rattle.std.proofs.Common.{Option, Some, None, Ok, Err, true, slice_get, insert, ◌==◌, ◌≡◌, ℕ, ◌≤◌, List, [], ◌∷◌, length, arith, refl, sym, ap, ◌∙◌, get_or, set, inr, subst, unwrap_or}
 use Rattle.std.proofs.lemmas.Option.{slice_get_read}
-use Rattle.kt_doubles.proofs.Common.{find, nat_tests, set-get_or, Entry, Run, StoreFault, NoRun, CaseOutputs, outputs_of, entry_at, AreNumbered, insert_by_position, run_at, put_refusal_of, finish_refusal_of, Agrees, Serves, runs_after, StoreCall, Put, Finished, Head, Outputs, RunHead, head_of, option_map, LeavesInMemory, memory_runs, ServesInMemory, FindsPlace, put_error, finish_error, insert_index}
+use Rattle.kt_doubles.proofs.Common.{find, nat_tests, set-get_or, Entry, Run, StoreFault, NoRun, CaseOutputs, outputs_of, entry_at, AreNumbered, insert_by_position, run_at, put_refusal_of, finish_refusal_of, Agrees, Serves, runs_after, StoreCall, Put, Finished, Head, Outputs, RunHead, head_of, option_map, LeavesInMemory, memory_runs, ServesInMemory, FindsRunIndex, put_error, finish_error, insert_index}
 use Rattle.kt_store.proofs.RunsByNumber.{run_found}
 use Rattle.kt_store.proofs.Numbered.{numbers_changed, ordered_changed}
 use Rattle.kt_store.proofs.ServeLemmas.{always_outlasts}
@@ -32,7 +32,7 @@ head_served old number head is = record {
 same_list : (xs old : List Run) (place : ℕ) (run : Run) → xs ≡ old → run ≡ get_or xs place run → set xs place run ≡ old
 same_list xs old place run s e = ap (λ (r : Run). set xs place r) e ∙ set-get_or xs place run ∙ s
 
-module _ (old xs : List Run) (number place : ℕ) (run : Run) (s : xs ≡ old) (f : FindsPlace old number (Ok place)) (r : run ≡ get_or xs place run) where
+module _ (old xs : List Run) (number place : ℕ) (run : Run) (s : xs ≡ old) (f : FindsRunIndex old number (Ok place)) (r : run ≡ get_or xs place run) where
   at_place : slice_get old place ≡ Some run
   at_place = slice_get_read old _ place run refl f.1 (r ∙ ap (λ (l : List Run). get_or l place run) s)
 

@@ -9,10 +9,10 @@ use Rattle.kt_store.specs.declared.result_store.StoreSpec as keeping
 use Rattle.kt_store.specs.declared.store_fault.StoreFault.{StoreFault}
 use Rattle.kt_store.specs.declared.store_fault.StoreFault.TheVariants.{NoRun, RunClosed, BadPosition, RepeatedPosition, Incomplete}
 
--- `AnswersInMemory m call n`: the call `call` may lead a store from the runs `m` to `n`. The
+-- `AllowsAnyCallInMemory m call n`: the call `call` may lead a store from the runs `m` to `n`. The
 -- relation always holds, because each call has its own contract.
-abbrev pub AnswersInMemory : List Run → StoreCall → List Run → Type 0
-AnswersInMemory m call n = Unit {0}
+abbrev pub AllowsAnyCallInMemory : List Run → StoreCall → List Run → Type 0
+AllowsAnyCallInMemory m call n = Unit {0}
 
 -- `RepresentsInMemory m runs`: the store `m` contains exactly `runs`, which are numbered from 1, with
 -- entries that ascend by position.
@@ -31,7 +31,7 @@ LeavesInMemory m may = ⊤
 
 -- The specification of a store of runs in memory: the four relations and two facts of `StoreSpec`.
 abbrev pub memory_runs : keeping.Ghosts (List Run)
-memory_runs = record { answers = AnswersInMemory; stands = RepresentsInMemory; sound = IsSoundInMemory; leaves = LeavesInMemory; numbered = λ m runs h. h.1; ordered = λ m runs h sound. h.2 }
+memory_runs = record { answers = AllowsAnyCallInMemory; stands = RepresentsInMemory; sound = IsSoundInMemory; leaves = LeavesInMemory; numbered = λ m runs h. h.1; ordered = λ m runs h sound. h.2 }
 
 -- ---- the calls
 
@@ -40,11 +40,11 @@ memory_runs = record { answers = AnswersInMemory; stands = RepresentsInMemory; s
 abbrev pub ServesInMemory : List Run → StoreCall → List Run → Type 0
 ServesInMemory old call new = Agrees old call × (AreNumbered 1 old → new ≡ runs_after call old)
 
--- `FindsPlace runs number result`: `result` is the index of run `number` in `runs`, or `NoRun` if
+-- `FindsRunIndex runs number result`: `result` is the index of run `number` in `runs`, or `NoRun` if
 -- there is no such run.
-abbrev pub FindsPlace : List Run → ℕ → Result ℕ StoreFault → Type 0
-FindsPlace runs number (Ok place) = (number ≡ suc place) × (place < length runs)
-FindsPlace runs number (Err fault) = (fault ≡ NoRun) × (run_at runs number ≡ None)
+abbrev pub FindsRunIndex : List Run → ℕ → Result ℕ StoreFault → Type 0
+FindsRunIndex runs number (Ok index) = (number ≡ suc index) × (index < length runs)
+FindsRunIndex runs number (Err fault) = (fault ≡ NoRun) × (run_at runs number ≡ None)
 
 -- `insert_index position entries`: the number of `entries` before the first entry with a position
 -- greater than `position`, or of all `entries` if there is no such entry.

@@ -19,12 +19,12 @@ pub enum ChildSlot {
     Free,
     /// The body runs. The fields are the interface of its program, and `true` if the case declares
     /// a cleanup.
-    Running(Interface, bool),
+    BodyRunning(Interface, bool),
     /// The body has ended, and its cleanup is pending.
     CleanupPending,
     /// The cleanup runs. The fields are the interface of its program, and `true` if the case
     /// declares a cleanup.
-    Cleaning(Interface, bool),
+    CleanupRunning(Interface, bool),
 }
 
 /// The states of the cases in a scripted launcher, by position.
@@ -40,46 +40,46 @@ pub fn create_free_slots() -> ChildSlots
     [ChildSlot::Free; 2048]
 }
 
-/// Sets the state of the case at position `at` of `places` to `slot`.
-pub fn set_slot(places: &mut ChildSlots, at: u32, slot: ChildSlot)
+/// Sets the state of the case at position `at` of `slots` to `slot`.
+pub fn set_slot(slots: &mut ChildSlots, at: u32, slot: ChildSlot)
     requires { at < 2048 }
-    ensures { (k : ℕ) → slice_index_or places.new k TheFree
-        ≡ (if k == at then slot else slice_index_or places.old k TheFree) }
+    ensures { (k : ℕ) → slice_index_or slots.new k TheFree
+        ≡ (if k == at then slot else slice_index_or slots.old k TheFree) }
 {
-    places[at as usize] = slot;
+    slots[at as usize] = slot;
 }
 
-/// Returns the running child of the case at position `at` of `places`, or `None` if the case has no
+/// Returns the running child of the case at position `at` of `slots`, or `None` if the case has no
 /// running child.
-fn child_at(places: &ChildSlots, at: u32) -> Option<SlotChild>
+fn child_at(slots: &ChildSlots, at: u32) -> Option<SlotChild>
     requires { at < 2048 }
-    ensures none { result ≡ None → (role : Role) → running_child_at places.now at role ≡ None }
-    ensures runs { IfSome result (λ c. running_child_at places.now at c.0
+    ensures none { result ≡ None → (role : Role) → running_child_at slots.now at role ≡ None }
+    ensures runs { IfSome result (λ c. running_child_at slots.now at c.0
         ≡ Some (record { interface = c.1; cleanup = c.2 })) }
 {
-    match places[at as usize] {
+    match slots[at as usize] {
         ChildSlot::Free | ChildSlot::CleanupPending => None,
-        ChildSlot::Running(interface, cleanup) => Some((Role::Body, interface, cleanup)),
-        ChildSlot::Cleaning(interface, cleanup) => Some((Role::Cleanup, interface, cleanup)),
+        ChildSlot::BodyRunning(interface, cleanup) => Some((Role::Body, interface, cleanup)),
+        ChildSlot::CleanupRunning(interface, cleanup) => Some((Role::Cleanup, interface, cleanup)),
     }
 }
 
-/// Returns a running child of `places` with its position: the child at position `named`, or else
+/// Returns a running child of `slots` with its position: the child at position `named`, or else
 /// the first running child. The caller guarantees that a child is running.
-pub fn running_child(places: &ChildSlots, named: u32) -> (u32, SlotChild)
+pub fn running_child(slots: &ChildSlots, named: u32) -> (u32, SlotChild)
     requires { (i : ℕ) × (role : Role) × (child : Child)
-        × (running_child_at places.now i role ≡ Some child) }
+        × (running_child_at slots.now i role ≡ Some child) }
     ensures within { result.0 < 2048 }
-    ensures runs { running_child_at places.now result.0 result.1.0
+    ensures runs { running_child_at slots.now result.0 result.1.0
         ≡ Some (record { interface = result.1.1; cleanup = result.1.2 }) }
 {
     if named < MAX_POSITIONS {
-        if let Some(child) = child_at(places, named) {
+        if let Some(child) = child_at(slots, named) {
             return (named, child);
         }
     }
     for k in 0..MAX_POSITIONS {
-        if let Some(child) = child_at(places, k) {
+        if let Some(child) = child_at(slots, k) {
             return (k, child);
         }
     }

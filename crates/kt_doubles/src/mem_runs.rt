@@ -30,7 +30,7 @@ impl Model for MemRuns {
 impl MemRuns {
     ghost use Rattle.std.specs.Prelude.{◌≡◌, ◌==◌, [], IfSome, length, option_map, unwrap_or};
     ghost use Rattle.kt_base.specs.declared.entry.Run.{Run};
-    ghost use Rattle.kt_doubles.specs.Common.{Began, Put, Finished, IsNumbered, Outline, Pairs, Outputs, find, head_of, map_success, FindsPlace, ServesInMemory};
+    ghost use Rattle.kt_doubles.specs.Common.{Began, Put, Finished, IsNumbered, Outline, Pairs, Outputs, find, head_of, map_success, FindsRunIndex, ServesInMemory};
 
     /// Creates a store without runs. Allocates nothing.
     pub fn new(alloc: Global) -> MemRuns
@@ -72,7 +72,7 @@ impl MemRuns {
     ///
     /// Fails with `NoRun` if there is no such run.
     fn run_index(&self, number: u64) -> Result<usize, StoreFault>
-        ensures { FindsPlace self.now number result }
+        ensures { FindsRunIndex self.now number result }
     {
         if number == 0 || number > self.runs.len() as u64 {
             return Err(StoreFault::NoRun);

@@ -26,7 +26,7 @@ pub struct ScriptedLauncher<'a> {
     /// The calls of the launcher so far, one per line: `start 1`, `start cleanup 1`, `end 1`.
     pub log: ExampleOutput,
     /// The states of the plan's cases, by position.
-    pub places: ChildSlots,
+    pub slots: ChildSlots,
 }
 
 /// Returns the evidence of a child in `role` that passed: that of `interface` for a body, and
@@ -83,29 +83,29 @@ fn log_call(log: &mut ExampleOutput, name: &str, position: u32, role: Role) {
 impl<'a> ScriptedLauncher<'a> {
     /// Creates a launcher without running children and pending cleanups. `letters`, `ends` and
     /// `moments` are the values of the fields with these names.
-    #[tactic(auto, using(crate::proofs::EmptyPlaces::idle))]
+    #[tactic(auto, using(crate::proofs::FreeSlots::idle))]
     pub fn new(
         alloc: Global,
         letters: &'a [u8],
         ends: &'a [u64],
         moments: &'a [u64],
     ) -> ScriptedLauncher<'a>
-        ensures { IsIdle (running_child_at result.places) (is_cleanup_pending result.places) }
+        ensures { IsIdle (running_child_at result.slots) (is_cleanup_pending result.slots) }
     {
         ScriptedLauncher {
             letters,
             ends,
             moments,
             log: ExampleOutput::new(alloc),
-            places: create_free_slots(),
+            slots: create_free_slots(),
         }
     }
 }
 
 impl Launcher for ScriptedLauncher<'_> {
-    ghost running = { λ s. running_child_at s.places };
+    ghost running = { λ s. running_child_at s.slots };
 
-    ghost pending = { λ s. is_cleanup_pending s.places };
+    ghost pending = { λ s. is_cleanup_pending s.slots };
 
     ghost starts = { λ s job role a t. Unit {0} };
 
@@ -118,27 +118,27 @@ impl Launcher for ScriptedLauncher<'_> {
             return StartAnswer::Refused(Refused::Spawn);
         }
         if is_start_refused(self.letters, job.position, role) {
-            set_slot(&mut self.places, job.position, ChildSlot::Free);
+            set_slot(&mut self.slots, job.position, ChildSlot::Free);
             return StartAnswer::Refused(Refused::Output);
         }
-        let place = match role {
-            Role::Body => ChildSlot::Running(job.interface, job.cleanup),
-            Role::Cleanup => ChildSlot::Cleaning(job.interface, job.cleanup),
+        let slot = match role {
+            Role::Body => ChildSlot::BodyRunning(job.interface, job.cleanup),
+            Role::Cleanup => ChildSlot::CleanupRunning(job.interface, job.cleanup),
         };
-        set_slot(&mut self.places, job.position, place);
+        set_slot(&mut self.slots, job.position, slot);
         StartAnswer::Started(moment.min(LATEST_MOMENT_MILLIS))
     }
 
     fn wait(&mut self) -> Ended {
         let next = next_end(&mut self.ends);
-        let (position, (role, interface, cleanup)) = running_child(&self.places, next);
+        let (position, (role, interface, cleanup)) = running_child(&self.slots, next);
         log_call(&mut self.log, "end", position, role);
         let moment = next_moment(&mut self.moments);
         let left = match role {
             Role::Body if cleanup => ChildSlot::CleanupPending,
             _ => ChildSlot::Free,
         };
-        set_slot(&mut self.places, position, left);
+        set_slot(&mut self.slots, position, left);
         Ended {
             position,
             role,

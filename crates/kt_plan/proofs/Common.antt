@@ -22,13 +22,13 @@ pub use Rattle.kt_suite.specs.Paths.{name_in}
 pub use Rattle.kt_suite.specs.Selecting.{is_selected, item_limit, passing_positions}
 pub use Rattle.kt_suite.specs.declared.cause.SuiteCause.TheVariants.{NoMemory, Unreadable}
 unfoldable pub use lib.Utf8.{encode}
-pub use Rattle.kt_plan.specs.Collecting.{Collects, IsCollectionPrefix, IsSelectable, ListsAllCases, IsAllListsPrefix, ListsProgramCases, asks, candidates_of, chosen, selection_of, item_of, listed, listing, loading, no_further, offering, one_and, passes, selected_cases, single, too_many, unlisted, unloaded, variables_for}
-pub use Rattle.kt_plan.specs.Configuring.{Configures, Filters, IsConfiguration, ReadsConfig, IsReadPrefix, ReadsSettings, after_file, before_file, values_after, clash, defined, results_of_each, failed, filter_of, filters_of, cons_result, is_case_missing, missing, none, read, refused, right, seen, settled, stopped, unconfigured, unfiltered, unnamed, unparsed, unread, argument_definition, argument_definitions}
-pub use Rattle.kt_plan.specs.Inner.Collecting.{CollectsBetween, selected_indexes}
-pub use Rattle.kt_plan.specs.Inner.Configuring.{FindsOverlap, HasConfiguration, HasValuesOf, AppendsDefinitions, AppendsDefinition, apart, position_in, shared, config_read_error}
+pub use Rattle.kt_plan.specs.Collecting.{LoadsAndSelects, IsLoadAndSelectPrefix, IsSelectable, ListsAllCases, IsAllListsPrefix, ListsProgramCases, asks, candidates_of, chosen, selection_of, item_of, listed, listing, loading, no_further, offering, one_and, passes, selected_cases, single, too_many, unlisted, unloaded, variables_for}
+pub use Rattle.kt_plan.specs.Configuring.{Configures, ParsesFilters, IsConfiguration, ReadsConfig, IsReadPrefix, ReadsSettings, after_file, before_file, values_after, clash, defined, results_of_each, failed, filter_of, filters_of, cons_result, is_case_missing, missing, none, read, refused, right, seen, settled, stopped, unconfigured, unfiltered, unnamed, unparsed, unread, argument_definition, argument_definitions}
+pub use Rattle.kt_plan.specs.Inner.Collecting.{HasTreeSelection, selected_indexes}
+pub use Rattle.kt_plan.specs.Inner.Configuring.{FindsOverlap, HasConfiguration, HasValuesOf, AppendsDefinitions, AppendsDefinition, apart, filter_index_of, shared, config_read_error}
 pub use Rattle.kt_plan.specs.Inner.Planning.{RecordsFound}
 pub use Rattle.kt_plan.specs.Listings.{IsLoadPrefix, Loads, before_tree, by_tree, named, unfinished}
-pub use Rattle.kt_plan.specs.Planning.{ArePlanned, IsJobOf, ChecksNeeds, Surveys, IsSurveyPrefix, asked, finds, is_atf, candidate_meta, needs_of_kinds, case_needs, needs_of_kind, needs_of_cases, no_job, nothing, planned}
+pub use Rattle.kt_plan.specs.Planning.{ArePlanned, IsJobOf, ChecksNeeds, ProbesHost, IsProbePrefix, asked, finds, is_atf, candidate_meta, needs_of_kinds, case_needs, needs_of_kind, needs_of_cases, no_job, nothing, planned}
 pub use Rattle.kt_plan.specs.WorldCalls.{IsCallPrefix, WorldLeads, host_calls, tree_calls}
 pub use Rattle.kt_plan.specs.SelectionMessages.{quoted_message}
 pub use Rattle.kt_plan.specs.Stops.{HoldsOrNoMemory, IsNoMemoryError, finished, memory_ran_out}

@@ -1,6 +1,6 @@
 -- Lemmas on the checks of required files and programs, and on their record.
 use Rattle.std.proofs.Common.{Bool, true, false, Option, ◌≡◌, ℕ, List, [], ◌∷◌, ◌++◌, ◌&&◌, ◌||◌, refl, sym, ap, ◌∙◌, subst, append_assoc, append-nil}
-use Rattle.kt_plan.proofs.Common.{LeadsByCalls, is_found, is_same_need, RecordsAsFound, Host, Need, Candidate, RecordsFound, finds, needs_of_cases, ChecksNeeds, nothing, asked, Surveys, IsSurveyPrefix, IsCallPrefix, Reply, Finds, IsRoot, HasMemory, HasDisk}
+use Rattle.kt_plan.proofs.Common.{LeadsByCalls, is_found, is_same_need, RecordsAsFound, Host, Need, Candidate, RecordsFound, finds, needs_of_cases, ChecksNeeds, nothing, asked, ProbesHost, IsProbePrefix, IsCallPrefix, Reply, Finds, IsRoot, HasMemory, HasDisk}
 use Rattle.kt_plan.proofs.Chains.{answered-as, answered-once, answered-then}
 use Rattle.std.specs.List.{list_any}
 use Rattle.std.proofs.lemmas.List.Folds.{list_any-append}
@@ -52,7 +52,7 @@ rejoined : (a b d e : List Reply) → a ++ ((b ++ d) ++ e) ≡ (a ++ b) ++ (d ++
 rejoined a b d e = ap (λ (ts : List Reply). a ++ ts) (append_assoc b d e) ∙ sym (append_assoc a b (d ++ e))
 
 -- All calls to the host are also a prefix of these calls.
-pub all_surveyed : (cases : List Candidate) (answers : List Reply) (host : Host) → Surveys cases answers host → IsSurveyPrefix cases answers
+pub all_surveyed : (cases : List Candidate) (answers : List Reply) (host : Host) → ProbesHost cases answers host → IsProbePrefix cases answers
 all_surveyed cases answers host s = record {
   root = host.root;
   memory = host.memory;
@@ -112,7 +112,7 @@ module _ {W : Type 0} (replies : W → Reply → W → Type 0) where
   -- The checks for root, memory, disk space and the requirements are all calls to the host.
   pub surveyed : (cases : List Candidate) (old a b d new : W) (was now : Host) (root : Bool) (memory disk : Option ℕ) → was.root ≡ root → was.memory ≡ memory → was.disk ≡ disk
       → ((need : Need) (word : List ℕ) → is_found need was word ≡ false) → replies old (IsRoot root) a → replies a (HasMemory memory) b → replies b (HasDisk disk) d
-      → LeadsByCalls replies d new (λ answers. ChecksNeeds (needs_of_cases cases) answers × RecordsFound answers was now) → LeadsByCalls replies old new (λ answers. Surveys cases answers now)
+      → LeadsByCalls replies d new (λ answers. ChecksNeeds (needs_of_cases cases) answers × RecordsFound answers was now) → LeadsByCalls replies old new (λ answers. ProbesHost cases answers now)
   surveyed cases old a b d new was now root memory disk r m k none x y z h = record {
     asked = IsRoot root ∷ HasMemory memory ∷ HasDisk disk ∷ h.asked;
     chain = (a, x, (b, y, (d, z, h.chain)));
@@ -126,7 +126,7 @@ module _ {W : Type 0} (replies : W → Reply → W → Type 0) where
 
   -- The calls to the host before a failed allocation are a prefix of all these calls.
   pub survey_stopped : (cases : List Candidate) (old a b d new : W) (root : Bool) (memory disk : Option ℕ) → replies old (IsRoot root) a → replies a (HasMemory memory) b → replies b (HasDisk disk) d
-      → LeadsByCalls replies d new (λ answers. IsCallPrefix (ChecksNeeds (needs_of_cases cases)) answers) → LeadsByCalls replies old new (λ answers. IsSurveyPrefix cases answers)
+      → LeadsByCalls replies d new (λ answers. IsCallPrefix (ChecksNeeds (needs_of_cases cases)) answers) → LeadsByCalls replies old new (λ answers. IsProbePrefix cases answers)
   survey_stopped cases old a b d new root memory disk x y z h = record {
     asked = IsRoot root ∷ HasMemory memory ∷ HasDisk disk ∷ h.asked;
     chain = (a, x, (b, y, (d, z, h.chain)));

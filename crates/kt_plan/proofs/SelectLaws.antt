@@ -1,6 +1,6 @@
 -- Lemmas on the selection of a command, step by step.
 use Rattle.std.proofs.Common.{Result, Ok, Err, List, ◌++◌}
-use Rattle.kt_plan.proofs.Common.{FilterRule, Chain, Asked, LeadsByCalls, CaseOptions, CaseSelection, CommandSelection, Settings, SelectionError, CollectsBetween, HoldsOrNoMemory, IsNoMemoryError, IsReadPrefix, ReadsSettings, WorldLeads, finished, tree_calls, host_calls, Reply, chain-append}
+use Rattle.kt_plan.proofs.Common.{FilterRule, Chain, Asked, LeadsByCalls, CaseOptions, CaseSelection, CommandSelection, Settings, SelectionError, HasTreeSelection, HoldsOrNoMemory, IsNoMemoryError, IsReadPrefix, ReadsSettings, WorldLeads, finished, tree_calls, host_calls, Reply, chain-append}
 use Rattle.kt_plan.specs.Selecting.{IsSelectionPrefix, Selects, collecting, selected, settling, uncollected, unsettled}
 use Rattle.kt_plan.proofs.Stops.{error_as, held}
 use Rattle.kt_plan.proofs.QuestionChains.{chain_of_host, chain_of_tree}
@@ -30,7 +30,7 @@ module _ {W : Type 0} (asks : W → Asked → W → Type 0) (replies : W → Rep
 
   -- An error in the Kyuafiles or the cases is the error of the selection.
   pub uncollected_answer : (old mid new : W) (settings : Settings) (fault : SelectionError) → HasSettings old mid (Ok settings)
-      → CollectsBetween asks replies settings options.kyuafile mid new (Err fault) → HasSelection old new (Err fault)
+      → HasTreeSelection asks replies settings options.kyuafile mid new (Err fault) → HasSelection old new (Err fault)
   uncollected_answer old mid new settings fault a c = record {
     asked = host_calls a.asked ++ (tree_calls c.asked ++ host_calls c.answers);
     chain = chain_to a.asked c.asked c.answers old mid c.loaded new a.chain c.chain c.lists;
@@ -39,7 +39,7 @@ module _ {W : Type 0} (asks : W → Asked → W → Type 0) (replies : W → Rep
 
   -- Settings and selected cases give the selection of the command.
   pub selected_answer : (old mid new : W) (settings : Settings) (chosen : CaseSelection) → HasSettings old mid (Ok settings)
-      → CollectsBetween asks replies settings options.kyuafile mid new (Ok chosen) → HasSelection old new (Ok (record { settings = settings; chosen = chosen }))
+      → HasTreeSelection asks replies settings options.kyuafile mid new (Ok chosen) → HasSelection old new (Ok (record { settings = settings; chosen = chosen }))
   selected_answer old mid new settings chosen a c = record {
     asked = host_calls a.asked ++ (tree_calls c.asked ++ host_calls c.answers);
     chain = chain_to a.asked c.asked c.answers old mid c.loaded new a.chain c.chain c.lists;

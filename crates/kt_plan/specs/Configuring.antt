@@ -67,27 +67,27 @@ pub data IsReadFailure : ReadFault → Type 0 where
   missing : IsReadFailure Missing
   failed : IsReadFailure Failed
 
--- `IsConfiguration bytes meant`: `bytes` are the contents of a configuration file. `meant` has the
+-- `IsConfiguration bytes result`: `bytes` are the contents of a configuration file. `result` has the
 -- definitions in the file, or is the command's error for the file.
 pub data IsConfiguration (bytes : List ℕ) : Result (List Definition) SelectionError → Type 0 where
   refused : (fault : ConfigFault) → HasFault bytes fault → IsConfiguration bytes (Err (stop.Configuration fault))
   read : (stmts : List Stmt) (definitions : List Definition) → Spells bytes stmts → definitions_of_file stmts ≡ Ok definitions → IsConfiguration bytes (Ok definitions)
 
--- `ReadsConfig path replies meant`: `replies` is a list of one call, which reads the configuration
--- file at `path`. `meant` has the definitions in the file, or is the error of the command. If
+-- `ReadsConfig path config_calls result`: `config_calls` is a list of one call, which reads the configuration
+-- file at `path`. `result` has the definitions in the file, or is the error of the command. If
 -- `path` is `None`, there are no calls and no definitions.
 pub data ReadsConfig : Option (List ℕ) → List Reply → Result (List Definition) SelectionError → Type 0 where
   none : ReadsConfig None [] (Ok [])
   unread : (path : List ℕ) (fault : ReadFault) → IsReadFailure fault → ReadsConfig (Some path) (ReadConfig path (Err fault) ∷ []) (Err stop.UnreadableConfiguration)
-  seen : (path bytes : List ℕ) (meant : Result (List Definition) SelectionError) → IsConfiguration bytes meant
-      → ReadsConfig (Some path) (ReadConfig path (Ok bytes) ∷ []) meant
+  seen : (path bytes : List ℕ) (result : Result (List Definition) SelectionError) → IsConfiguration bytes result
+      → ReadsConfig (Some path) (ReadConfig path (Ok bytes) ∷ []) result
 
--- `Configures options answers meant`: `meant` has the definitions for a command with the options
--- `options`: those in its configuration file, and then those of `-v`. `answers` are the calls that
--- read the file. If a definition has an error, `meant` is the first error.
-pub data Configures (options : CaseOptions) (answers : List Reply) : Result (List Definition) SelectionError → Type 0 where
-  stopped : (fault : SelectionError) → ReadsConfig options.config answers (Err fault) → Configures options answers (Err fault)
-  defined : (before : List Definition) → ReadsConfig options.config answers (Ok before) → Configures options answers (values_after before (argument_definitions options.variables))
+-- `Configures options config_calls result`: `result` has the definitions for a command with the options
+-- `options`: those in its configuration file, and then those of `-v`. `config_calls` are the calls that
+-- read the file. If a definition has an error, `result` is the first error.
+pub data Configures (options : CaseOptions) (config_calls : List Reply) : Result (List Definition) SelectionError → Type 0 where
+  stopped : (fault : SelectionError) → ReadsConfig options.config config_calls (Err fault) → Configures options config_calls (Err fault)
+  defined : (before : List Definition) → ReadsConfig options.config config_calls (Ok before) → Configures options config_calls (values_after before (argument_definitions options.variables))
 
 -- ---- filters
 
@@ -123,32 +123,32 @@ abbrev pub is_case_missing : FilterRule → List Filter → Bool
 is_case_missing AnyFilters filters = false
 is_case_missing OneCase filters = not (names_one_case filters)
 
--- `Filters rule words result`: `result` has the filters that the arguments `words` represent, or is
+-- `ParsesFilters rule words result`: `result` has the filters that the arguments `words` represent, or is
 -- the first error. The arguments are parsed, then checked for an overlap, and then checked against
 -- `rule`, which states which filters the command accepts.
-pub data Filters (rule : FilterRule) (words : List (List ℕ)) : Result (List Filter) SelectionError → Type 0 where
-  unparsed : (fault : SelectionError) → filters_of words ≡ Err fault → Filters rule words (Err fault)
+pub data ParsesFilters (rule : FilterRule) (words : List (List ℕ)) : Result (List Filter) SelectionError → Type 0 where
+  unparsed : (fault : SelectionError) → filters_of words ≡ Err fault → ParsesFilters rule words (Err fault)
   clash : (filters : List Filter) (word : List ℕ) (fault : FilterFault) → filters_of words ≡ Ok filters → IsFirstOverlap words filters word fault
-      → Filters rule words (Err (stop.Filter word fault))
+      → ParsesFilters rule words (Err (stop.Filter word fault))
   unnamed : (filters : List Filter) → filters_of words ≡ Ok filters → IsDisjoint filters → is_case_missing rule filters ≡ true
-      → Filters rule words (Err stop.NeedsCase)
+      → ParsesFilters rule words (Err stop.NeedsCase)
   right : (filters : List Filter) → filters_of words ≡ Ok filters → IsDisjoint filters → is_case_missing rule filters ≡ false
-      → Filters rule words (Ok filters)
+      → ParsesFilters rule words (Ok filters)
 
 -- ---- settings
 
--- `ReadsSettings rule options answers result`: `result` has the settings of a command with the
+-- `ReadsSettings rule options config_calls result`: `result` has the settings of a command with the
 -- options `options`, or is the first error. The configuration file is read first, then the
--- arguments of `-v`, then the filters. `answers` are the calls to the host, which read the file.
+-- arguments of `-v`, then the filters. `config_calls` are the calls to the host, which read the file.
 -- `rule` states which filters the command accepts.
-pub data ReadsSettings (rule : FilterRule) (options : CaseOptions) (answers : List Reply) : Result Settings SelectionError → Type 0 where
-  unconfigured : (fault : SelectionError) → Configures options answers (Err fault) → ReadsSettings rule options answers (Err fault)
-  unfiltered : (definitions : List Definition) (fault : SelectionError) → Configures options answers (Ok definitions) → Filters rule options.filters (Err fault)
-      → ReadsSettings rule options answers (Err fault)
-  settled : (definitions : List Definition) (settings : Settings) → Configures options answers (Ok definitions) → HasValuesSetBy settings.config definitions
-      → Filters rule options.filters (Ok settings.filters) → ReadsSettings rule options answers (Ok settings)
+pub data ReadsSettings (rule : FilterRule) (options : CaseOptions) (config_calls : List Reply) : Result Settings SelectionError → Type 0 where
+  unconfigured : (fault : SelectionError) → Configures options config_calls (Err fault) → ReadsSettings rule options config_calls (Err fault)
+  unfiltered : (definitions : List Definition) (fault : SelectionError) → Configures options config_calls (Ok definitions) → ParsesFilters rule options.filters (Err fault)
+      → ReadsSettings rule options config_calls (Err fault)
+  settled : (definitions : List Definition) (settings : Settings) → Configures options config_calls (Ok definitions) → HasValuesSetBy settings.config definitions
+      → ParsesFilters rule options.filters (Ok settings.filters) → ReadsSettings rule options config_calls (Ok settings)
 
--- `IsReadPrefix path replies`: `replies` may be the calls that read the settings of a command
+-- `IsReadPrefix path config_calls`: `config_calls` may be the calls that read the settings of a command
 -- before an allocation failed. There is no call, or only the read of the configuration file at
 -- `path`. If `path` is `None`, there is no call.
 pub data IsReadPrefix : Option (List ℕ) → List Reply → Type 0 where

@@ -46,13 +46,13 @@ abbrev pub needs_of_cases : List Candidate → List (Need × List ℕ)
 needs_of_cases [] = []
 needs_of_cases (candidate ∷ candidates) = case_needs candidate.case.fault (candidate_meta candidate) ++ needs_of_cases candidates
 
--- `ChecksNeeds needs answers`: the calls `answers` to the host check whether the required files and
+-- `ChecksNeeds needs calls`: the calls `calls` to the host check whether the required files and
 -- programs `needs` exist, with one call for each, in order. Each of `needs` has a kind, file or
 -- program, and a path or name.
 pub data ChecksNeeds : List (Need × List ℕ) → List Reply → Type 0 where
   nothing : ChecksNeeds [] []
-  asked : (need : Need) (word : List ℕ) (needs : List (Need × List ℕ)) (answer : Bool) (answers : List Reply) → ChecksNeeds needs answers
-      → ChecksNeeds ((need, word) ∷ needs) (Finds need word answer ∷ answers)
+  asked : (need : Need) (word : List ℕ) (needs : List (Need × List ℕ)) (answer : Bool) (calls : List Reply) → ChecksNeeds needs calls
+      → ChecksNeeds ((need, word) ∷ needs) (Finds need word answer ∷ calls)
 
 -- `finds need word reply`: `true` if `reply`, a call to the host, found the file or program `word`.
 -- `need` states whether `word` is a file or a program.
@@ -60,26 +60,26 @@ abbrev pub finds : Need → List ℕ → Reply → Bool
 finds need word (Finds other_need other answer) = is_same_need other_need other need word && answer
 finds need word other = false
 
--- `Surveys candidates answers host`: `host` has the properties of the host, by the results of the
--- calls `answers`. These calls first read three values: whether the user is root, the memory and
+-- `ProbesHost candidates calls host`: `host` has the properties of the host, by the results of the
+-- calls `calls`. These calls first read three values: whether the user is root, the memory and
 -- the disk space. They then check for the files and programs that the cases `candidates` require. A
 -- file or program exists if a call found it.
-pub record Surveys (candidates : List Candidate) (answers : List Reply) (host : Host) : Type 0 where
+pub record ProbesHost (candidates : List Candidate) (calls : List Reply) (host : Host) : Type 0 where
   pub looked : List Reply
-  pub asked : answers ≡ IsRoot host.root ∷ HasMemory host.memory ∷ HasDisk host.disk ∷ looked
+  pub asked : calls ≡ IsRoot host.root ∷ HasMemory host.memory ∷ HasDisk host.disk ∷ looked
   pub all : ChecksNeeds (needs_of_cases candidates) looked
   pub found : (need : Need) (word : List ℕ) → is_found need host word ≡ list_any (finds need word) looked
 
--- `IsSurveyPrefix candidates answers`: `answers` may be the calls to the host before an allocation
+-- `IsProbePrefix candidates calls`: `calls` may be the calls to the host before an allocation
 -- failed. They first read three values: whether the user is root, the memory and the disk space.
 -- They then check for the first files and programs that the cases `candidates` require, possibly
 -- none.
-pub record IsSurveyPrefix (candidates : List Candidate) (answers : List Reply) : Type 0 where
+pub record IsProbePrefix (candidates : List Candidate) (calls : List Reply) : Type 0 where
   pub root : Bool
   pub memory : Option ℕ
   pub disk : Option ℕ
   pub looked : List Reply
-  pub asked : answers ≡ IsRoot root ∷ HasMemory memory ∷ HasDisk disk ∷ looked
+  pub asked : calls ≡ IsRoot root ∷ HasMemory memory ∷ HasDisk disk ∷ looked
   pub first : IsCallPrefix (ChecksNeeds (needs_of_cases candidates)) looked
 
 -- `is_atf interface`: `true` if the interface `interface` is ATF, the only interface whose cases

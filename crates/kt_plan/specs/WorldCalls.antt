@@ -8,22 +8,22 @@ pub data WorldCall : Type 0 where
   CallToTree : Asked → WorldCall
   CallToHost : Reply → WorldCall
 
--- `WorldLeads asks replies old question new`: the call `question` may lead the world from the state
+-- `WorldLeads asks replies old call new`: the call `call` may lead the world from the state
 -- `old` to `new`. `asks` is the relation of calls to the tree, and `replies` is the relation of
 -- calls to the host.
 abbrev pub WorldLeads : {W : Type 0} → (W → Asked → W → Type 0) → (W → Reply → W → Type 0) → W → WorldCall → W → Type 0
-WorldLeads asks replies old (CallToTree asked) new = asks old asked new
-WorldLeads asks replies old (CallToHost answers) new = replies old answers new
+WorldLeads asks replies old (CallToTree call) new = asks old call new
+WorldLeads asks replies old (CallToHost call) new = replies old call new
 
--- `tree_calls asked`: the calls to the tree in the list `asked`, as calls to the world.
+-- `tree_calls calls`: the calls to the tree in the list `calls`, as calls to the world.
 abbrev pub tree_calls : List Asked → List WorldCall
-tree_calls asked = map CallToTree asked
+tree_calls calls = map CallToTree calls
 
--- `host_calls answers`: the calls to the host in the list `answers`, as calls to the world.
+-- `host_calls calls`: the calls to the host in the list `calls`, as calls to the world.
 abbrev pub host_calls : List Reply → List WorldCall
-host_calls answers = map CallToHost answers
+host_calls calls = map CallToHost calls
 
--- `IsCallPrefix AreAll asked`: the list of calls `asked` can be extended at its end to a list for
+-- `IsCallPrefix AreAll calls`: the list of calls `calls` can be extended at its end to a list for
 -- which `AreAll` is true.
 abbrev pub IsCallPrefix : {Q : Type 0} → (List Q → Type 0) → List Q → Type 0
-IsCallPrefix {Q} AreAll asked = (more : List Q) × AreAll (asked ++ more)
+IsCallPrefix {Q} AreAll calls = (more : List Q) × AreAll (calls ++ more)

@@ -17,10 +17,10 @@ pub use Rattle.kt_base.specs.Utf8.{utf8}
 pub use Rattle.kt_base.specs.declared.entry.Entry.{Entry}
 pub use Rattle.kt_base.specs.declared.verdict.Kind.{Kind}
 pub use Rattle.kt_base.specs.declared.verdict.Kind.TheVariants.{Broken, ExpectedFailure, Failed, Passed, Skipped}
-pub use Rattle.kt_report.specs.Digits.{seconds}
+pub use Rattle.kt_report.specs.Digits.{seconds_bytes}
 pub use Rattle.kt_report.specs.Escapes.{escaped, escaped_text}
-pub use Rattle.kt_report.specs.Junits.{case_bytes, element, ending, heading, junit_layout, output_element, result_element}
+pub use Rattle.kt_report.specs.Junits.{case_bytes, case_element, junit_end, junit_start, junit_layout, output_element, result_element}
 pub use Rattle.kt_report.specs.Layouts.{Layout, bytes_up_to}
 pub use Rattle.kt_report.specs.Lines.{line_bytes, printable_reason}
-pub use Rattle.kt_report.specs.Pairs.{entry_bytes, pair_bytes, printable_byte}
-pub use Rattle.kt_report.specs.Texts.{entries_by_section, sections_layout, text_layout, chosen_entries, time_of_day_bytes, kind_count_bytes, totals_bytes, entries_of, has_kind, last_kind, moment_bytes, title_line_after, order, is_same_kind, section, sections, printable_moment, summary_title_bytes, summary, text_bytes, title, title_line, titled_section, titled_lines, unfinished_bytes}
+pub use Rattle.kt_report.specs.Pairs.{entry_bytes, property_bytes, printable_byte}
+pub use Rattle.kt_report.specs.Texts.{entries_by_section, sections_layout, text_layout, chosen_entries, time_of_day_bytes, kind_count_bytes, totals_bytes, entries_of, has_kind, last_kind, moment_bytes, title_line_after, section_order, is_same_kind, section, sections, printable_moment, summary_title_bytes, summary, text_bytes, section_title, title_line, titled_section, titled_lines, unfinished_bytes}

@@ -5,7 +5,7 @@ pub mod InTurn
 pub mod JunitSteps
 pub mod Layouts
 pub mod LineSteps
-pub mod Outlines
+pub mod HiddenParts
 pub mod InlineDetails
 pub mod Outputs
 pub mod Runs

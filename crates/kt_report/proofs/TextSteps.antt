@@ -8,8 +8,8 @@ use Rattle.kt_report.proofs.InTurn.{in_turn_more, in_turn_all}
 use Rattle.kt_report.proofs.Layouts.{cut_later}
 use Rattle.kt_report.proofs.LineSteps.{if_of, if_of_all}
 use Rattle.kt_report.proofs.TitledLines.{last_kind-append, titled_lines-append}
-use Rattle.kt_report.specs.Details.{ReadsDetails, WritesOverDetails, none, reads_if_verbose}
-use Rattle.kt_report.specs.Inner.Steps.{EndsEntries, WritesEntries, WritesEntry}
+use Rattle.kt_report.specs.Details.{ReadsDetails, WritesLayout, none, reads_if_verbose}
+use Rattle.kt_report.specs.Inner.Steps.{IsEntriesResult, WritesEntries, WritesEntry}
 use Rattle.kt_report.specs.declared.write_report_error.WriteReportError.{WriteReportError}
 use Rattle.kt_report.specs.declared.write_report_error.WriteReportError.TheVariants.{Details, Report}
 
@@ -101,8 +101,8 @@ module _ {S F : Type 0} (reads : S → Entry → Result Entry F → S → Type 0
     due_more : (read rest : List Entry) → ys ≡ read ++ rest → xs ++ ys ≡ (xs ++ read) ++ rest
     due_more read rest is = ap (λ (es : List Entry). xs ++ es) is ∙ sym (append_assoc xs read rest)
 
-    ends_both : (new : S) (now : Option (List ℕ)) (answer : Result (Option Kind) (WriteReportError F OutputFault)) → EndsEntries reads mid held now new v (last_kind before shown) ys answer
-        → EndsEntries reads old was now new v before (xs ++ ys) answer
+    ends_both : (new : S) (now : Option (List ℕ)) (answer : Result (Option Kind) (WriteReportError F OutputFault)) → IsEntriesResult reads mid held now new v (last_kind before shown) ys answer
+        → IsEntriesResult reads old was now new v before (xs ++ ys) answer
     ends_both new now (Ok last) w = (shown ++ w.0, filled_both reads p w.1, w.2 ∙ sym (last_kind-append before shown w.0), shows_as (sym (titled_lines-append v before shown w.0)) (shows_both s w.3))
     ends_both new now (Err (Details fault)) w =
         (xs ++ w.0, w.1, shown ++ w.2, w.3, w.4, due_more w.0 (w.3 ∷ w.1) w.5, filled_both reads p w.6, w.7, bytes_later false w.2 (w.3 ∷ w.1) w.8)
@@ -112,7 +112,7 @@ module _ {S F : Type 0} (reads : S → Entry → Result Entry F → S → Type 0
       → WritesEntries reads old was held mid {E = OutputFault} v before xs (Ok last) → WritesEntries reads mid held now new v last ys answer → WritesEntries reads old was now new v before (xs ++ ys) answer
   entries_both {mid = mid} {new = new} {held = held} {now = now} {before = before} {xs = xs} {ys = ys} {answer = answer} w t =
       let e = w.ends in
-      record { ends = ends_both before xs ys e.0 e.1 e.3 new now answer (subst (λ (k : Option Kind). EndsEntries reads mid held now new v k ys answer) e.2 t.ends) }
+      record { ends = ends_both before xs ys e.0 e.1 e.3 new now answer (subst (λ (k : Option Kind). IsEntriesResult reads mid held now new v k ys answer) e.2 t.ends) }
 
   cut_more : (before : Option Kind) (shown rest ys : List Entry) {was now : Option (List ℕ)} → Emits was now true (bytes_up_to (sections_layout v before []) shown rest)
       → Emits was now true (bytes_up_to (sections_layout v before []) shown (rest ++ ys))
@@ -164,7 +164,7 @@ module _ {S F : Type 0} (reads : S → Entry → Result Entry F → S → Type 0
     -- `Ends old was now new answer`: the report was written, or `answer` is the error that ended
     -- it.
     abbrev pub Ends : S → Option (List ℕ) → Option (List ℕ) → S → Result (Unit {0}) (WriteReportError F OutputFault) → Type 0
-    Ends old was now new answer = WritesOverDetails reads (text_layout date v run) due old was now new answer
+    Ends old was now new answer = WritesLayout reads (text_layout date v run) due old was now new answer
 
     -- The report ends early if a section can't be written.
     pub sections_cut : {old new : S} {was now : Option (List ℕ)} (stop : WriteReportError F OutputFault) → WritesEntries reads old was now new v None due (Err stop) → Ends old was now new (Err stop)

@@ -1,6 +1,6 @@
 -- Entries in order, with the titles of their kinds.
 use Rattle.std.proofs.Common.{flat_map, cond, if◌then◌else◌, Option, Some, None, ◌≡◌, ◌⊎◌, inl, inr, Bool, true, false, ◌&&◌, not, List, [], ◌∷◌, ◌++◌, refl, ap, ap₂, ◌∙◌, append_assoc}
-use Rattle.kt_report.proofs.Common.{and_parts, list_any, Entry, Kind, Passed, Skipped, ExpectedFailure, Failed, Broken, entry_bytes, is_same_kind, has_kind, entries_of, chosen_entries, entries_by_section, order, title_line, titled_section, section, sections, title_line_after, last_kind, titled_lines}
+use Rattle.kt_report.proofs.Common.{and_parts, list_any, Entry, Kind, Passed, Skipped, ExpectedFailure, Failed, Broken, entry_bytes, is_same_kind, has_kind, entries_of, chosen_entries, entries_by_section, section_order, title_line, titled_section, section, sections, title_line_after, last_kind, titled_lines}
 
 same_is : (a b : Kind) → is_same_kind a b ≡ true → b ≡ a
 same_is Passed Passed s = refl
@@ -93,4 +93,4 @@ module _ (v : Bool) where
         (elim f.1 [ inl e ↦ ap (λ o. titled_lines v o rest) e ∙ from before ks q.0 | inr e ↦ ap (λ o. titled_lines v o rest) e ∙ from (Some k) ks q.1 ])
 
     pub by_section_is : titled_lines v None (entries_by_section kinds es) ≡ sections v kinds es
-    by_section_is = from None order refl
+    by_section_is = from None section_order refl

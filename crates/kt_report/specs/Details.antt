@@ -47,21 +47,21 @@ module _ {S F : Type 0} (reads : S → Entry → Result Entry F → S → Type 0
     more : (e full : Entry) (due shown : List Entry) (old mid new : S) → reads old e (Ok full) mid → ReadsDetails mid due shown new → ReadsDetails old (e ∷ due) (full ∷ shown) new
 
   module _ {E : Type 0} (layout : Layout) (due : List Entry) (old : S) (was now : Option (List ℕ)) (new : S) where
-    -- `EndsReport answer`: `answer` is the result of writing a report of the entries `due`, with
+    -- `IsReportResult answer`: `answer` is the result of writing a report of the entries `due`, with
     -- the properties or outputs that were read for each entry. The report has the layout `layout`.
     -- On success, the whole report was written. After a failed read, the entries before the failure
     -- were written. After a failed write, a proper prefix of the report was written. The reads lead
     -- from the state `old` to the state `new`, and the writes change the writer's contents from
     -- `was` to `now`. `reads` is the relation of one read.
-    abbrev pub EndsReport : Result (Unit {0}) (WriteReportError F E) → Type 0
-    EndsReport (Ok done) = (shown : List Entry) × ReadsDetails old due shown new × Emits was now false (bytes_up_to layout shown [])
-    EndsReport (Err (Details fault)) =
+    abbrev pub IsReportResult : Result (Unit {0}) (WriteReportError F E) → Type 0
+    IsReportResult (Ok done) = (shown : List Entry) × ReadsDetails old due shown new × Emits was now false (bytes_up_to layout shown [])
+    IsReportResult (Err (Details fault)) =
         (read rest shown : List Entry) × (e : Entry) × (mid : S) × (due ≡ read ++ e ∷ rest) × ReadsDetails old read shown mid × reads mid e (Err fault) new
         × Emits was now false (bytes_up_to layout shown (e ∷ rest))
-    EndsReport (Err (Report fault)) = (read rest shown : List Entry) × (due ≡ read ++ rest) × ReadsDetails old read shown new × Emits was now true (bytes_up_to layout shown rest)
+    IsReportResult (Err (Report fault)) = (read rest shown : List Entry) × (due ≡ read ++ rest) × ReadsDetails old read shown new × Emits was now true (bytes_up_to layout shown rest)
 
-    -- `WritesOverDetails answer`: a record of the fact `EndsReport answer`: a report was written
+    -- `WritesLayout answer`: a record of the fact `IsReportResult answer`: a report was written
     -- with the properties or outputs of its entries, or `answer` is the error that ended the
     -- report.
-    pub record WritesOverDetails (answer : Result (Unit {0}) (WriteReportError F E)) : Type 0 where
-      pub ends : EndsReport answer
+    pub record WritesLayout (answer : Result (Unit {0}) (WriteReportError F E)) : Type 0 where
+      pub ends : IsReportResult answer

@@ -6,7 +6,7 @@ use Rattle.kt_base.specs.declared.verdict.Kind.TheVariants.{Passed, Skipped, Exp
 use Rattle.kt_base.specs.declared.entry.Entry.{Entry}
 use Rattle.kt_base.specs.declared.entry.Run.{Run}
 use Rattle.kt_base.specs.Utf8.{utf8}
-use Rattle.kt_report.specs.Digits.{seconds}
+use Rattle.kt_report.specs.Digits.{seconds_bytes}
 use Rattle.kt_report.specs.Cases.{case_texts}
 use Rattle.kt_report.specs.Layouts.{Layout}
 use Rattle.kt_report.specs.declared.case_texts.CaseTexts.{CaseTexts}
@@ -27,33 +27,33 @@ abbrev pub output_element : List ℕ → List ℕ → List ℕ
 output_element name [] = []
 output_element name (c ∷ text) = codes "<" ++ name ++ codes ">" ++ utf8 (c ∷ text) ++ codes "</" ++ name ++ codes ">\n"
 
--- `element texts kind millis`: the XML element of a case with the escaped texts `texts`, a verdict
+-- `case_element texts kind millis`: the XML element of a case with the escaped texts `texts`, a verdict
 -- of the kind `kind`, and a duration of `millis` milliseconds.
-abbrev pub element : CaseTexts → Kind → ℕ → List ℕ
-element texts kind millis =
-    codes "<testcase classname=\"" ++ utf8 texts.program ++ codes "\" name=\"" ++ utf8 texts.case_name ++ codes "\" time=\"" ++ seconds millis ++ codes "\">\n"
+abbrev pub case_element : CaseTexts → Kind → ℕ → List ℕ
+case_element texts kind millis =
+    codes "<testcase classname=\"" ++ utf8 texts.program ++ codes "\" name=\"" ++ utf8 texts.case_name ++ codes "\" time=\"" ++ seconds_bytes millis ++ codes "\">\n"
     ++ result_element kind texts.reason ++ output_element (codes "system-out") texts.out ++ output_element (codes "system-err") texts.err ++ codes "</testcase>\n"
 
 -- `case_bytes e`: the XML element of the entry `e` in the JUnit report.
 abbrev pub case_bytes : Entry → List ℕ
-case_bytes e = element (case_texts e) e.verdict.kind e.millis
+case_bytes e = case_element (case_texts e) e.verdict.kind e.millis
 
--- `heading run`: the bytes of the JUnit report of `run` before its first case.
-abbrev pub heading : Run → List ℕ
-heading run =
+-- `junit_start run`: the bytes of the JUnit report of `run` before its first case.
+abbrev pub junit_start : Run → List ℕ
+junit_start run =
     codes "<?xml version=\"1.0\" encoding=\"utf-8\"?>\n<testsuite tests=\"" ++ decimal (length run.entries) ++ codes "\" failures=\"" ++ kind_count_bytes Failed run.entries ++ codes "\" errors=\"" ++ kind_count_bytes Broken run.entries
     ++ codes "\" skipped=\"" ++ kind_count_bytes Skipped run.entries ++ codes "\">\n"
 
--- `ending`: the bytes of a JUnit report after its last case.
-abbrev pub ending : List ℕ
-ending = codes "</testsuite>\n"
+-- `junit_end`: the bytes of a JUnit report after its last case.
+abbrev pub junit_end : List ℕ
+junit_end = codes "</testsuite>\n"
 
 -- `junit_bytes run`: the JUnit report of `run`, which has a case for each entry, in the order of
 -- entries.
 abbrev pub junit_bytes : Run → List ℕ
-junit_bytes run = heading run ++ flat_map case_bytes run.entries ++ ending
+junit_bytes run = junit_start run ++ flat_map case_bytes run.entries ++ junit_end
 
 -- `junit_layout run`: the `Layout` of the JUnit report of `run`: its bytes as functions of the
 -- entries that were read so far.
 abbrev pub junit_layout : Run → Layout
-junit_layout run = record { first = λ shown. heading run ++ flat_map case_bytes shown; next = λ shown e. []; last = ending }
+junit_layout run = record { first = λ shown. junit_start run ++ flat_map case_bytes shown; next = λ shown e. []; last = junit_end }

@@ -7,6 +7,6 @@ pub mod Inner
 pub mod Junits
 pub mod Layouts
 pub mod Lines
-pub mod Outlines
+pub mod HiddenParts
 pub mod Pairs
 pub mod Texts

@@ -9,7 +9,7 @@ use Rattle.kt_base.specs.declared.verdict.Kind.{Kind}
 use Rattle.kt_base.specs.declared.verdict.Kind.TheVariants.{Passed, Skipped, ExpectedFailure, Failed, Broken}
 use Rattle.kt_base.specs.declared.entry.Entry.{Entry}
 use Rattle.kt_base.specs.declared.entry.Run.{Run}
-use Rattle.kt_report.specs.Digits.{two_digits, three_digits, four_digits, seconds}
+use Rattle.kt_report.specs.Digits.{two_digits, three_digits, four_digits, seconds_bytes}
 use Rattle.kt_report.specs.Layouts.{Layout}
 use Rattle.kt_report.specs.Pairs.{entry_bytes}
 
@@ -30,17 +30,17 @@ has_kind kind e = is_same_kind kind e.verdict.kind
 abbrev pub entries_of : Kind → List Entry → List Entry
 entries_of kind entries = filter (has_kind kind) entries
 
--- `title kind`: the title of the section of the kind `kind`.
-abbrev pub title : Kind → List ℕ
-title Passed = codes "Passed tests"
-title Skipped = codes "Skipped tests"
-title ExpectedFailure = codes "Expected failures"
-title Broken = codes "Broken tests"
-title Failed = codes "Failed tests"
+-- `section_title kind`: the title of the section of the kind `kind`.
+abbrev pub section_title : Kind → List ℕ
+section_title Passed = codes "Passed tests"
+section_title Skipped = codes "Skipped tests"
+section_title ExpectedFailure = codes "Expected failures"
+section_title Broken = codes "Broken tests"
+section_title Failed = codes "Failed tests"
 
--- `order`: the kinds of verdicts, in the order of their sections in the text report.
-abbrev pub order : List Kind
-order = Passed ∷ Skipped ∷ ExpectedFailure ∷ Broken ∷ Failed ∷ []
+-- `section_order`: the kinds of verdicts, in the order of their sections in the text report.
+abbrev pub section_order : List Kind
+section_order = Passed ∷ Skipped ∷ ExpectedFailure ∷ Broken ∷ Failed ∷ []
 
 -- `chosen_entries kinds entries kind`: those of `entries` whose verdicts are of the kind `kind`, if
 -- `kind` is one of the chosen kinds `kinds`, otherwise no entries.
@@ -50,11 +50,11 @@ chosen_entries kinds entries kind = if list_any (is_same_kind kind) kinds then e
 -- `entries_by_section kinds entries`: those of `entries` whose verdicts are of the chosen kinds
 -- `kinds`, in the order of the sections.
 abbrev pub entries_by_section : List Kind → List Entry → List Entry
-entries_by_section kinds entries = flat_map (chosen_entries kinds entries) order
+entries_by_section kinds entries = flat_map (chosen_entries kinds entries) section_order
 
 -- `title_line kind`: the line with the title of the section of the kind `kind`.
 abbrev pub title_line : Kind → List ℕ
-title_line kind = codes "===> " ++ title kind ++ codes "\n"
+title_line kind = codes "===> " ++ section_title kind ++ codes "\n"
 
 -- `titled_section verbose kind entries`: the title of the section of `kind`, and the lines of
 -- `entries`, or nothing if there are no entries. Lines of properties follow each entry if `verbose`
@@ -70,9 +70,9 @@ abbrev pub section : Bool → List Kind → List Entry → Kind → List ℕ
 section verbose kinds entries kind = titled_section verbose kind (chosen_entries kinds entries kind)
 
 -- `sections verbose kinds entries`: the sections of the chosen kinds `kinds` in a report of
--- `entries`, in the order `order`. Lines of properties follow each entry if `verbose` is true.
+-- `entries`, in the order `section_order`. Lines of properties follow each entry if `verbose` is true.
 abbrev pub sections : Bool → List Kind → List Entry → List ℕ
-sections verbose kinds entries = flat_map (section verbose kinds entries) order
+sections verbose kinds entries = flat_map (section verbose kinds entries) section_order
 
 -- `title_line_after before kind`: the line with the title of the section of `kind`. It is empty if
 -- the preceding entry is of the same kind. `before` is the kind of that entry, or `None` for the
@@ -151,7 +151,7 @@ totals_bytes entries =
 -- `summary date run`: the summary of `run`: its number and start, the counts of its recorded
 -- entries, and the sum of their durations. `date` is the date of its start.
 abbrev pub summary : Date → Run → List ℕ
-summary date run = summary_title_bytes date run ++ totals_bytes run.entries ++ codes "Total time: " ++ seconds (sum_by (λ e. e.millis) run.entries) ++ codes "s\n"
+summary date run = summary_title_bytes date run ++ totals_bytes run.entries ++ codes "Total time: " ++ seconds_bytes (sum_by (λ e. e.millis) run.entries) ++ codes "s\n"
 
 -- `text_bytes date kinds verbose run`: the text report of `run`: the sections of the chosen kinds
 -- `kinds` and the summary. `date` is the date of the run's start. If `verbose` is true, the

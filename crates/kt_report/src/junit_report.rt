@@ -1,5 +1,5 @@
 ghost use Rattle.std.specs.Prelude.{◌≡◌, ◌++◌, false, is_err, flat_map, codes};
-ghost use Rattle.kt_report.specs.Common.{utf8, Emits, with_outputs, result_element, output_element, element, case_bytes, heading, ending, junit_bytes, junit_layout, WritesEntry, WritesOverDetails};
+ghost use Rattle.kt_report.specs.Common.{utf8, Emits, with_outputs, result_element, output_element, case_element, case_bytes, junit_start, junit_end, junit_bytes, junit_layout, WritesEntry, WritesLayout};
 
 use crate::case_texts::CaseTexts;
 use crate::details::InlineDetails;
@@ -52,7 +52,7 @@ fn write_case_element<W: Write>(
     out: &mut W,
 ) -> Result<(), OutputFault>
     ensures { Emits (W.contents out.old) (W.contents out.new) (is_err result)
-        (element texts.now kind millis) }
+        (case_element texts.now kind millis) }
 {
     emit_all(
         &[
@@ -76,7 +76,7 @@ fn write_case_element<W: Write>(
 ///
 /// The function uses only the verdicts of the entries. It doesn't allocate.
 fn write_heading<W: Write>(run: &Run, out: &mut W) -> Result<(), OutputFault>
-    ensures { Emits (W.contents out.old) (W.contents out.new) (is_err result) (heading run.now) }
+    ensures { Emits (W.contents out.old) (W.contents out.new) (is_err result) (junit_start run.now) }
 {
     let entries = run.entries.as_slice();
     let tests = Decimal::new(entries.len() as u64);
@@ -160,7 +160,7 @@ pub fn write_junit_report<D: DetailSource, W: Write>(
     details: &mut D,
     out: &mut W,
 ) -> Result<(), WriteReportError<D::Fault, ReportFault>>
-    ensures { WritesOverDetails D.reads_outputs (junit_layout run.now) run.now.entries details.old
+    ensures { WritesLayout D.reads_outputs (junit_layout run.now) run.now.entries details.old
         (W.contents out.old) (W.contents out.new) details.new result }
 {
     write_heading(run, out)?;

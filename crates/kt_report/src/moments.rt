@@ -1,5 +1,5 @@
 ghost use Rattle.std.specs.Prelude.{◌≡◌, ◌<◌, pos, is_err};
-ghost use Rattle.kt_report.specs.Common.{epoch_day, Emits, printable_moment, IsDateOf, time_of_day_bytes, date_bytes, moment_bytes, digit, two_digits, three_digits, four_digits, seconds};
+ghost use Rattle.kt_report.specs.Common.{epoch_day, Emits, printable_moment, IsDateOf, time_of_day_bytes, date_bytes, moment_bytes, last_digit, two_digits, three_digits, four_digits, seconds_bytes};
 
 use jiff::ToSpan;
 use jiff::civil::{Date, date};
@@ -8,7 +8,7 @@ use std::io::Write;
 
 /// Returns the last decimal digit of `n`, in ASCII.
 fn last_digit(n: u64) -> u8
-    ensures { result ≡ digit n }
+    ensures { result ≡ last_digit n }
 {
     b'0' + (n % 10) as u8
 }
@@ -41,7 +41,7 @@ pub fn four_digits(n: u64) -> [u8; 4]
 ///
 /// - `OutputFault`: a write fails.
 pub fn write_seconds<W: Write>(millis: u128, out: &mut W) -> Result<(), OutputFault>
-    ensures { Emits (W.contents out.old) (W.contents out.new) (is_err result) (seconds millis) }
+    ensures { Emits (W.contents out.old) (W.contents out.new) (is_err result) (seconds_bytes millis) }
 {
     let whole = Decimal::from_u128(millis / 1000);
     let rest = three_digits((millis % 1000) as u64);

@@ -1,5 +1,5 @@
 ghost use Rattle.std.specs.Prelude.{◌≡◌, flat_map, map, is_err, true};
-ghost use Rattle.kt_report.specs.Common.{Emits, printable_byte, pair_bytes, entry_bytes, with_properties, WritesEntry, reads_if_verbose};
+ghost use Rattle.kt_report.specs.Common.{Emits, printable_byte, property_bytes, entry_bytes, with_properties, WritesEntry, reads_if_verbose};
 
 use crate::{DetailSource, WriteReportError, line};
 use kt_base::{Entry, OutputFault, Variable, Variables, emit, emit_all};
@@ -27,7 +27,7 @@ fn write_value<W: Write>(value: &[u8], out: &mut W) -> Result<(), OutputFault>
 /// Writes the line of the property `pair`: its name and its value.
 fn write_property<W: Write>(pair: &Variable, out: &mut W) -> Result<(), OutputFault>
     ensures { Emits (W.contents out.old) (W.contents out.new) (is_err result)
-        (pair_bytes pair.now) }
+        (property_bytes pair.now) }
 {
     emit_all(&[b"    ", pair.name.as_bytes(), b" = "], out)?;
     write_value(pair.value.as_bytes(), out)?;
@@ -37,7 +37,7 @@ fn write_property<W: Write>(pair: &Variable, out: &mut W) -> Result<(), OutputFa
 /// Writes a line for each property in `pairs`: its name and its value.
 fn write_properties<W: Write>(pairs: &[Variable], out: &mut W) -> Result<(), OutputFault>
     ensures { Emits (W.contents out.old) (W.contents out.new) (is_err result)
-        (flat_map pair_bytes pairs.now) }
+        (flat_map property_bytes pairs.now) }
 {
     for pair in pairs {
         write_property(pair, out)?;

@@ -1,5 +1,5 @@
 ghost use Rattle.std.specs.Prelude.{◌≡◌, ◌∷◌, [], None, length, is_err};
-ghost use Rattle.kt_report.specs.Common.{list_any, Emits, is_same_kind, entries_of, chosen_entries, entries_by_section, title, title_line_after, order, reads_if_verbose, WritesEntries};
+ghost use Rattle.kt_report.specs.Common.{list_any, Emits, is_same_kind, entries_of, chosen_entries, entries_by_section, section_title, title_line_after, section_order, reads_if_verbose, WritesEntries};
 
 use crate::pairs::write_entry;
 use crate::{DetailSource, WriteReportError};
@@ -17,7 +17,7 @@ const SECTION_ORDER: [Kind; 5] = [
 
 /// Returns the kinds of verdicts, in the order of their sections in the text report.
 fn section_order() -> &'static [Kind]
-    ensures { result.now ≡ order }
+    ensures { result.now ≡ section_order }
 {
     &SECTION_ORDER
 }
@@ -52,7 +52,7 @@ pub fn count_kind(kind: Kind, entries: &[Entry]) -> usize
 
 /// Returns the title of the section of `kind` in the text report.
 fn section_title(kind: Kind) -> &'static [u8]
-    ensures { result.now ≡ title kind }
+    ensures { result.now ≡ section_title kind }
 {
     match kind {
         Kind::Passed => b"Passed tests",

@@ -1,5 +1,5 @@
 -- Attaching the tables of a database, by the database's state before.
-use Rattle.kt_store.proofs.Common.{Blank, Schema2, Ghosts, HasCleanDisk, IsNotBlank, HasTables, Held, IsEmpty, IsLive, Describes, IsDatabaseFault, IsTrue, IsUnchanged, IsSchema2Of, List, Numbered, IsSchema1Database, Schema1, AttachFails, IsUnchangedOrRolledBack, Run, StoresSchemaNumber, RepresentsInSchema1, State, StoreFault, Survives, Tables, AttachSucceeds, Trees, InitialDatabase, [], arith, inl, inr, no_schema, pos, refl, state, survives_then, survives_weaker, ℤ, ⊤, ◌≡◌, ◌≢◌, ◌⊎◌}
+use Rattle.kt_store.proofs.Common.{Blank, Schema2, Ghosts, HasCleanDisk, IsNotBlank, HasTables, Held, HasNoTables, IsLive, Describes, IsDatabaseFault, IsTrue, IsUnchanged, IsSchema2Of, List, Numbered, IsSchema1Database, Schema1, AttachFails, IsUnchangedOrRolledBack, Run, StoresSchemaNumber, RepresentsInSchema1, State, StoreFault, Survives, IsSchema2Database, AttachSucceeds, Trees, InitialDatabase, [], arith, inl, inr, no_schema, pos, refl, state, survives_then, survives_weaker, ℤ, ⊤, ◌≡◌, ◌≢◌, ◌⊎◌}
 use Rattle.kt_store.proofs.StepLemmas.{rests_hold, rests_then, outlives, either_left, leaves_held}
 use Rattle.kt_store.proofs.MetaLemmas.{says_one, says_two, says_filled, empty_blank, still_holds, still_says}
 use Rattle.kt_store.proofs.AskLemmas.{tables_before}
@@ -62,7 +62,7 @@ module _ (old mid new : State) (first : Survives old mid (λ (db : Trees). ⊥))
 
   still_of : (was : InitialDatabase) → Describes was old → Describes was mid
   still_of Blank is = still_holds old mid earlier same (λ db. db.schema ≡ no_schema) is
-  still_of (Schema2 runs) is = still_holds old mid earlier same (λ db. Tables db runs) is
+  still_of (Schema2 runs) is = still_holds old mid earlier same (λ db. IsSchema2Database db runs) is
   still_of (Schema1 runs) is = still_holds old mid earlier same (λ db. IsSchema1Database db runs) is
   still_of (Numbered n) is = still_says old mid earlier same n is
 
@@ -99,20 +99,20 @@ module _ (old mid new : State) (first : Survives old mid (λ (db : Trees). ⊥))
       filled : (was : InitialDatabase) → IsNotBlank was → Describes was old → ¬ HasCleanDisk mid
       filled was has is clean = says_filled old mid earlier same (number_of was) (says_of was old has is) clean blank
 
-      none : (was : InitialDatabase) → IsNotBlank was → Describes was old → IsEmpty mid
+      none : (was : InitialDatabase) → IsNotBlank was → Describes was old → HasNoTables mid
       none was has is clean opened = absurd (filled was has is clean)
 
-      pub create_takes : (IsEmpty mid → AttachSucceeds Blank mid new) → (was : InitialDatabase) → Describes was old → AttachSucceeds was old new
+      pub create_takes : (HasNoTables mid → AttachSucceeds Blank mid new) → (was : InitialDatabase) → Describes was old → AttachSucceeds was old new
       create_takes t Blank is = takes_after Blank (t (still_of Blank is))
       create_takes t was is = not_taken (IsSchema2Of []) (filled was tt is) (t (none was tt is)).2 was
 
-      pub create_refuses : (fault : StoreFault) → (IsEmpty mid → AttachFails Blank mid new fault) → (was : InitialDatabase) → Describes was old → AttachFails was old new fault
+      pub create_refuses : (fault : StoreFault) → (HasNoTables mid → AttachFails Blank mid new fault) → (was : InitialDatabase) → Describes was old → AttachFails was old new fault
       create_refuses fault r Blank is = refuses_after fault Blank (r (still_of Blank is))
       create_refuses fault r was is = not_refused (IsSchema2Of []) (filled was tt is) (r (none was tt is)).1 fault was
 
     -- the check found tables, so they are accepted or migrated
     module _ (filled : mid.now.schema.tables ≢ []) where
-      empty_never : IsEmpty old → ¬ HasCleanDisk mid
+      empty_never : HasNoTables old → ¬ HasCleanDisk mid
       empty_never is clean = filled (empty_blank old mid earlier same is clean)
 
       pub take_takes : ((was : InitialDatabase) → IsNotBlank was → Describes was mid → AttachSucceeds was mid new) → (was : InitialDatabase) → Describes was old → AttachSucceeds was old new
@@ -153,10 +153,10 @@ module _ {S : Type 0} (g : Ghosts S) (old new : Held S) (law : (db : Trees) → 
   pub look_refuses : (fault : StoreFault) → (HasCleanDisk (state g new) → IsUnchangedOrRolledBack (state g old) (state g new)) → (was : InitialDatabase) → (HasCleanDisk (state g new) → HasFault was fault) → Describes was (state g old) → AttachFails was (state g old) (state g new) fault
   look_refuses fault left Blank due is = (rests_hold (λ db. db.schema ≡ no_schema) (state g old) (state g new) is was_clean left, weaker (IsSchema2Of []), due)
   look_refuses fault left (Schema2 runs) due is = (
-    rests_hold (λ db. Tables db runs) (state g old) (state g new) is was_clean left,
+    rests_hold (λ db. IsSchema2Database db runs) (state g old) (state g new) is was_clean left,
     nothing,
     due,
-    λ opened. outlives (state g old) (state g new) (IsSchema2Of runs) nothing (leaves_held g old law (λ db. Tables db runs) live is opened),
+    λ opened. outlives (state g old) (state g new) (IsSchema2Of runs) nothing (leaves_held g old law (λ db. IsSchema2Database db runs) live is opened),
   )
   look_refuses fault left (Schema1 runs) due is = (
     rests_hold (λ db. IsSchema1Database db runs) (state g old) (state g new) is was_clean left,
@@ -171,8 +171,8 @@ module _ {S : Type 0} (g : Ghosts S) (old new : Held S) (law : (db : Trees) → 
       → Describes was (state g old) → AttachSucceeds was (state g old) (state g new)
   look_takes same Blank has two tables is = absurd has
   look_takes same (Schema2 runs) has two tables is = (
-    still_holds (state g old) (state g new) was_clean same (λ db. Tables db runs) is,
-    λ clean trees may. outlives (state g old) (state g new) (IsSchema2Of runs) nothing (leaves_held g old law (λ db. Tables db runs) live is (same clean).0.was_open) clean trees may,
+    still_holds (state g old) (state g new) was_clean same (λ db. IsSchema2Database db runs) is,
+    λ clean trees may. outlives (state g old) (state g new) (IsSchema2Of runs) nothing (leaves_held g old law (λ db. IsSchema2Database db runs) live is (same clean).0.was_open) clean trees may,
     nothing,
   )
   look_takes same (Schema1 runs) has two tables is = (λ clean opened. absurd (one_is_not_two (two clean)), λ clean trees may. absurd (one_is_not_two (two clean)), weaker (IsSchema2Of runs))

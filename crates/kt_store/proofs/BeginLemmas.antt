@@ -1,5 +1,5 @@
 -- The effect of the INSERT of `begin`.
-use Rattle.kt_store.proofs.Common.{AreNumbered, Chosen, Command, Database, Does, Enforced, Ghosts, HasCleanDisk, Held, Insert, Int, IsDatabase, IsValidRun, IsSettledWithRuns, IsTrue, IsSchema2Of, Leaves, Less, List, StatementMayCommit, Mode, None, Ok, Option, Row, Run, Some, StandsFor, State, Tables, Tally, RunsStatement, Trees, Values, [], all-append, ap, append-nil, arith, insert_run_sql, drop, edit_of, entry_row, entry_rows, flat_map, fold, id_in, inl, inr, ints, last_id, length, length-append, map, map-append, new_run, next_rowid, pair_rows, pos, prop_rows, put_all, put_row, refl, rowid, run_row, runs_table, schema_2, state, subst, suc, sym, taken_by, unwrap_or, value_cmp, value_rows, works, ℕ, ℤ, ◌++◌, ◌+ℤ◌, ◌+◌, ◌<◌, ◌∙◌, ◌∷◌, ◌≡◌}
+use Rattle.kt_store.proofs.Common.{AreNumbered, Chosen, Command, Database, Does, Enforced, Ghosts, HasCleanDisk, Held, Insert, Int, IsDatabase, IsValidRun, IsSettledWithRuns, IsTrue, IsSchema2Of, Leaves, Less, List, StatementMayCommit, Mode, None, Ok, Option, Row, Run, Some, StandsFor, State, IsSchema2Database, Tally, RunsStatement, Trees, Values, [], all-append, ap, append-nil, arith, insert_run_sql, drop, edit_of, entry_row, entry_rows, flat_map, fold, id_in, inl, inr, ints, last_id, length, length-append, map, map-append, new_run, next_rowid, pair_rows, pos, prop_rows, put_all, put_row, refl, rowid, run_row, runs_table, schema_2, state, subst, suc, sym, taken_by, unwrap_or, value_cmp, value_rows, works, ℕ, ℤ, ◌++◌, ◌+ℤ◌, ◌+◌, ◌<◌, ◌∙◌, ◌∷◌, ◌≡◌}
 use Rattle.std.specs.List.Sorted.{IsPermutation}
 use Rattle.std.proofs.lemmas.Grind.{flat_map-append}
 use Rattle.kt_store.proofs.SqlFacts.{begin_is, begin_terms}
@@ -29,7 +29,7 @@ begin_params total started = Int (pos started) ∷ Int (pos total) ∷ []
 abbrev pub begin_rows : ℕ → ℕ → List Row
 begin_rows total started = value_rows (begin_params total started) 5 1 begin_terms
 
-module _ (runs : List Run) (total started : ℕ) (db after : Database) (tally : Tally) (has : Tables db runs) (room : length runs < 1000000) (small : total < 4294967296)
+module _ (runs : List Run) (total started : ℕ) (db after : Database) (tally : Tally) (has : IsSchema2Database db runs) (room : length runs < 1000000) (small : total < 4294967296)
     (changed : Changed schema_2 runs_table (begin_rows total started) db after tally) where
   next : next_rowid (db.trees 2) ≡ pos (suc (length runs))
   next = ap next_rowid has.runs_are ∙ next_is 1 runs has.valid.numbered ∙ ap pos (omega arith)
@@ -40,7 +40,7 @@ module _ (runs : List Run) (total started : ℕ) (db after : Database) (tally : 
   pub last_begun : tally.last ≡ Some (pos (suc (length runs)))
   last_begun = changed.last_is ∙ ap last_id news_are
 
-  pub begun : Tables after (runs ++ new_run runs total started ∷ [])
+  pub begun : IsSchema2Database after (runs ++ new_run runs total started ∷ [])
   begun =
       let new = new_run runs total started in
       record {
@@ -79,8 +79,8 @@ module _ {S : Type 0} (g : Ghosts S) (old new : Held S) (runs : List Run) (total
   abbrev IsLast : Tally → Type 0
   IsLast tally = tally.last ≡ Some (pos (suc (length runs)))
 
-  step : HasCleanDisk (state g new) → (limit : Option ℕ) (mode : Mode) (db after : Database) (text : List ℕ) (tally : Tally) → mode.keys ≡ Enforced → Tables db runs
-      → Does limit mode (begin_params total started) db text None begin_command (Ok (tally, after)) → Tables after (runs ++ new_run runs total started ∷ []) × IsLast tally
+  step : HasCleanDisk (state g new) → (limit : Option ℕ) (mode : Mode) (db after : Database) (text : List ℕ) (tally : Tally) → mode.keys ≡ Enforced → IsSchema2Database db runs
+      → Does limit mode (begin_params total started) db text None begin_command (Ok (tally, after)) → IsSchema2Database after (runs ++ new_run runs total started ∷ []) × IsLast tally
   step clean limit mode db after text tally enforced has does =
       let did = begin_changed limit mode total started db after text tally enforced has.schema does in
       (begun runs total started db after tally has (room (earlier clean)) small did, last_begun runs total started db after tally has (room (earlier clean)) small did)

@@ -1,5 +1,5 @@
 -- The effect of finishing a run on the tables.
-use Rattle.kt_store.proofs.Common.{AllByRecursion, Applies, AreValidRuns, Database, Does, Enforced, Entry, Ghosts, Given, HasCleanDisk, Held, Incomplete, Int, IsAscending, IsComplete, IsDatabase, IsPermutation, IsValidRun, IsSettledWithRuns, IsTrue, IsSchema2Of, List, StatementMayCommit, Mode, None, Ok, Option, Run, RunClosed, Some, StandsFor, Tables, Tally, RunsStatement, Trees, Update, [], all_from, all_weaker, ap, arith, finished_run_row, drop, edit_of, entries_of, entry_row, entry_rows, false, finish, finish_refusal, finish_refusal_of, finish_run_sql, flat_map, ids_of, length, map, nat_lt, nat_tests, pair_rows, pos, prop_rows, refl, run_at, runs_table, schema_2, state, subst, suc, sym, true, zero, ℕ, ◌++◌, ◌+◌, ◌<◌, ◌∙◌, ◌∷◌, ◌≡◌, ◌≤◌}
+use Rattle.kt_store.proofs.Common.{AllByRecursion, Applies, AreValidRuns, Database, Does, Enforced, Entry, Ghosts, Given, HasCleanDisk, Held, Incomplete, Int, IsAscending, IsComplete, IsDatabase, IsPermutation, IsValidRun, IsSettledWithRuns, IsTrue, IsSchema2Of, List, StatementMayCommit, Mode, None, Ok, Option, Run, RunClosed, Some, StandsFor, IsSchema2Database, Tally, RunsStatement, Trees, Update, [], all_from, all_weaker, ap, arith, finished_run_row, drop, edit_of, entries_of, entry_row, entry_rows, false, finish, finish_refusal, finish_refusal_of, finish_run_sql, flat_map, ids_of, length, map, nat_lt, nat_tests, pair_rows, pos, prop_rows, refl, run_at, runs_table, schema_2, state, subst, suc, sym, true, zero, ℕ, ◌++◌, ◌+◌, ◌<◌, ◌∙◌, ◌∷◌, ◌≡◌, ◌≤◌}
 use Rattle.std.specs.List.{slice_index_or}
 use Rattle.kt_store.proofs.RunsByNumber.{finish_each, finish_unseen, run_of}
 use Rattle.kt_store.proofs.SqlFacts.{finish_is}
@@ -11,8 +11,8 @@ whole_run : (r : Run) → IsValidRun r → length r.entries ≡ r.total → IsVa
 whole_run r is whole = record { small = is.small; ordered = is.ordered; below = is.below; sound = is.sound; whole = λ done. whole }
 
 -- the tables after the UPDATE of `finish` represent the runs with one run finished
-pub finish_in : (runs : List Run) (k : ℕ) (r : Run) → run_at runs (suc k) ≡ Some r → length r.entries ≡ r.total → (db after : Database) → Tables db runs → after.schema ≡ schema_2
-    → Applies schema_2 Enforced db.trees (edit_of db.trees runs_table (ids_of (finished_run_row r ∷ [])) Given 1 (finished_run_row r ∷ [])) after.trees → Tables after (finish (suc k) runs)
+pub finish_in : (runs : List Run) (k : ℕ) (r : Run) → run_at runs (suc k) ≡ Some r → length r.entries ≡ r.total → (db after : Database) → IsSchema2Database db runs → after.schema ≡ schema_2
+    → Applies schema_2 Enforced db.trees (edit_of db.trees runs_table (ids_of (finished_run_row r ∷ [])) Given 1 (finished_run_row r ∷ [])) after.trees → IsSchema2Database after (finish (suc k) runs)
 finish_in runs k r there whole db after has schema_is applies =
     record {
       schema = schema_is;
@@ -30,8 +30,8 @@ finish_in runs k r there whole db after has schema_is applies =
     }
 
 pub finish_step : (runs : List Run) (k : ℕ) (r : Run) → run_at runs (suc k) ≡ Some r → length r.entries ≡ r.total
-    → (limit : Option ℕ) (mode : Mode) (db after : Database) (text : List ℕ) (tally : Tally) → mode.keys ≡ Enforced → Tables db runs
-    → Does limit mode (Int (pos (suc k)) ∷ []) db text None (Update 1 finish_program) (Ok (tally, after)) → Tables after (finish (suc k) runs)
+    → (limit : Option ℕ) (mode : Mode) (db after : Database) (text : List ℕ) (tally : Tally) → mode.keys ≡ Enforced → IsSchema2Database db runs
+    → Does limit mode (Int (pos (suc k)) ∷ []) db text None (Update 1 finish_program) (Ok (tally, after)) → IsSchema2Database after (finish (suc k) runs)
 finish_step runs k r there whole limit mode db after text tally enforced has does =
     let did = finish_writes limit mode (suc k) db after text tally runs r enforced has there does in
     finish_in runs k r there whole db after has did.0 did.1

@@ -1,5 +1,5 @@
 -- The statements of a transaction, executed in order, and the state after their commit.
-use Rattle.kt_store.proofs.Common.{Commits, CommitsNothingYet, Database, Error, ExecutesInside, Fails, FailsToCommit, Ghosts, HasCleanDisk, Held, IsSettledWhileOpen, IsDatabase, IsRolledBack, IsSettled, IsTrue, IsSchema2Of, KeepsCommit, Leaves, List, MayCommit, Result, Row, Run, ExecutesInOrder, ExecutesOne, StandsFor, State, Statement, Survives, Tables, Trees, RollsBack, Variable, [], ap, arith, begun, both_ways, cases_Bool, drop, drop-cons, drop_more, false, get_or, inl, inr, inside_keeps, keeps_then, length, map, pair_statement, pair_statements, plain_statements, refl, state, subst, suc, survives_begin, survives_then, survives_weaker, sym, ℕ, ◌+◌, ◌<◌, ◌∙◌, ◌∷◌, ◌≡◌}
+use Rattle.kt_store.proofs.Common.{Commits, CommitsNothingYet, Database, Error, ExecutesInside, Fails, FailsToCommit, Ghosts, HasCleanDisk, Held, IsSettledWhileOpen, IsDatabase, IsRolledBack, IsSettled, IsTrue, IsSchema2Of, KeepsCommit, Leaves, List, MayCommit, Result, Row, Run, ExecutesInOrder, ExecutesOne, StandsFor, State, Statement, Survives, IsSchema2Database, Trees, RollsBack, Variable, [], ap, arith, begun, both_ways, cases_Bool, drop, drop-cons, drop_more, false, get_or, inl, inr, inside_keeps, keeps_then, length, map, pair_statement, pair_statements, plain_statements, refl, state, subst, suc, survives_begin, survives_then, survives_weaker, sym, ℕ, ◌+◌, ◌<◌, ◌∙◌, ◌∷◌, ◌≡◌}
 use Rattle.kt_store.proofs.StepLemmas.{undone_settled}
 
 module _ {S : Type 0} (g : Ghosts S) where
@@ -80,7 +80,7 @@ undone_holds g P old new has earlier left clean opened = elim (left clean) [
 
 -- a commit of statements that lead to the tables of the runs `more`
 module _ {S : Type 0} (g : Ghosts S) (statements : List Statement) (old new : Held S) (more : List Run) (survives : Survives (state g old) (state g new) (MayCommit g statements old))
-    (made : HasCleanDisk (state g old) → (left : Held S) → ExecutesInOrder g statements (begun old) left → Tables (state g left).now more × IsDatabase (state g left).now) where
+    (made : HasCleanDisk (state g old) → (left : Held S) → ExecutesInOrder g statements (begun old) left → IsSchema2Database (state g left).now more × IsDatabase (state g left).now) where
   early : HasCleanDisk (state g new) → HasCleanDisk (state g old)
   early clean = omega (arith, clean, survives.clean)
 
@@ -88,7 +88,7 @@ module _ {S : Type 0} (g : Ghosts S) (statements : List Statement) (old new : He
   pub commit_stands : (HasCleanDisk (state g new) → Commits g statements old new) → StandsFor (state g new) more
   commit_stands done clean opened =
       let it = done clean in
-      record { autocommit = it.2.mode; settled = it.2.committed_is ∙ sym it.2.now_is; tables = subst (λ (db : Database). Tables db more) (sym it.2.now_is) (made (early clean) it.0 it.1).0 }
+      record { autocommit = it.2.mode; settled = it.2.committed_is ∙ sym it.2.now_is; tables = subst (λ (db : Database). IsSchema2Database db more) (sym it.2.now_is) (made (early clean) it.0 it.1).0 }
 
   -- after the commit, a crash leaves `more`
   pub commit_lasts : ((db : Trees) → IsTrue (state g new).is_open → (state g new).may_leave db → db ≡ (state g new).committed.trees) → (HasCleanDisk (state g new) → Commits g statements old new) → Leaves (state g new) (IsSchema2Of more)

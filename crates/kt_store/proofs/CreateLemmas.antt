@@ -1,5 +1,5 @@
 -- The effect of the statements that create the tables.
-use Rattle.kt_store.proofs.Common.{Chosen, CreateTable, Database, Enforced, Executes, Ghosts, Held, Insert, Int, IsDatabase, IsPermutation, IsPermutation-refl, IsPlain, IsTrue, List, None, Ok, Row, ExecutesInOrder, Schema, State, Table, Tables, Tally, Text, Trees, Values, Writes, [], ap, arith, begun, codes, command_of, create_entries_sql, create_meta_sql, create_props_sql, create_runs_sql, drop, edit_of, entries, everything, false, lacks_sequence, creation_statements, map, insert_schema_sql, meta, meta_table, mode_of, no_schema, pos, props, refl, runs, runs_as, schema_1, schema_2, state, statement_of, subst, sym, taken_by, understood, value_rows, works, ℕ, ◌∙◌, ◌∷◌, ◌≡◌}
+use Rattle.kt_store.proofs.Common.{Chosen, CreateTable, Database, Enforced, Executes, Ghosts, Held, Insert, Int, IsDatabase, IsPermutation, IsPermutation-refl, IsPlain, IsTrue, List, None, Ok, Row, ExecutesInOrder, Schema, State, Table, IsSchema2Database, Tally, Text, Trees, Values, Writes, [], ap, arith, begun, codes, command_of, create_entries_sql, create_meta_sql, create_props_sql, create_runs_sql, drop, edit_of, entries, everything, false, lacks_sequence, creation_statements, map, insert_schema_sql, meta, meta_table, mode_of, no_schema, pos, props, refl, runs, runs_as, schema_1, schema_2, state, statement_of, subst, sym, taken_by, understood, value_rows, works, ℕ, ◌∙◌, ◌∷◌, ◌≡◌}
 use Rattle.sqlite.specs.Compile.{table_defined_by}
 use Rattle.sqlite.specs.Change.{created, next_tree, KeepsRows}
 use Rattle.kt_store.proofs.SqlFacts.{mark_is, mark_terms}
@@ -61,7 +61,7 @@ mark_works params trees = refl
 
 -- the five statements that create the tables, executed in order, lead to tables without runs
 pub made_all : (a b c m d e : State) (i j k o l : ℕ) → a.now.schema ≡ no_schema → Executes create_meta_sql [] a b (Ok i) → Executes create_runs_sql [] b c (Ok j) → Executes create_entries_sql [] c m (Ok k) → Executes create_props_sql [] m d (Ok o) → Executes insert_schema_sql [] d e (Ok l)
-    → Tables e.now [] × IsDatabase e.now
+    → IsSchema2Database e.now [] × IsDatabase e.now
 made_all a b c m d e i j k o l has one two three fourth four =
     let first = makes no_schema create_meta_sql meta meta_create a b i has one in
     let second = makes schema_a create_runs_sql runs runs_create b c j first.schema_is two in
@@ -86,11 +86,11 @@ made_all a b c m d e i j k o l has one two three fourth four =
 
 -- the five statements that create the tables, executed in a transaction, lead to tables without
 -- runs
-pub made_in : {S : Type 0} (g : Ghosts S) (old left : Held S) → (IsTrue (state g old).is_open → (state g old).now.schema ≡ no_schema) → ExecutesInOrder g creation_statements (begun old) left → Tables (state g left).now [] × IsDatabase (state g left).now
+pub made_in : {S : Type 0} (g : Ghosts S) (old left : Held S) → (IsTrue (state g old).is_open → (state g old).now.schema ≡ no_schema) → ExecutesInOrder g creation_statements (begun old) left → IsSchema2Database (state g left).now [] × IsDatabase (state g left).now
 made_in g old left has ran =
     let two = ran.2 in
     let three = two.2 in
     let four = three.2 in
     let five = four.2 in
-    subst (λ h. Tables (state g h).now [] × IsDatabase (state g h).now) (sym five.2)
+    subst (λ h. IsSchema2Database (state g h).now [] × IsDatabase (state g h).now) (sym five.2)
     (made_all (state g (begun old)) (state g ran.0) (state g two.0) (state g three.0) (state g four.0) (state g five.0) ran.1.0 two.1.0 three.1.0 four.1.0 five.1.0 (has ran.1.1.1.was_open) ran.1.1.0 two.1.1.0 three.1.1.0 four.1.1.0 five.1.1.0)

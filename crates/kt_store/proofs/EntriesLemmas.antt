@@ -1,5 +1,5 @@
 -- The results of the queries of entries by position.
-use Rattle.kt_store.proofs.Common.{AllByRecursion, AreValidRuns, Binary, Bool, Entry, Ghosts, Held, Int, IsAscending, IsValidEntry, IsPermutation, IsValidRun, IsSettledWithRuns, IsSureAnswer, Less, List, None, Option, Output, Query, Row, Run, Shown, QueriesRuns, Some, State, Term, [], ap, ap₂, arith, ascending, ascending-filter, ascending-map, ascending_weaker, binary, col, cond, drop, entries_of, select_entries_sql, entry_row, entry_rows, false, filter, from_truth, has_position, holds, is_true, length, length-map, list_all, map, map-map, nat_lt, nat_tests, output, output_cmp, overlay, pos, reads_as, refl, run_at, schema_2, state, subst, select_entry_sql, true, whole_columns, ℕ, ◌&&◌, ◌<◌, ◌==◌, ◌||◌, ◌∙◌, ◌∷◌, ◌≡◌}
+use Rattle.kt_store.proofs.Common.{AllByRecursion, AreValidRuns, Binary, Bool, Entry, Ghosts, Held, Int, IsAscending, IsValidEntry, IsPermutation, IsValidRun, IsSettledWithRuns, IsSureAnswer, Less, List, None, Option, Output, Query, Row, Run, Shown, QueriesRuns, Some, State, Term, [], ap, ap₂, arith, ascending, ascending-filter, ascending-map, ascending_weaker, binary, col, cond, drop, entries_of, select_entries_sql, entry_row, entry_rows, false, filter, from_truth, has_position, holds, is_true, length, length-map, list_all, map, map-map, nat_lt, nat_tests, output, output_cmp, overlay, pos, reads_as, refl, run_at, schema_2, state, subst, select_entry_sql, true, full_entry_columns, ℕ, ◌&&◌, ◌<◌, ◌==◌, ◌||◌, ◌∙◌, ◌∷◌, ◌≡◌}
 use Rattle.kt_store.proofs.QueryLemmas.{selects, answered_sorted}
 use Rattle.kt_store.proofs.EntryLemmas.{back, of_stored, of_run, tests, each, all_pass, and_true, truth}
 use Rattle.kt_store.proofs.Values.{below, same_test}
@@ -74,11 +74,11 @@ same_rows : (n : ℕ) (r : Row) → Same tests entries_query.project (entries_pa
 same_rows n [] = (refl, refl)
 same_rows n (x ∷ r) = (refl, refl)
 
-pub tells_entries : (old new : State) (runs : List Run) (n : ℕ) (rows : List Row) → IsSettledWithRuns old runs → Shown select_entries_sql (entries_params n) old new rows → rows ≡ map whole_columns (entries_of (run_at runs n))
+pub tells_entries : (old new : State) (runs : List Run) (n : ℕ) (rows : List Row) → IsSettledWithRuns old runs → Shown select_entries_sql (entries_params n) old new rows → rows ≡ map full_entry_columns (entries_of (run_at runs n))
 tells_entries old new runs n rows has h =
     let reads = reads_as select_entries_sql (entries_params n) old new schema_2 has.tables.schema _ entries_select_is.0 entries_select_is.2 entries_select_is.1 rows h in
     tells_kept tests entries_query.project (entries_params n) (same_rows n) n (λ (e : Entry). true) (each n) old runs rows has (up_of runs n has.tables.valid) reads.answer
-    ∙ ap (map whole_columns) (all_pass (entries_of (run_at runs n)))
+    ∙ ap (map full_entry_columns) (all_pass (entries_of (run_at runs n)))
 
 -- ---- whether a run has an entry at a position, by its query
 

@@ -1,5 +1,5 @@
 -- The effect of the statements that insert an entry and its properties.
-use Rattle.kt_store.proofs.Common.{AllByRecursion, Applies, AreValidRuns, CanAdd, Chosen, Database, Enforced, Entry, Executes, Ghosts, HasCleanDisk, HasEncodableTexts, Held, Insert, Int, IsDatabase, IsEncodableProperty, IsPermutation, IsPermutation-cons, IsPermutation-map, IsPermutation-middle, IsPermutation-sym, IsPermutation-trans, IsTrue, List, None, Ok, Row, Run, ExecutesInOrder, StandsFor, State, Statement, Tables, Text, Values, Variable, Writes, [], and_parts, ap, are_fresh, arith, begun, cast_row, codes, drop, edit_of, entries_table, entry_row, entry_rows, entry_statements, false, is_taken, kind_code, length, map, mode_of, next_rowid, not, not-true, numbered, pair_row, pair_rows, pair_rows_from, pair_statements, insert_prop_sql, pos, prop_rows, props_table, put_all, put_row, insert_entry_sql, refl, run_row, runs_as, schema_2, state, statement_of, subst, suc, sym, true, understood, value_rows, with_entry, ℕ, ◌++◌, ◌+◌, ◌∙◌, ◌∷◌, ◌≡◌}
+use Rattle.kt_store.proofs.Common.{AllByRecursion, Applies, AreValidRuns, IsValidWithEntry, Chosen, Database, Enforced, Entry, Executes, Ghosts, HasCleanDisk, HasEncodableTexts, Held, Insert, Int, IsDatabase, IsEncodableProperty, IsPermutation, IsPermutation-cons, IsPermutation-map, IsPermutation-middle, IsPermutation-sym, IsPermutation-trans, IsTrue, List, None, Ok, Row, Run, ExecutesInOrder, StandsFor, State, Statement, IsSchema2Database, Text, Values, Variable, Writes, [], and_parts, ap, are_fresh, arith, begun, cast_row, codes, drop, edit_of, entries_table, entry_row, entry_rows, entry_statements, false, is_taken, kind_code, length, map, mode_of, next_rowid, not, not-true, numbered, pair_row, pair_rows, pair_rows_from, pair_statements, insert_prop_sql, pos, prop_rows, props_table, put_all, put_row, insert_entry_sql, refl, run_row, runs_as, schema_2, state, statement_of, subst, suc, sym, true, understood, value_rows, with_entry, ℕ, ◌++◌, ◌+◌, ◌∙◌, ◌∷◌, ◌≡◌}
 use Rattle.kt_store.proofs.SqlFacts.{put_is, put_terms, pair_is, pair_terms}
 use Rattle.kt_store.proofs.InsertLemmas.{changed}
 use Rattle.kt_store.proofs.RunsByNumber.{entry_unseen}
@@ -102,11 +102,11 @@ module _ {S : Type 0} (g : Ghosts S) (n p : ℕ) where
 
 -- the tables of runs meet `HasRows`; with the rows of a new entry they are the tables of the runs
 -- with this entry
-pub rows_of : (runs : List Run) (db : Database) → Tables db runs → HasRows runs (entry_rows runs) (prop_rows runs) db
+pub rows_of : (runs : List Run) (db : Database) → IsSchema2Database db runs → HasRows runs (entry_rows runs) (prop_rows runs) db
 rows_of runs db has = record { schema = has.schema; marked = has.marked; runs_are = has.runs_are; entries_are = has.entries_are; props_are = has.props_are }
 
-pub tables_of : (runs : List Run) (run : ℕ) (e : Entry) → CanAdd run e runs → HasEncodableTexts e → AreValidRuns runs → (db : Database)
-    → HasRows runs (entry_row run e ∷ entry_rows runs) (pair_rows run e ++ prop_rows runs) db → Tables db (with_entry run e runs)
+pub tables_of : (runs : List Run) (run : ℕ) (e : Entry) → IsValidWithEntry run e runs → HasEncodableTexts e → AreValidRuns runs → (db : Database)
+    → HasRows runs (entry_row run e ∷ entry_rows runs) (pair_rows run e ++ prop_rows runs) db → IsSchema2Database db (with_entry run e runs)
 tables_of runs run e fits texts were db has =
     let number : 1 + fits.0 ≡ run = omega (arith, fits.1) in
     let rows : IsPermutation (entry_row run e ∷ entry_rows runs) (entry_rows (with_entry run e runs)) =
@@ -128,16 +128,16 @@ module _ {S : Type 0} (g : Ghosts S) where
   spelled n e old new ran = (ran.1.2.0, ran.1.2.1.0, ran.1.2.1.1.0, pairs_spelled g n e.position 0 e.meta ran.0 new ran.2)
 
   -- the tables after the insertion of an entry and its properties represent the runs with the entry
-  filled : (runs : List Run) (e : Entry) (run : ℕ) → CanAdd run e runs → (old new : Held S) → Tables (state g old).now runs → ExecutesInOrder g (entry_statements run e) old new
-      → Tables (state g new).now (with_entry run e runs) × IsDatabase (state g new).now
+  filled : (runs : List Run) (e : Entry) (run : ℕ) → IsValidWithEntry run e runs → (old new : Held S) → IsSchema2Database (state g old).now runs → ExecutesInOrder g (entry_statements run e) old new
+      → IsSchema2Database (state g new).now (with_entry run e runs) × IsDatabase (state g new).now
   filled runs e run fits old new has ran =
       let one = put_inside runs (entry_rows runs) (prop_rows runs) (state g old) (state g ran.0) ran.1.0 (rows_of runs (state g old).now has) run e ran.1.1.0 in
       let all = pairs_inside g runs (entry_row run e ∷ entry_rows runs) run e.position 0 e.meta (prop_rows runs) ran.0 new one.0 one.1 ran.2 in
       (tables_of runs run e fits (spelled run e old new ran) has.valid (state g new).now all.0, all.1)
 
   -- the tables after the insertion in a new transaction represent the runs with the entry
-  pub entry_made : (runs : List Run) (e : Entry) (run : ℕ) (old : Held S) → StandsFor (state g old) runs → (HasCleanDisk (state g old) → CanAdd run e runs) → HasCleanDisk (state g old) → (left : Held S)
-      → ExecutesInOrder g (entry_statements run e) (begun old) left → Tables (state g left).now (with_entry run e runs) × IsDatabase (state g left).now
+  pub entry_made : (runs : List Run) (e : Entry) (run : ℕ) (old : Held S) → StandsFor (state g old) runs → (HasCleanDisk (state g old) → IsValidWithEntry run e runs) → HasCleanDisk (state g old) → (left : Held S)
+      → ExecutesInOrder g (entry_statements run e) (begun old) left → IsSchema2Database (state g left).now (with_entry run e runs) × IsDatabase (state g left).now
   entry_made runs e run old has fits clean left ran = filled runs e run (fits clean) (begun old) left (has clean ran.1.1.1.was_open).tables ran
 
   -- statements executed inside a transaction leave it open

@@ -1,5 +1,5 @@
 -- The effect of the UPDATE of `finish`.
-use Rattle.kt_store.proofs.Common.{Answers, Applies, AreNumbered, AtPlace, Bool, Database, Does, Enforced, Given, Int, IsPermutation, Less, List, Mode, None, Null, Ok, OnRows, Option, Program, Row, Run, Some, Tables, Tally, Task, Trees, Update, Updates, Written, [], ap, arith, col, finished_run_row, edit_of, false, filter, filter_all, finish, ids_of, is_eq, lit, map, nat_tests, not, one_permutation, one_step, option_to_list, pos, put_all, put_row, refl, rowid, run_at, run_row, runs_table, schema_2, slice_get, subst, suc, sym, taken_by, true, value_cmp, without_rowid, works, zero, ℕ, ◌+◌, ◌<◌, ◌==◌, ◌∙◌, ◌∷◌, ◌≡◌}
+use Rattle.kt_store.proofs.Common.{Answers, Applies, AreNumbered, AtPlace, Bool, Database, Does, Enforced, Given, Int, IsPermutation, Less, List, Mode, None, Null, Ok, OnRows, Option, Program, Row, Run, Some, IsSchema2Database, Tally, Task, Trees, Update, Updates, Written, [], ap, arith, col, finished_run_row, edit_of, false, filter, filter_all, finish, ids_of, is_eq, lit, map, nat_tests, not, one_permutation, one_step, option_to_list, pos, put_all, put_row, refl, rowid, run_at, run_row, runs_table, schema_2, slice_get, subst, suc, sym, taken_by, true, value_cmp, without_rowid, works, zero, ℕ, ◌+◌, ◌<◌, ◌==◌, ◌∙◌, ◌∷◌, ◌≡◌}
 use Rattle.sqlite_rules.specs.Action.{Writes}
 use Rattle.kt_store.proofs.SqlFacts.{finish_query, is}
 use Rattle.kt_store.proofs.InsertLemmas.{concluded}
@@ -23,7 +23,7 @@ pub finish_works : (r : Run) (trees : Trees) → let edit = edit_of trees runs_t
 finish_works r trees = refl
 
 -- the UPDATE of `finish` writes the row of one run as finished
-pub finish_writes : (limit : Option ℕ) (mode : Mode) (n : ℕ) (db after : Database) (text : List ℕ) (tally : Tally) (runs : List Run) (r : Run) → mode.keys ≡ Enforced → Tables db runs → run_at runs n ≡ Some r
+pub finish_writes : (limit : Option ℕ) (mode : Mode) (n : ℕ) (db after : Database) (text : List ℕ) (tally : Tally) (runs : List Run) (r : Run) → mode.keys ≡ Enforced → IsSchema2Database db runs → run_at runs n ≡ Some r
     → Does limit mode (Int (pos n) ∷ []) db text None (Update 1 finish_program) (Ok (tally, after))
     → (after.schema ≡ schema_2) × Applies schema_2 Enforced db.trees (edit_of db.trees runs_table (ids_of (finished_run_row r ∷ [])) Given 1 (finished_run_row r ∷ [])) after.trees
 finish_writes limit mode n db after text tally runs r enforced has there does =

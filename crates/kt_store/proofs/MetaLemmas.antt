@@ -1,5 +1,5 @@
 -- The result of the query for the schema number.
-use Rattle.kt_store.proofs.Common.{RunsQuery, ReadsSchemaNumber, Bool, Database, Ghosts, HasCleanDisk, Held, IsSettledWhileOpen, Int, IsEmpty, IsPermutation, IsTrue, IsUnchanged, List, QueryMayCommit, None, IsUnchangedOrRolledBack, Row, Run, ListsSchemaNumber, StoresSchemaNumber, Schema, Shown, Some, StandsFor, RepresentsInSchema1, State, Survives, Term, Text, Value, [], ap, arith, schema_with_meta, binary, codes, col, column, drop, entries_table, filter, holds, index_of, inl, list_all, lit, map, meta_table, select_schema_sql, one_permutation, pos, props_table, reads_as, refl, runs_table, slice_get, state, subst, sym, true, understood, value_cmp, ℤ, ◌∙◌, ◌∷◌, ◌≡◌, ◌≢◌}
+use Rattle.kt_store.proofs.Common.{RunsQuery, ReadsSchemaNumber, Bool, Database, Ghosts, HasCleanDisk, Held, IsSettledWhileOpen, Int, HasNoTables, IsPermutation, IsTrue, IsUnchanged, List, QueryMayCommit, None, IsUnchangedOrRolledBack, Row, Run, ListsSchemaNumber, StoresSchemaNumber, Schema, Shown, Some, StandsFor, RepresentsInSchema1, State, Survives, Term, Text, Value, [], ap, arith, schema_with_meta, binary, codes, col, column, drop, entries_table, filter, holds, index_of, inl, list_all, lit, map, meta_table, select_schema_sql, one_permutation, pos, props_table, reads_as, refl, runs_table, slice_get, state, subst, sym, true, understood, value_cmp, ℤ, ◌∙◌, ◌∷◌, ◌≡◌, ◌≢◌}
 use Rattle.sqlite.specs.Given.{IsPlain}
 use Rattle.kt_store.proofs.AskLemmas.{asked_unchanged, asked_leaves}
 use Rattle.kt_store.proofs.StepLemmas.{same_settled}
@@ -124,7 +124,7 @@ module _ (old mid : State) (earlier : HasCleanDisk mid → HasCleanDisk old) (sa
       let e : meta_table ∷ has.others ≡ [] = sym (ap (λ (db : Database). db.schema.tables) it.0.now_is ∙ ap (λ (s : Schema). s.tables) has.schema) ∙ none in
       cc
 
-  pub empty_blank : IsEmpty old → HasCleanDisk mid → mid.now.schema.tables ≡ []
+  pub empty_blank : HasNoTables old → HasCleanDisk mid → mid.now.schema.tables ≡ []
   empty_blank empty clean =
       let it = same clean in
       ap (λ (db : Database). db.schema.tables) it.0.now_is ∙ ap (λ (s : Schema). s.tables) (empty (earlier clean) it.0.was_open).tables

@@ -1,6 +1,6 @@
 -- The condition under which a run accepts an entry. Each call keeps runs numbered from 1, and their
 -- entries ordered by position.
-use Rattle.kt_store.proofs.Common.{Agrees, AllByRecursion, AreNumbered, AreOrdered, AreValidRuns, BadPosition, Began, Bool, CanAdd, Entry, Finished, IsAscending, HasNoReasonIfPassed, IsValidEntry, IsValidRun, List, None, Ok, Option, Put, RepeatedPosition, Run, RunClosed, Some, StoreCall, [], all-append, all-slice_get, all_weaker, ap, arith, cases_Bool, runs_after, cond, entries_of, false, finish, has_position, if◌then◌else◌, inl, inr, insert_by_position, length, nat_le, nat_lt, nat_tests, new_run, or_parts, put_refusal, put_refusal_of, refl, run_at, slice_get, slice_get_within, suc, sym, true, with_entry, zero, ℕ, ◌++◌, ◌+◌, ◌<◌, ◌==◌, ◌∙◌, ◌∷◌, ◌≡◌, ◌≤◌}
+use Rattle.kt_store.proofs.Common.{Agrees, AllByRecursion, AreNumbered, AreOrdered, AreValidRuns, BadPosition, Began, Bool, IsValidWithEntry, Entry, Finished, IsAscending, HasNoReasonIfPassed, IsValidEntry, IsValidRun, List, None, Ok, Option, Put, RepeatedPosition, Run, RunClosed, Some, StoreCall, [], all-append, all-slice_get, all_weaker, ap, arith, cases_Bool, runs_after, cond, entries_of, false, finish, has_position, if◌then◌else◌, inl, inr, insert_by_position, length, nat_le, nat_lt, nat_tests, new_run, or_parts, put_refusal, put_refusal_of, refl, run_at, slice_get, slice_get_within, suc, sym, true, with_entry, zero, ℕ, ◌++◌, ◌+◌, ◌<◌, ◌==◌, ◌∙◌, ◌∷◌, ◌≡◌, ◌≤◌}
 use Rattle.kt_store.proofs.RunsByNumber.{entry_each, run_of}
 
 abbrev pub lower : Entry → Entry → Type 0
@@ -53,12 +53,12 @@ module _ (runs : List Run) (run : ℕ) (e : Entry) (r : Run) (there : run_at run
           ap (λ o. put_refusal_of o e) there ∙ rw (unclosed, under, is) refl
 
       pub taken : HasNoReasonIfPassed e → AreValidRuns runs → has_position e.position (entries_of (run_at runs run)) ≡ false
-          → (put_refusal runs run e ≡ None) × CanAdd run e runs
+          → (put_refusal runs run e ≡ None) × IsValidWithEntry run e runs
       taken passed valid free =
           let is : has_position e.position r.entries ≡ false = ap (λ o. has_position e.position (entries_of o)) (sym there) ∙ free in
           (ap (λ o. put_refusal_of o e) there ∙ rw (unclosed, under, is) refl, fits run there valid is)
         where
-          fits : (run : ℕ) → run_at runs run ≡ Some r → AreValidRuns runs → has_position e.position r.entries ≡ false → CanAdd run e runs
+          fits : (run : ℕ) → run_at runs run ≡ Some r → AreValidRuns runs → has_position e.position r.entries ≡ false → IsValidWithEntry run e runs
           fits zero there valid is = absurd cc
           fits (suc k) there valid is = (
             k,

@@ -1,5 +1,5 @@
 -- The effect of the statements that migrate schema 1 to schema 2.
-use Rattle.kt_store.proofs.Common.{AllByRecursion, Applies, AtPlace, Bool, Database, Does, Enforced, Equal, Executes, Ghosts, Given, Greater, Held, Int, Integer, IsDatabase, IsPermutation, IsPermutation-refl, IsTrue, Less, List, Mode, None, Null, Ok, IsSchema1Database, OnRows, Option, Ordering, Program, Row, Run, ExecutesInOrder, State, Tables, Tally, Task, Term, Text, Trees, Unique, Update, Value, [], agree, and_parts, ap, are_fresh, arith, begun, binary, cast, clashes, codes, col, cond, create_props_sql, differ, drop, edit_of, entry_rows, false, filter, first_key, has_rowid, have_rowids, id_in, ids_of, int_is, ints, is_eq, is_int, is_null, lit, map, match_ordering, meta_table, mode_of, not, one_permutation, one_step, or_left, or_right, passes, plain, pos, prop_rows, props, put_all, migration_statements, update_schema_sql, refl, runs_as, schema_1, schema_2, slice_get, state, statement_of, subst, sym, taken_by, true, understood, value_cmp, value_cmp-Int, without_rowid, works, ℕ, ◌&&◌, ◌||◌, ◌∙◌, ◌∷◌, ◌≡◌}
+use Rattle.kt_store.proofs.Common.{AllByRecursion, Applies, AtPlace, Bool, Database, Does, Enforced, Equal, Executes, Ghosts, Given, Greater, Held, Int, Integer, IsDatabase, IsPermutation, IsPermutation-refl, IsTrue, Less, List, Mode, None, Null, Ok, IsSchema1Database, OnRows, Option, Ordering, Program, Row, Run, ExecutesInOrder, State, IsSchema2Database, Tally, Task, Term, Text, Trees, Unique, Update, Value, [], agree, and_parts, ap, are_fresh, arith, begun, binary, cast, clashes, codes, col, cond, create_props_sql, differ, drop, edit_of, entry_rows, false, filter, first_key, has_rowid, have_rowids, id_in, ids_of, int_is, ints, is_eq, is_int, is_null, lit, map, match_ordering, meta_table, mode_of, not, one_permutation, one_step, or_left, or_right, passes, plain, pos, prop_rows, props, put_all, migration_statements, update_schema_sql, refl, runs_as, schema_1, schema_2, slice_get, state, statement_of, subst, sym, taken_by, true, understood, value_cmp, value_cmp-Int, without_rowid, works, ℕ, ◌&&◌, ◌||◌, ◌∙◌, ◌∷◌, ◌≡◌}
 use Rattle.kt_store.proofs.Values.{cast_null, cast_int, went}
 use Rattle.sqlite_rules.specs.Action.{Writes}
 use Rattle.sqlite.specs.State as told
@@ -123,7 +123,7 @@ no_rows = []
 
 -- the two statements of the migration, executed in order, lead to tables of schema 2 with the same
 -- runs
-pub raised_all : (a b c : State) (i j : ℕ) (runs : List Run) → IsSchema1Database a.now runs → Executes create_props_sql [] a b (Ok i) → Executes update_schema_sql [] b c (Ok j) → Tables c.now runs × IsDatabase c.now
+pub raised_all : (a b c : State) (i j : ℕ) (runs : List Run) → IsSchema1Database a.now runs → Executes create_props_sql [] a b (Ok i) → Executes update_schema_sql [] b c (Ok j) → IsSchema2Database c.now runs × IsDatabase c.now
 raised_all a b c i j runs has one two =
     let first = makes schema_1 create_props_sql props props_create a b i has.schema one in
     let text = statement_of update_schema_sql (understood schema_2 update_schema_sql) in
@@ -146,8 +146,8 @@ raised_all a b c i j runs has one two =
 -- the two statements of the migration, executed in a transaction, lead to tables of schema 2 with
 -- the same runs
 pub raised_in : {S : Type 0} (g : Ghosts S) (old left : Held S) (runs : List Run) → (IsTrue (state g old).is_open → IsSchema1Database (state g old).now runs) → ExecutesInOrder g migration_statements (begun old) left
-    → Tables (state g left).now runs × IsDatabase (state g left).now
+    → IsSchema2Database (state g left).now runs × IsDatabase (state g left).now
 raised_in g old left runs has ran =
     let two = ran.2 in
-    subst (λ h. Tables (state g h).now runs × IsDatabase (state g h).now) (sym two.2)
+    subst (λ h. IsSchema2Database (state g h).now runs × IsDatabase (state g h).now) (sym two.2)
     (raised_all (state g (begun old)) (state g ran.0) (state g two.0) ran.1.0 two.1.0 runs (has ran.1.1.1.was_open) ran.1.1.0 two.1.1.0)

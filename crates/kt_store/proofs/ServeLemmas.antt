@@ -1,5 +1,5 @@
 -- The calls of a store over the tables of a database obey `Serves`, also for crashes.
-use Rattle.kt_store.proofs.Common.{Agrees, Began, Changes, Entry, Err, Finished, Ghosts, HasCleanDisk, Held, IfErr, IfOk, IsErrAnd, IsDatabaseFault, IsSchema2Of, IsSchema2OfOne, KeepsRuns, Leaves, List, OnlyReadsRuns, MayChange, Ok, OnErr, OnOk, SurvivesCrash, Put, Reads, Result, Run, Serves, StandsFor, State, StoreCall, StoreFault, Survives, Trees, [], arith, runs_after, finish, inl, inr, new_run, refl, results, state, subst, survives_then, survives_weaker, sym, with_entry, ℕ, ◌++◌, ◌∷◌, ◌≡◌}
+use Rattle.kt_store.proofs.Common.{Agrees, Began, Changes, Entry, Err, Finished, Ghosts, HasCleanDisk, Held, IfErr, IfOk, IsErrAnd, IsDatabaseFault, IsSchema2Of, IsSchema2OfOne, KeepsRuns, Leaves, List, OnlyReadsRuns, MayChange, Ok, OnErr, OnOk, SurvivesCrash, Put, Reads, Result, Run, Serves, StandsFor, State, StoreCall, StoreFault, Survives, Trees, [], arith, runs_after, finish, inl, inr, new_run, refl, results_spec, state, subst, survives_then, survives_weaker, sym, with_entry, ℕ, ◌++◌, ◌∷◌, ◌≡◌}
 use Rattle.kt_store.proofs.AskLemmas.{was_clean}
 use Rattle.kt_store.proofs.Numbered.{numbers_changed, ordered_changed}
 
@@ -46,7 +46,7 @@ survives_self s = record { clean = omega arith; shield = λ h. h; counts = omega
 -- with the runs before
 serves : {S : Type 0} (g : Ghosts S) (call : StoreCall) (old new : Held S) → ((runs : List Run) → StandsFor (state g old) runs → StandsFor (state g new) (runs_after call runs))
     → ((runs : List Run) → StandsFor (state g old) runs → HasCleanDisk (state g new) → HasCleanDisk (state g old)) → ((runs : List Run) → StandsFor (state g old) runs → HasCleanDisk (state g new) → Agrees runs call)
-    → ((runs : List Run) (may : List (List Run)) → StandsFor (state g old) runs → SurvivesCrash (λ s more. Leaves (state g s) (IsSchema2OfOne more)) call runs may old new) → Serves (results g) call old new
+    → ((runs : List Run) (may : List (List Run)) → StandsFor (state g old) runs → SurvivesCrash (λ s more. Leaves (state g s) (IsSchema2OfOne more)) call runs may old new) → Serves (results_spec g) call old new
 serves g call old new stands earlier agrees crash = record {
   asked = tt;
   stands = λ runs h. (stands runs h.0, numbers_changed call runs h.1, λ clean. ordered_changed call runs h.1 (h.2 (earlier runs h.0 clean)) (agrees runs h.0 clean));
@@ -58,27 +58,27 @@ serves g call old new stands earlier agrees crash = record {
 module _ {S : Type 0} (g : Ghosts S) where
   -- a call that returns the fault of one of its steps obeys `Serves` if the step's fault does
   pub failed_at : {T : Type 0} (call : Result T StoreFault → StoreCall) (inside now new : Held S) → inside ≡ now → (r : Result T StoreFault) (e : StoreFault) → IsErrAnd r (λ x. x ≡ e)
-      → Serves (results g) (call (Err e)) inside new → Serves (results g) (call r) now new
+      → Serves (results_spec g) (call (Err e)) inside new → Serves (results_spec g) (call r) now new
   failed_at call inside now new is (Ok x) e h s = absurd h
-  failed_at call inside now new is (Err fault) e h s = subst (λ o. Serves (results g) (call (Err fault)) o new) is (subst (λ f. Serves (results g) (call (Err f)) inside new) (sym h) s)
+  failed_at call inside now new is (Err fault) e h s = subst (λ o. Serves (results_spec g) (call (Err fault)) o new) is (subst (λ f. Serves (results_spec g) (call (Err f)) inside new) (sym h) s)
 
   -- a call that returns the fault of one of its steps obeys `Serves` if each fault with the
   -- property `P` does
   pub troubled_at : {T : Type 0} {P : StoreFault → Type 0} (call : Result T StoreFault → StoreCall) (inside now new : Held S) → inside ≡ now → (r : Result T StoreFault) → IsErrAnd r P
-      → ((e : StoreFault) → P e → Serves (results g) (call (Err e)) inside new) → Serves (results g) (call r) now new
+      → ((e : StoreFault) → P e → Serves (results_spec g) (call (Err e)) inside new) → Serves (results_spec g) (call r) now new
   troubled_at call inside now new is (Ok x) h each = absurd h
-  troubled_at call inside now new is (Err fault) h each = subst (λ o. Serves (results g) (call (Err fault)) o new) is (each fault h)
+  troubled_at call inside now new is (Err fault) h each = subst (λ o. Serves (results_spec g) (call (Err fault)) o new) is (each fault h)
 
-  pub seen_at : (call : StoreCall) (inside now new : Held S) → inside ≡ now → Serves (results g) call inside new → Serves (results g) call now new
-  seen_at call inside now new is s = subst (λ o. Serves (results g) call o new) is s
+  pub seen_at : (call : StoreCall) (inside now new : Held S) → inside ≡ now → Serves (results_spec g) call inside new → Serves (results_spec g) call now new
+  seen_at call inside now new is s = subst (λ o. Serves (results_spec g) call o new) is s
 
 -- a call that only reads obeys `Serves` if its result agrees with the runs
-pub reads_serve : {S : Type 0} (g : Ghosts S) (call : StoreCall) (old new : Held S) → Reads (results g) old new → ((runs : List Run) → runs_after call runs ≡ runs)
-    → ((runs : List Run) (may : List (List Run)) → ((results g).leaves old may → (results g).leaves new may) → SurvivesCrash (results g).leaves call runs may old new)
-    → ((runs : List Run) → (results g).stands old runs → HasCleanDisk (state g new) → Agrees runs call) → Serves (results g) call old new
+pub reads_serve : {S : Type 0} (g : Ghosts S) (call : StoreCall) (old new : Held S) → Reads (results_spec g) old new → ((runs : List Run) → runs_after call runs ≡ runs)
+    → ((runs : List Run) (may : List (List Run)) → ((results_spec g).leaves old may → (results_spec g).leaves new may) → SurvivesCrash (results_spec g).leaves call runs may old new)
+    → ((runs : List Run) → (results_spec g).stands old runs → HasCleanDisk (state g new) → Agrees runs call) → Serves (results_spec g) call old new
 reads_serve g call old new reads same lasts why = record {
   asked = tt;
-  stands = λ runs h. subst ((results g).stands new) (sym (same runs)) (reads.stands runs h);
+  stands = λ runs h. subst ((results_spec g).stands new) (sym (same runs)) (reads.stands runs h);
   earlier = reads.earlier;
   agrees = why;
   crash = λ runs may h. lasts runs may (reads.crash runs may h);
@@ -90,9 +90,9 @@ module _ {S : Type 0} (g : Ghosts S) (old new : Held S) (looked : OnlyReadsRuns 
   unwritten change runs may has left =
       survived (state g old) (state g new) change runs may (survives_weaker (state g old) (state g new) (λ _. ⊥) (IsSchema2Of change) (λ _ db none. absurd none) (looked.crash runs has)) left
 
-module _ {S : Type 0} (g : Ghosts S) {T : Type 0} (call : Result T StoreFault → StoreCall) (change : List Run → List Run) (is : IsWrite (results g).leaves call change) where
+module _ {S : Type 0} (g : Ghosts S) {T : Type 0} (call : Result T StoreFault → StoreCall) (change : List Run → List Run) (is : IsWrite (results_spec g).leaves call change) where
   -- a call that fails before it writes obeys `Serves`
-  pub write_refused : (old new : Held S) (looked : OnlyReadsRuns g old new) (e : StoreFault) → ((runs : List Run) → StandsFor (state g old) runs → HasCleanDisk (state g new) → Agrees runs (call (Err e))) → Serves (results g) (call (Err e)) old new
+  pub write_refused : (old new : Held S) (looked : OnlyReadsRuns g old new) (e : StoreFault) → ((runs : List Run) → StandsFor (state g old) runs → HasCleanDisk (state g new) → Agrees runs (call (Err e))) → Serves (results_spec g) (call (Err e)) old new
   write_refused old new looked e why =
       serves g (call (Err e)) old new (λ runs has. subst (StandsFor (state g new)) (sym (is.refused e runs)) (looked.stands runs has)) (was_clean looked) why
       (λ runs may has. is.survives e runs may old new (unwritten g old new looked (change runs) runs may has))
@@ -114,7 +114,7 @@ module _ {S : Type 0} (g : Ghosts S) {T : Type 0} (call : Result T StoreFault �
         (survives_then (state g old) (state g mid) (state g new) (λ _. ⊥) (IsSchema2Of (change runs)) (IsSchema2Of (change runs)) (λ _ db none. absurd none) (λ _ db it. it) (looked.crash runs has) (second runs has)) left
 
     pub write_called : (r : Result T StoreFault) → OnOk r (Changes g mid new Allowed change)
-        → ((runs : List Run) → StandsFor (state g old) runs → HasCleanDisk (state g mid) → HasCleanDisk (state g new) → IfOk r (λ x. Agrees runs (call (Ok x)))) → IfErr r IsDatabaseFault → OnErr r (KeepsRuns g mid new) → Serves (results g) (call r) old new
+        → ((runs : List Run) → StandsFor (state g old) runs → HasCleanDisk (state g mid) → HasCleanDisk (state g new) → IfOk r (λ x. Agrees runs (call (Ok x)))) → IfErr r IsDatabaseFault → OnErr r (KeepsRuns g mid new) → Serves (results_spec g) (call r) old new
     write_called (Ok x) changes agrees failed kept =
         serves g (call (Ok x)) old new (λ runs has. subst (StandsFor (state g new)) (sym (is.done x runs)) (changes.stands runs (looked.stands runs has) (allowed runs has))) old_clean
         (λ runs has clean. agrees runs has (mid_clean runs has clean) clean)

@@ -1,5 +1,5 @@
 -- The state of a connection after a statement, if its tables represented runs before.
-use Rattle.kt_store.proofs.Common.{Command, CommitsBy, Compiled, Database, Err, Error, FailsToQuery, FailsToShow, Ghosts, HasCleanDisk, Held, IsSettledWhileOpen, IsDatabase, IsLive, IsNotRun, IsPlain, IsRolledBack, IsSettled, IsSettledWithRuns, IsTrue, IsUnchanged, IsUndone, IsSchema2Of, IsAnySchemaOf, IsSchema1Of, Leaves, List, None, Option, IsUnchangedOrRolledBack, Row, Run, RunsCommand, Schema, Some, State, Survives, Tables, Trees, ap, append-nil, arith, command_of, inl, inr, state, statement_of, subst, subst₂, survives_then, sym, unchanged_then, understood, ℕ, ◌∙◌, ◌≡◌}
+use Rattle.kt_store.proofs.Common.{Command, CommitsBy, Compiled, Database, Err, Error, FailsToQuery, FailsToShow, Ghosts, HasCleanDisk, Held, IsSettledWhileOpen, IsDatabase, IsLive, IsNotRun, IsPlain, IsRolledBack, IsSettled, IsSettledWithRuns, IsTrue, IsUnchanged, IsUndone, IsSchema2Of, IsAnySchemaOf, IsSchema1Of, Leaves, List, None, Option, IsUnchangedOrRolledBack, Row, Run, RunsCommand, Schema, Some, State, Survives, IsSchema2Database, Trees, ap, append-nil, arith, command_of, inl, inr, state, statement_of, subst, subst₂, survives_then, sym, unchanged_then, understood, ℕ, ◌∙◌, ◌≡◌}
 use Rattle.sqlite_schema.specs.declared.command.Returning.{Returning}
 use Rattle.sqlite.specs.State.{MayCommit}
 
@@ -49,7 +49,7 @@ module _ (P : Database → Type 0) (old new : State) where
   ]
 
 pub same_store : (old new : State) (runs : List Run) → IsSettledWithRuns old runs → IsUnchanged old new → IsSettledWithRuns new runs
-same_store old new runs has same = same_settled (λ db. Tables db runs) old new has same
+same_store old new runs has same = same_settled (λ db. IsSchema2Database db runs) old new has same
 
 module _ (sql : List ℕ) (params : Row) (old : State) (schema : Schema) (has : old.now.schema ≡ schema) (command : Command) (is : command_of (understood schema sql) ≡ command)
     (plain : IsPlain (understood schema sql)) where

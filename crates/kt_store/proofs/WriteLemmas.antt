@@ -1,5 +1,5 @@
 -- The effect of a statement that is its own commit, from its effect on the tables.
-use Rattle.kt_store.proofs.Common.{Command, Commit, CommitsBy, Database, Does, Enforced, Executes, Ghosts, HasCleanDisk, Held, IsDatabase, IsNewestNamed, IsPlain, IsSettledWithRuns, IsTrue, IsSchema2Of, List, StatementMayCommit, Mode, None, Ok, Option, Program, Release, Row, Run, Runs, StandsFor, State, Tables, Tally, RunsStatement, Trees, Update, Writes, ap, begins_at, command_of, cond, inl, inr, mode_of, names_in, refl, runs_as, schema_2, state, statement_of, understood, unwrap_or, ℕ, ⊤, ◌∙◌, ◌≡◌, ◌⊎◌}
+use Rattle.kt_store.proofs.Common.{Command, Commit, CommitsBy, Database, Does, Enforced, Executes, Ghosts, HasCleanDisk, Held, IsDatabase, IsNewestNamed, IsPlain, IsSettledWithRuns, IsTrue, IsSchema2Of, List, StatementMayCommit, Mode, None, Ok, Option, Program, Release, Row, Run, Runs, StandsFor, State, IsSchema2Database, Tally, RunsStatement, Trees, Update, Writes, ap, begins_at, command_of, cond, inl, inr, mode_of, names_in, refl, runs_as, schema_2, state, statement_of, understood, unwrap_or, ℕ, ⊤, ◌∙◌, ◌≡◌, ◌⊎◌}
 use Rattle.kt_store.proofs.StepLemmas.{commits_as, same_store}
 
 abbrev pub Ends : Command → State → Type 0
@@ -8,7 +8,7 @@ Ends command old = (command ≡ Commit) ⊎ ((name : List ℕ) × (place : ℕ) 
 module _ (sql : List ℕ) (params : Row) (command : Command) (is : command_of (understood schema_2 sql) ≡ command) (plain : IsPlain (understood schema_2 sql))
     (writes : (old new : State) (text : List ℕ) (count : ℕ) → Runs old new None command text params count → Writes old new None command text params count) (no_end : (old : State) → Ends command old → ⊥)
     (runs more : List Run) (Says : Tally → Type 0)
-    (step : (limit : Option ℕ) (mode : Mode) (db after : Database) (text : List ℕ) (tally : Tally) → mode.keys ≡ Enforced → Tables db runs → Does limit mode params db text None command (Ok (tally, after)) → Tables after more × Says tally) where
+    (step : (limit : Option ℕ) (mode : Mode) (db after : Database) (text : List ℕ) (tally : Tally) → mode.keys ≡ Enforced → IsSchema2Database db runs → Does limit mode params db text None command (Ok (tally, after)) → IsSchema2Database after more × Says tally) where
   -- `Wrote old new`: the tables of `new` represent the runs `more`, and the last rowid of `new` is
   -- that of the tally, or that of `old` without one
   abbrev pub Wrote : State → State → Type 0
@@ -49,7 +49,7 @@ no_end_update at q old (inl e) = cc
 no_end_update at q old (inr it) = let e = it.2 in cc
 
 module _ (sql : List ℕ) (params : Row) (at : ℕ) (q : Program) (is : command_of (understood schema_2 sql) ≡ Update at q) (plain : IsPlain (understood schema_2 sql)) (runs more : List Run)
-    (step : (limit : Option ℕ) (mode : Mode) (db after : Database) (text : List ℕ) (tally : Tally) → mode.keys ≡ Enforced → Tables db runs → Does limit mode params db text None (Update at q) (Ok (tally, after)) → Tables after more)
+    (step : (limit : Option ℕ) (mode : Mode) (db after : Database) (text : List ℕ) (tally : Tally) → mode.keys ≡ Enforced → IsSchema2Database db runs → Does limit mode params db text None (Update at q) (Ok (tally, after)) → IsSchema2Database after more)
     {S : Type 0} (g : Ghosts S) (old new : Held S) (has : StandsFor (state g old) runs) (earlier : HasCleanDisk (state g new) → HasCleanDisk (state g old)) where
   pub executed_update : HasCleanDisk (state g new) → RunsStatement g sql params old new → IsSettledWithRuns (state g new) more × IsTrue (state g new).is_open × IsDatabase (state g new).now
   executed_update clean it =

@@ -2,7 +2,7 @@
 use Rattle.std.specs.Prelude.{◌≡◌, ◌≢◌, ◌⊎◌, ℤ, pos, List, [], IsTrue}
 use Rattle.kt_store.specs.Ask.{IsUnchangedOrRolledBack, IsDatabaseFault}
 use Rattle.kt_store.specs.Runs.{IsSchema2Of, IsAnySchemaOf}
-use Rattle.kt_store.specs.Stands.{StandsFor, RepresentsInSchema1, IsEmpty, StoresSchemaNumber, HasTables, Leaves}
+use Rattle.kt_store.specs.Stands.{StandsFor, RepresentsInSchema1, HasNoTables, StoresSchemaNumber, HasTables, Leaves}
 use Rattle.kt_store.specs.Types.{HasCleanDisk, Run, State, StoreFault, Survives}
 
 -- A description of a database before its tables are created, checked or migrated by
@@ -18,7 +18,7 @@ pub data InitialDatabase : Type 0 where
 -- `Describes was s`: `was` describes the database of a connection in state `s`. Any description
 -- holds if the connection is closed or the disk has returned wrong data.
 abbrev pub Describes : InitialDatabase → State → Type 0
-Describes Blank s = IsEmpty s
+Describes Blank s = HasNoTables s
 Describes (Schema2 runs) s = StandsFor s runs
 Describes (Schema1 runs) s = RepresentsInSchema1 s runs
 Describes (Numbered n) s = StoresSchemaNumber n s
@@ -46,7 +46,7 @@ AttachSucceeds (Numbered n) old new = HasCleanDisk new → ((n ≡ pos 1) ⊎ (n
 -- what a crash in `old` leaves or, for `Blank` and `Schema1`, the runs of `was` in schema 2. For
 -- `Numbered 1`, nothing is stated.
 abbrev pub AttachFails : InitialDatabase → State → State → StoreFault → Type 0
-AttachFails Blank old new fault = IsEmpty new × Survives old new (IsSchema2Of []) × (HasCleanDisk new → IsDatabaseFault fault)
+AttachFails Blank old new fault = HasNoTables new × Survives old new (IsSchema2Of []) × (HasCleanDisk new → IsDatabaseFault fault)
 AttachFails (Schema2 runs) old new fault = StandsFor new runs × Survives old new (λ _. ⊥) × (HasCleanDisk new → IsDatabaseFault fault) × (IsTrue old.is_open → Leaves new (IsSchema2Of runs))
 AttachFails (Schema1 runs) old new fault = RepresentsInSchema1 new runs × Survives old new (IsSchema2Of runs) × (HasCleanDisk new → IsDatabaseFault fault) × (IsTrue old.is_open → Leaves new (IsAnySchemaOf runs))
 AttachFails (Numbered n) old new fault = n ≢ pos 1 → (HasCleanDisk new → IsUnchangedOrRolledBack old new) × Survives old new (λ _. ⊥)

@@ -8,12 +8,12 @@ pub use Rattle.kt_store.specs.Attaching.{Blank, Describes, Schema1, AttachFails,
 pub use Rattle.kt_store.specs.Heads.{IsNumbered, entry_at, head_at, head_of, no_output, outline_entry, pairs_of}
 pub use Rattle.kt_store.specs.Inner.Ask.{AreWide, RunsQuery, HasColumns, QueryMayCommit, StatementMayCommit, QueriesRuns, RunsStatement}
 pub use Rattle.kt_store.specs.Inner.Fault.{IsOutOfMemory, IsAllocationFailure, MatchesSqlError, MatchesRecoverError, MatchesTreeError, MatchesWriteError}
-pub use Rattle.kt_store.specs.Inner.Heads.{AreNumberedFrom, entry_columns, head_columns, pair_columns, whole_columns}
-pub use Rattle.kt_store.specs.Inner.Kept.{ReadsSchemaNumber, Changes, CommitsNothing, ChecksTables, IsNotBlank, KeepsRuns, KeepsDatabase, OnlyReadsRuns, MayChange, WasClean}
-pub use Rattle.kt_store.specs.Inner.Runs.{CanAdd, HasNoReasonIfPassed, IsComplete, entries_of}
-pub use Rattle.kt_store.specs.Inner.Transactions.{Commits, CommitsNothingYet, IsOurs, MayCommit, ExecutesAll, ExecutesOne, Statement, RollsBack, entry_statements, pair_statement, pair_statements, plain_statements}
+pub use Rattle.kt_store.specs.Inner.Heads.{AreNumberedFrom, entry_columns, head_columns, pair_columns, full_entry_columns}
+pub use Rattle.kt_store.specs.Inner.Kept.{ReadsSchemaNumber, Changes, CommitsNothing, ChecksTables, IsNotBlank, KeepsRuns, KeepsDatabase, OnlyReadsRuns, MayChange, WasCleanIfClean}
+pub use Rattle.kt_store.specs.Inner.Runs.{IsValidWithEntry, HasNoReasonIfPassed, IsComplete, entries_of}
+pub use Rattle.kt_store.specs.Inner.Transactions.{Commits, CommitsNothingYet, IsSchema2Statement, MayCommit, ExecutesAll, ExecutesOne, Statement, RollsBack, entry_statements, pair_statement, pair_statements, plain_statements}
 pub use Rattle.kt_store.specs.Runs.{AreValidRuns, IsValidEntry, IsEncodableProperty, IsEncodable, IsSchema2Of, IsSchema2OfOne, finish, finish_refusal, flag, has_position, kind_code, new_run, put_refusal, run_at, with_entry}
-pub use Rattle.kt_store.specs.Serving.{Reads, Serves, results}
+pub use Rattle.kt_store.specs.Serving.{Reads, Serves, results_spec}
 pub use Rattle.kt_store.specs.Stands.{IsPreparable, Leaves, HoldsForRuns, StoresSchemaNumber, StandsFor}
 pub use Rattle.kt_store.specs.StoreCalls.{Began, Finished, Head, Outline, Outputs, Pairs, Put, map_success}
 pub use Rattle.kt_store.specs.Tables.{select_entries_sql, select_props_sql, select_runs_sql, schema_2}

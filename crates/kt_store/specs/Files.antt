@@ -72,36 +72,36 @@ module _ {D : Type 0} {g : disk.Ghosts D} where
   abbrev pub AreResultsOf : Image → Held (FileStore D g) → Type 0
   AreResultsOf image results = (conn : Held (FileStore D g)) × IsConnectionTo image conn × ((was : InitialDatabase) → Describes was (file_state conn) → AttachSucceeds was (file_state conn) (file_state results))
 
-  -- `Follows results store`: the connection `results` was converted to `store`. The last commit of
+  -- `IsConvertedStore results store`: the connection `results` was converted to `store`. The last commit of
   -- `store` has the runs of `results`, and a crash of `store` leaves only what a crash of `results`
   -- leaves. If the disk has returned no wrong data up to `store`, it had returned none up to
   -- `results`. The B-trees of `store` are then numbered (`HasTrees`).
-  pub record Follows (results : Held (FileStore D g)) (store : FileStore D g) : Type 0 where
+  pub record IsConvertedStore (results : Held (FileStore D g)) (store : FileStore D g) : Type 0 where
     pub stands : (runs : List Run) → StandsFor (file_state results) runs → HasCommitted (view store) runs
     pub earlier : IsClean (view store) → HasCleanDisk (file_state results)
     pub crash : (trees : Trees) → recovers store trees → (file_state results).may_leave trees
     pub numbered : IsClean (view store) → IsTrue (view store).is_numbered
 
-  -- `Lists image store`: `store` was opened over files with the content `image`. The files list the
+  -- `ListsSchema2 image store`: `store` was opened over files with the content `image`. The files list the
   -- tables of schema 2, unless the disk has returned wrong data. If `store` is open, its last
   -- commit has the schema number 2.
-  pub record Lists (image : Image) (store : FileStore D g) : Type 0 where
+  pub record ListsSchema2 (image : Image) (store : FileStore D g) : Type 0 where
     pub lists : IsClean (view store) → ListsTables image
-    pub says : IsTrue (view store).is_open → HasSchemaNumber (pos 2) (view store).committed
+    pub schema : IsTrue (view store).is_open → HasSchemaNumber (pos 2) (view store).committed
 
-  -- `Finds image store`: `store` was opened over files with the content `image`, and represents
-  -- their runs. Either the files list the tables of schema 2 (`Lists`), or their tables were
-  -- created, checked or migrated by `Results::attach` (`Follows`). If an open must check all trees,
+  -- `RepresentsImage image store`: `store` was opened over files with the content `image`, and represents
+  -- their runs. Either the files list the tables of schema 2 (`ListsSchema2`), or their tables were
+  -- created, checked or migrated by `Results::attach` (`IsConvertedStore`). If an open must check all trees,
   -- the trees of `store` are numbered (`HasTrees`), unless the disk has returned wrong data.
-  pub record Finds (image : Image) (store : FileStore D g) : Type 0 where
+  pub record RepresentsImage (image : Image) (store : FileStore D g) : Type 0 where
     pub held : OpensRuns image store
-    pub whose : Lists image store ⊎ ((results : Held (FileStore D g)) × AreResultsOf image results × Follows results store)
+    pub whose : ListsSchema2 image store ⊎ ((results : Held (FileStore D g)) × AreResultsOf image results × IsConvertedStore results store)
     pub numbered : IsClean (view store) → MustBeChecked image → IsTrue (view store).is_numbered
 
-  -- `Ends store`: the close of `store` succeeded and left the log and the database file. Unless the
+  -- `ClosesCleanly store`: the close of `store` succeeded and left the log and the database file. Unless the
   -- disk has returned wrong data, the files contain the last commit of `store`, also without the
   -- log. This also holds after a crash.
-  pub record Ends (store : FileStore D g) : Type 0 where
+  pub record ClosesCleanly (store : FileStore D g) : Type 0 where
     pub last : FileStore D g
     pub quiet : IsQuiet view faults recovers is_shielded store last
     pub files : Files D
@@ -124,11 +124,11 @@ module _ {D : Type 0} {g : disk.Ghosts D} where
   -- tables of schema 2. The disk returned the data that was written.
   pub record OpensAndCloses (before : Image) (last : FileStore D g) (runs : List Run) (after : Image) : Type 0 where
     pub first : FileStore D g
-    pub opened : Finds before first
+    pub opened : RepresentsImage before first
     pub checked : ListsTables before → MustBeChecked before
     pub calls : List StoreCall
     pub called : Chain (λ old call new. StaysNumbered (view old) (view new)) first calls last
     pub has : HasCommitted (view last) runs
-    pub ends : Ends last
+    pub ends : ClosesCleanly last
     pub honest : AreClean g ends.files.log ends.files.db
     pub outcome : outcomes g ends.files.log ends.files.db after

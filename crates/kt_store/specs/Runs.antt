@@ -100,9 +100,9 @@ AreOrdered runs = AllByRecursion (λ (r : Run). IsAscending (λ (a b : Entry). a
 abbrev pub HasSchemaNumber : ℤ → Trees → Type 0
 HasSchemaNumber n trees = map (drop 1) (trees 0) ≡ (Text (codes "schema") ∷ Int n ∷ []) ∷ []
 
--- `Tables db runs`: database `db` has schema 2, and its rows are exactly those of `runs`, which
+-- `IsSchema2Database db runs`: database `db` has schema 2, and its rows are exactly those of `runs`, which
 -- meet `AreValidRuns`
-pub record Tables (db : Database) (runs : List Run) : Type 0 where
+pub record IsSchema2Database (db : Database) (runs : List Run) : Type 0 where
   pub schema : db.schema ≡ schema_2
   pub marked : HasSchemaNumber (pos 2) db.trees
   pub runs_are : db.trees 2 ≡ map run_row runs
@@ -126,7 +126,7 @@ pub record IsSchema1Database (db : Database) (runs : List Run) : Type 0 where
 
 -- `IsSchema2Of runs trees`: `trees` are the B-trees of a database of schema 2 with exactly `runs`
 abbrev pub IsSchema2Of : List Run → Trees → Type 0
-IsSchema2Of runs trees = (db : Database) × IsDatabase db × (trees ≡ db.trees) × Tables db runs
+IsSchema2Of runs trees = (db : Database) × IsDatabase db × (trees ≡ db.trees) × IsSchema2Database db runs
 
 -- `IsSchema1Of runs trees`: `trees` are the B-trees of a database of schema 1 with exactly `runs`
 abbrev pub IsSchema1Of : List Run → Trees → Type 0

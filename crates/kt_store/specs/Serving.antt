@@ -68,10 +68,10 @@ pub record Reads {R : Type 0} (r : store.Ghosts R) (old new : R) : Type 0 where
   pub earlier : (runs : List Run) → r.stands old runs → r.sound new → r.sound old
   pub crash : (runs : List Run) (may : List (List Run)) → r.stands old runs → r.leaves old may → r.leaves new may
 
--- `results g`: the specification of the store `Results` over connections with the specification
+-- `results_spec g`: the specification of the store `Results` over connections with the specification
 -- `g`. Its relation `answers` always holds, since other clauses state the results of calls.
-abbrev pub results : {S : Type 0} → Ghosts S → store.Ghosts (Held S)
-results g = record {
+abbrev pub results_spec : {S : Type 0} → Ghosts S → store.Ghosts (Held S)
+results_spec g = record {
   answers = λ _ _ _. Unit {0};
   stands = λ s runs. StandsFor (state g s) runs × AreNumbered 1 runs × (HasCleanDisk (state g s) → AreOrdered runs);
   sound = λ s. HasCleanDisk (state g s);

@@ -5,7 +5,7 @@ use Rattle.sqlite.specs.Table.{Table}
 use Rattle.sqlite_schema.specs.declared.schema.Index.{Index}
 use Rattle.sqlite_schema.specs.declared.schema.View.{View}
 use Rattle.kt_store.specs.Tables.{no_schema, schema_with_meta, select_runs_sql, select_entries_sql, select_props_sql}
-use Rattle.kt_store.specs.Runs.{HasSchemaNumber, Tables, IsSchema1Database}
+use Rattle.kt_store.specs.Runs.{HasSchemaNumber, IsSchema2Database, IsSchema1Database}
 use Rattle.kt_store.specs.Types.{Database, Ghosts, HasCleanDisk, Held, Run, State, Trees, state, understood}
 
 -- `IsSettled P s`: in state `s` of a connection, no transaction is open, and the connection shows
@@ -23,13 +23,13 @@ IsSettledWhileOpen P s = HasCleanDisk s → IsTrue s.is_open → IsSettled P s
 -- `IsSettledWithRuns s runs`: in state `s` of a connection, no transaction is open, and the
 -- connection shows its last commit: a database of schema 2 with exactly `runs`
 abbrev pub IsSettledWithRuns : State → List Run → Type 0
-IsSettledWithRuns s runs = IsSettled (λ db. Tables db runs) s
+IsSettledWithRuns s runs = IsSettled (λ db. IsSchema2Database db runs) s
 
 -- `StandsFor s runs`: in state `s` of a connection, no transaction is open, and the database has
 -- schema 2 with exactly `runs`. Nothing is stated for a closed connection or a disk that returned
 -- wrong data.
 abbrev pub StandsFor : State → List Run → Type 0
-StandsFor s runs = IsSettledWhileOpen (λ db. Tables db runs) s
+StandsFor s runs = IsSettledWhileOpen (λ db. IsSchema2Database db runs) s
 
 -- `HoldsForRuns g old new P`: `P` holds for the runs that the tables of connection `old` represent.
 -- `new` is the connection after a call. Nothing is stated if the disk has returned wrong data up to
@@ -43,11 +43,11 @@ HoldsForRuns g old new P = (runs : List Run) → StandsFor (state g old) runs �
 abbrev pub RepresentsInSchema1 : State → List Run → Type 0
 RepresentsInSchema1 s runs = IsSettledWhileOpen (λ db. IsSchema1Database db runs) s
 
--- `IsEmpty s`: in state `s` of a connection, no transaction is open, and the database has no
+-- `HasNoTables s`: in state `s` of a connection, no transaction is open, and the database has no
 -- tables, indexes or views. Nothing is stated for a closed connection or a disk that returned wrong
 -- data.
-abbrev pub IsEmpty : State → Type 0
-IsEmpty s = IsSettledWhileOpen (λ db. db.schema ≡ no_schema) s
+abbrev pub HasNoTables : State → Type 0
+HasNoTables s = IsSettledWhileOpen (λ db. db.schema ≡ no_schema) s
 
 -- `Leaves s P`: a crash in state `s` of a connection leaves B-trees for which `P` holds, unless the
 -- disk has returned wrong data

@@ -1,5 +1,5 @@
 ghost use Rattle.std.specs.Prelude.{◌≡◌, ◌≢◌, ◌⊎◌, ◌<◌, ℤ, pos, true, false, [], IfOk, OnOk, OnErr, IfErr};
-ghost use Rattle.kt_store.specs.Common.{HasCleanDisk, IsLive, IsUnchanged, state, IsUnchangedOrRolledBack, IsDatabaseFault, Blank, Schema1, Describes, AttachSucceeds, AttachFails, IsNotBlank, WasClean, CommitsNothing, ReadsSchemaNumber, KeepsDatabase, ChecksTables, StoresSchemaNumber, IsPreparable, select_runs_sql, select_entries_sql, select_props_sql};
+ghost use Rattle.kt_store.specs.Common.{HasCleanDisk, IsLive, IsUnchanged, state, IsUnchangedOrRolledBack, IsDatabaseFault, Blank, Schema1, Describes, AttachSucceeds, AttachFails, IsNotBlank, WasCleanIfClean, CommitsNothing, ReadsSchemaNumber, KeepsDatabase, ChecksTables, StoresSchemaNumber, IsPreparable, select_runs_sql, select_entries_sql, select_props_sql};
 
 use crate::StoreFault;
 use crate::batch::{SqlTexts, commit};
@@ -42,7 +42,7 @@ pub(crate) fn create_tables<S: Alter>(conn: &mut Connection<S>) -> Result<(), St
         → OnOk result (AttachSucceeds Blank (state S.Store conn.old) (state S.Store conn.new)) }
     ensures refused { Describes Blank (state S.Store conn.old)
         → IfErr result (AttachFails Blank (state S.Store conn.old) (state S.Store conn.new)) }
-    ensures earlier { WasClean S.Store conn.old conn.new }
+    ensures earlier { WasCleanIfClean S.Store conn.old conn.new }
     ensures failed { IfErr result IsDatabaseFault }
 {
     let makes = [
@@ -153,7 +153,7 @@ pub(crate) fn migrate<S: Alter>(conn: &mut Connection<S>) -> Result<(), StoreFau
     ensures refused { (runs : _) → Describes (Schema1 runs) (state S.Store conn.old)
         → IfErr result (AttachFails (Schema1 runs) (state S.Store conn.old) (state S.Store
         conn.new)) }
-    ensures earlier { WasClean S.Store conn.old conn.new }
+    ensures earlier { WasCleanIfClean S.Store conn.old conn.new }
     ensures failed { IfErr result IsDatabaseFault }
 {
     theorem_of_valid_contents(conn);
@@ -171,7 +171,7 @@ pub(crate) fn adopt_tables<S: Alter>(conn: &mut Connection<S>) -> Result<(), Sto
         → OnOk result (AttachSucceeds was (state S.Store conn.old) (state S.Store conn.new)) }
     ensures refused { (was : _) → IsNotBlank was → Describes was (state S.Store conn.old)
         → IfErr result (AttachFails was (state S.Store conn.old) (state S.Store conn.new)) }
-    ensures earlier { WasClean S.Store conn.old conn.new }
+    ensures earlier { WasCleanIfClean S.Store conn.old conn.new }
     ensures due { IfErr result (λ e. IsDatabaseFault e ⊎ (e ≡ StoreFault.UnknownSchema)) }
 {
     theorem_of_valid_contents(conn);

@@ -38,11 +38,11 @@ pub(crate) struct SqlTexts<'a> {
 
 impl Batch for SqlTexts<'_> {
     ghost use Rattle.std.specs.Prelude.{map};
-    ghost use Rattle.kt_store.specs.Common.{AllByRecursion, IsOurs, plain_statements};
+    ghost use Rattle.kt_store.specs.Common.{AllByRecursion, IsSchema2Statement, plain_statements};
 
     ghost statements = { λ t. plain_statements (map (λ sql. sql.now) t.texts.now) };
 
-    ghost is_ready = { λ t. AllByRecursion IsOurs (map (λ sql. sql.now) t.texts.now) };
+    ghost is_ready = { λ t. AllByRecursion IsSchema2Statement (map (λ sql. sql.now) t.texts.now) };
 
     fn execute_statements<S: Alter>(&self, tx: &mut Transaction<'_, S>) -> Result<(), DatabaseError> {
         for text in self.texts {

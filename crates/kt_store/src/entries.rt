@@ -1,5 +1,5 @@
 ghost use Rattle.std.specs.Prelude.{◌≡◌, ◌⊎◌, ◌<◌, ◌≤◌, ◌^◌, length, map, Some, None, IfOk, IfErr, OnOk};
-ghost use Rattle.kt_store.specs.Common.{HoldsForRuns, AreWide, AreValidRuns, Entry as Stored, IsValidEntry, IsDatabaseFault, OnlyReadsRuns, entries_of, entry_at, pair_columns, pairs_of, run_at, whole_columns};
+ghost use Rattle.kt_store.specs.Common.{HoldsForRuns, AreWide, AreValidRuns, Entry as Stored, IsValidEntry, IsDatabaseFault, OnlyReadsRuns, entries_of, entry_at, pair_columns, pairs_of, run_at, full_entry_columns};
 
 use crate::StoreFault;
 use crate::heads::push_item;
@@ -20,7 +20,7 @@ pub(crate) fn read_entry_rows<S: Alter>(
 ) -> Result<Vec<Row>, DatabaseError>
     ensures all { HoldsForRuns S.Store conn.old conn.new (λ runs.
         IfOk result (λ rows. rows.items
-        ≡ map whole_columns (entries_of (run_at runs run)))) }
+        ≡ map full_entry_columns (entries_of (run_at runs run)))) }
     ensures wide { IfOk result (λ rows. AreWide 11 rows.items) }
     ensures valid { HoldsForRuns S.Store conn.old conn.new (λ runs. OnOk result (AreValidRuns
         runs)) }
@@ -65,7 +65,7 @@ fn read_entry<S: Alter>(
 ) -> Result<Entry, DatabaseError>
     requires wide { 11 ≤ length row.now }
     ensures entry { HoldsForRuns S.Store conn.old conn.new (λ runs. (e : Stored) → IsValidEntry e
-        → entry_at (run_at runs run) e.position ≡ Some e → row.now ≡ whole_columns e
+        → entry_at (run_at runs run) e.position ≡ Some e → row.now ≡ full_entry_columns e
         → IfOk result (λ x. x ≡ e)) }
     ensures looked { OnlyReadsRuns S.Store conn.old conn.new }
 {
@@ -85,7 +85,7 @@ fn read_entries<S: Alter>(
 ) -> Result<Vec<Entry>, DatabaseError>
     requires wide { AreWide 11 rows.now }
     ensures entries { HoldsForRuns S.Store conn.old conn.new (λ runs. AreValidRuns runs
-        → rows.now ≡ map whole_columns (entries_of (run_at runs run))
+        → rows.now ≡ map full_entry_columns (entries_of (run_at runs run))
         → IfOk result (λ found. found.items ≡ entries_of (run_at runs run))) }
     ensures looked { OnlyReadsRuns S.Store conn.old conn.new }
 {

@@ -1,5 +1,5 @@
 ghost use Rattle.std.specs.Prelude.{◌≡◌, ◌<◌, ◌≤◌, ℕ, length, map, List, ◌++◌, IfOk};
-ghost use Rattle.kt_store.specs.Common.{utf8, AllByRecursion, AreWide, Blob, column, no_output, IsValidEntry, IsEncodableProperty, IsEncodable, entry_columns, outline_entry, pair_columns, whole_columns};
+ghost use Rattle.kt_store.specs.Common.{utf8, AllByRecursion, AreWide, Blob, column, no_output, IsValidEntry, IsEncodableProperty, IsEncodable, entry_columns, outline_entry, pair_columns, full_entry_columns};
 ghost use Rattle.kt_base.specs.declared.entry.Entry.{Entry as Stored};
 ghost use Rattle.sqlite_value.specs.declared.value.Value.TheVariants.{Text as Words};
 ghost use Rattle.kt_base.specs.declared.entry.Output.{Output as Pair};
@@ -145,7 +145,7 @@ pub(crate) fn entry_from_row(
     meta: Variables,
 ) -> Result<Entry, DatabaseError>
     requires { 11 ≤ length row.now }
-    ensures { (e : Stored) → IsValidEntry e → row.now ≡ whole_columns e → meta ≡ e.meta
+    ensures { (e : Stored) → IsValidEntry e → row.now ≡ full_entry_columns e → meta ≡ e.meta
         → IfOk result (λ x. x ≡ e) }
 {
     let mut entry = entry_outline_from_row(alloc, row)?;

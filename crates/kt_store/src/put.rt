@@ -1,5 +1,5 @@
 ghost use Rattle.std.specs.Prelude.{◌≡◌, ◌⊎◌, Some, None, IfOk, ◌<◌, ◌≤◌, ◌^◌, OnOk, OnErr, IfErr};
-ghost use Rattle.kt_store.specs.Common.{HoldsForRuns, greatest_run_number, IsStorable, IsDatabaseFault, KeepsRuns, OnlyReadsRuns, Changes, MayChange, CommitsNothingYet, ExecutesAll, ExecutesOne, CanAdd, HasNoReasonIfPassed, with_entry, put_refusal, entry_statements, pair_statement, pair_statements};
+ghost use Rattle.kt_store.specs.Common.{HoldsForRuns, greatest_run_number, IsStorable, IsDatabaseFault, KeepsRuns, OnlyReadsRuns, Changes, MayChange, CommitsNothingYet, ExecutesAll, ExecutesOne, IsValidWithEntry, HasNoReasonIfPassed, with_entry, put_refusal, entry_statements, pair_statement, pair_statements};
 
 use crate::StoreFault;
 use crate::batch::{Batch, commit};
@@ -146,10 +146,10 @@ pub(crate) fn add_entry<S: Alter>(
     requires reason { reason.now ≡ entry.now.verdict.reason }
     requires moments { IsStorable entry.now }
     ensures added { OnOk result (Changes S.Store conn.old conn.new
-        (CanAdd run entry.now) (with_entry run entry.now)) }
+        (IsValidWithEntry run entry.now) (with_entry run entry.now)) }
     ensures kept { OnErr result (KeepsRuns S.Store conn.old conn.new) }
     ensures crash { MayChange S.Store conn.old conn.new
-        (CanAdd run entry.now) (with_entry run entry.now) }
+        (IsValidWithEntry run entry.now) (with_entry run entry.now) }
 {
     commit(conn, &EntryInsert { run, entry, reason })
 }
@@ -168,7 +168,7 @@ pub(crate) fn check_can_put<S: Alter>(
         IfErr result (λ e. IsDatabaseFault e ⊎ (put_refusal runs run entry.now ≡ Some e))) }
     ensures taken { HoldsForRuns S.Store conn.old conn.new (λ runs.
         OnOk result (HasNoReasonIfPassed entry.now → (put_refusal runs run entry.now ≡ None)
-        × CanAdd run entry.now runs)) }
+        × IsValidWithEntry run entry.now runs)) }
 {
     let (total, finished) = look_up_run(conn, run)?;
     if finished {

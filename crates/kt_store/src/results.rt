@@ -36,7 +36,7 @@ impl<S: Alter> Model for Results<S> {
 
 impl<S: Alter> Results<S> {
     ghost use Rattle.std.specs.Prelude.{◌≡◌, ◌⊎◌, Some, None, IfOk, IfErr, IfSome, map};
-    ghost use Rattle.kt_store.specs.Common.{HoldsForRuns, state, AreNumberedFrom, IsMoment, IsNumbered, IsStorable, IsDatabaseFault, Describes, AttachSucceeds, AttachFails, Reads, Serves, Began, Put, Finished, Head, head_of, results, run_at};
+    ghost use Rattle.kt_store.specs.Common.{HoldsForRuns, state, AreNumberedFrom, IsMoment, IsNumbered, IsStorable, IsDatabaseFault, Describes, AttachSucceeds, AttachFails, Reads, Serves, Began, Put, Finished, Head, head_of, results_spec, run_at};
 
     /// Creates the tables of schema 2 in a database without tables, or migrates schema 1 to schema
     /// 2, in one commit. A database of schema 2 is only checked.
@@ -95,7 +95,7 @@ impl<S: Alter> Results<S> {
     /// - `NoMemory`: memory ran out.
     pub fn begin(&mut self, total: u32, moment: u64) -> Result<u64, StoreFault>
         requires { IsMoment moment }
-        ensures { Serves (results S.Store) (Began total moment result) self.old self.new }
+        ensures { Serves (results_spec S.Store) (Began total moment result) self.old self.new }
     {
         if is_store_full(&mut self.conn)? {
             return Err(StoreFault::StoreFull);
@@ -110,7 +110,7 @@ impl<S: Alter> Results<S> {
     /// The errors of [`ResultStore::put`](crate::ResultStore).
     pub fn put(&mut self, run: u64, entry: &Entry) -> Result<(), StoreFault>
         requires { IsStorable entry.now }
-        ensures { Serves (results S.Store) (Put run entry.now result) self.old self.new }
+        ensures { Serves (results_spec S.Store) (Put run entry.now result) self.old self.new }
     {
         let reason = copy_reason_text(self.alloc, entry)?;
         check_can_put(&mut self.conn, run, entry)?;
@@ -123,7 +123,7 @@ impl<S: Alter> Results<S> {
     ///
     /// The errors of [`ResultStore::finish`](crate::ResultStore).
     pub fn finish(&mut self, run: u64) -> Result<(), StoreFault>
-        ensures { Serves (results S.Store) (Finished run result) self.old self.new }
+        ensures { Serves (results_spec S.Store) (Finished run result) self.old self.new }
     {
         run_rows::check_can_finish(&mut self.conn, run)?;
         Ok(mark_finished(&mut self.conn, run_key(run))?)
@@ -136,7 +136,7 @@ impl<S: Alter> Results<S> {
     /// - `Store`: a statement failed, a row has a wrong value, or the runs are not numbered from 1.
     /// - `NoMemory`: memory ran out.
     pub fn runs(&mut self) -> Result<Vec<RunHead>, StoreFault>
-        ensures reads { Reads (results S.Store) self.old self.new }
+        ensures reads { Reads (results_spec S.Store) self.old self.new }
         ensures heads { HoldsForRuns S.Store self.old self.new (λ runs.
             IfOk result (λ heads. heads.items ≡ map head_of runs)) }
         ensures failed { IfErr result IsDatabaseFault }
@@ -151,7 +151,7 @@ impl<S: Alter> Results<S> {
     ///
     /// The errors of [`Results::runs`].
     pub fn head(&mut self, number: Option<u64>) -> Result<Option<RunHead>, StoreFault>
-        ensures served { Serves (results S.Store) (Head number result) self.old self.new }
+        ensures served { Serves (results_spec S.Store) (Head number result) self.old self.new }
         // Holds for any tables: the returned head has the requested number.
         ensures numbered { IfOk result (λ found. IfSome found (IsNumbered number)) }
         ensures failed { IfErr result IsDatabaseFault }
@@ -169,7 +169,7 @@ impl<S: Alter> Results<S> {
     /// - `Store`: a statement failed, or a row has a wrong value.
     /// - `NoMemory`: memory ran out.
     pub fn entries(&mut self, run: u64) -> Result<Vec<Entry>, StoreFault>
-        ensures reads { Reads (results S.Store) self.old self.new }
+        ensures reads { Reads (results_spec S.Store) self.old self.new }
         ensures entries { HoldsForRuns S.Store self.old self.new (λ runs.
             IfOk result (λ found. (r : _) × (run_at runs run ≡ Some r)
             × (found.items ≡ r.entries))) }

@@ -1,5 +1,5 @@
 ghost use Rattle.std.specs.Prelude.{◌≡◌, ◌<◌, IfOk, OnOk, OnErr, nat_lt, length, []};
-ghost use Rattle.kt_store.specs.Common.{HoldsForRuns, bound, IsPlain, understood, HasCleanDisk, Survives, IsUnchanged, state, column, CommitsNothing, OnlyReadsRuns, RunsQuery, AreWide, HasColumns, QueryMayCommit, StatementMayCommit, QueriesRuns, RunsStatement, CommitsNothingYet, IsOurs, ExecutesOne, IsUnchangedOrRolledBack, IsPreparable, schema_2};
+ghost use Rattle.kt_store.specs.Common.{HoldsForRuns, bound, IsPlain, understood, HasCleanDisk, Survives, IsUnchanged, state, column, CommitsNothing, OnlyReadsRuns, RunsQuery, AreWide, HasColumns, QueryMayCommit, StatementMayCommit, QueriesRuns, RunsStatement, CommitsNothingYet, IsSchema2Statement, ExecutesOne, IsUnchangedOrRolledBack, IsPreparable, schema_2};
 
 use crate::store_fault::DatabaseError;
 use sqlite::types::FromSql;
@@ -116,7 +116,7 @@ pub(crate) fn execute_in_transaction<S: Alter>(
     sql: &str,
     params: &[ValueRef<'_>],
 ) -> Result<(), DatabaseError>
-    requires { IsOurs sql.now }
+    requires { IsSchema2Statement sql.now }
     ensures same_reference { tx.new.conn.ghost_name ≡ tx.old.conn.ghost_name }
     ensures runs { OnOk result (ExecutesOne S.Store (sql.now, bound params.now, [])
         tx.old.conn.now tx.new.conn.now) }

@@ -9,10 +9,10 @@ use Rattle.kt_cli.specs.Courses.{CommandCalls, CallsWorld}
 use Rattle.kt_cli.specs.CommandStates.{World}
 use Rattle.kt_cli.specs.Stores.{CallsStore}
 
--- `world_calls_only questions`: the calls of a command that made only the calls `questions` of its
+-- `world_calls_only world_calls`: the calls of a command that made only the calls `world_calls` of its
 -- world, and no store call.
 abbrev pub world_calls_only : List WorldCall → CommandCalls
-world_calls_only questions = record { questions = questions; plan = []; trace = NoEvent; calls = [] }
+world_calls_only world_calls = record { world_calls = world_calls; plan = []; trace = NoEvent; calls = [] }
 
 module _ {W : Type 0} (w : World W) where
   -- `ExecutesWithoutStore w c old new was now exit`: the command `c`, which makes no store calls,
@@ -23,14 +23,14 @@ module _ {W : Type 0} (w : World W) where
     pub course : CallsWorld w seen old new
     pub uncalled : seen.calls ≡ []
     pub bytes : List ℕ
-    pub due : ℕ
-    pub printed : Printed was now exit bytes due
-    pub is : Means seen printed.failed c bytes due
+    pub intended_exit : ℕ
+    pub printed : Printed was now exit bytes intended_exit
+    pub is : Means seen printed.failed c bytes intended_exit
 
--- `called_only calls`: the calls of a command that made only the store calls `calls`, and no call
+-- `store_calls_only calls`: the calls of a command that made only the store calls `calls`, and no call
 -- of a world.
-abbrev pub called_only : List StoreCall → CommandCalls
-called_only calls = record { questions = []; plan = []; trace = NoEvent; calls = calls }
+abbrev pub store_calls_only : List StoreCall → CommandCalls
+store_calls_only calls = record { world_calls = []; plan = []; trace = NoEvent; calls = calls }
 
 module _ {R : Type 0} (r : keeping.Ghosts R) where
   -- `ExecutesWithoutWorld r c store after was now exit`: the command `c`, which calls only its
@@ -41,6 +41,6 @@ module _ {R : Type 0} (r : keeping.Ghosts R) where
     pub calls : List StoreCall
     pub stored : CallsStore r calls store after
     pub bytes : List ℕ
-    pub due : ℕ
-    pub printed : Printed was now exit bytes due
-    pub is : Means (called_only calls) printed.failed c bytes due
+    pub intended_exit : ℕ
+    pub printed : Printed was now exit bytes intended_exit
+    pub is : Means (store_calls_only calls) printed.failed c bytes intended_exit

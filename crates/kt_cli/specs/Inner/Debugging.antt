@@ -14,13 +14,13 @@ use Rattle.kt_cli.specs.Debugging.{all_debug_bytes, debug_bytes}
 abbrev pub Prints : Bool → Option (List ℕ) → Entry → Result (Unit {0}) SinkFault → Bool → Option (List ℕ) → Type 0
 Prints failed held entry answer failed' held' = (answer ≡ Ok tt) × WritesNext held failed held' failed' (debug_bytes entry)
 
--- `DebugEnds plan T entries outcome`: if `outcome` is a success, `entries` are those of all cases
+-- `IsDebugResult plan T entries outcome`: if `outcome` is a success, `entries` are those of all cases
 -- of `plan` with the trace `T`, and `outcome` has their totals. The only possible error is a failed
 -- allocation before a case was started, and then there are no entries.
-abbrev pub DebugEnds : List Job → Trace → List Entry → Result Totals RunFault → Type 0
-DebugEnds plan T entries (Ok totals) = AllRecorded plan 1 T entries × Counts entries totals
-DebugEnds plan T entries (Err (NoMemory refusal)) = (T ≡ NoEvent) × (entries ≡ [])
-DebugEnds plan T entries (Err (SinkFailed fault)) = ⊥
+abbrev pub IsDebugResult : List Job → Trace → List Entry → Result Totals RunFault → Type 0
+IsDebugResult plan T entries (Ok totals) = AllRecorded plan 1 T entries × Counts entries totals
+IsDebugResult plan T entries (Err (NoMemory refusal)) = (T ≡ NoEvent) × (entries ≡ [])
+IsDebugResult plan T entries (Err (SinkFailed fault)) = ⊥
 
 module _ {L : Type 0} (l : launcher.Ghosts L) (plan : List Job) where
   -- `ExecutesDebug l plan old new was now failed answer`: `plan` was executed one case at a time,
@@ -31,5 +31,5 @@ module _ {L : Type 0} (l : launcher.Ghosts L) (plan : List Job) where
     pub trace : Trace
     pub leads : Leads l.starts l.waits plan trace old new
     pub entries : List Entry
-    pub says : WritesNext was false now failed (all_debug_bytes entries)
-    pub ends : DebugEnds plan trace entries answer
+    pub written : WritesNext was false now failed (all_debug_bytes entries)
+    pub ends : IsDebugResult plan trace entries answer

@@ -7,7 +7,7 @@ use Rattle.kt_store.specs.declared.result_store.StoreSpec as keeping
 use Rattle.kt_cli.specs.Inner.Pages.{WritesNext}
 use Rattle.kt_cli.specs.Inner.Recording.{sink_fault_of}
 use Rattle.kt_cli.specs.CommandStates.{CommandState}
-use Rattle.kt_cli.specs.Stores.{CallsStore, puts}
+use Rattle.kt_cli.specs.Stores.{CallsStore, put_calls}
 use Rattle.kt_cli.specs.Totals.{lines}
 use Rattle.kt_cli.specs.Recordings.{AllRecorded, IsStopped}
 
@@ -37,26 +37,26 @@ module _ (plan : List Job) (n number : ℕ) (T : Trace) (entries : List Entry) (
     pub one : last ≡ Put number entry (Err refusal) ∷ []
     pub stopped : IsStopped plan n T entries entry
 
-  -- `RecordEnds plan n number T entries last outcome`: the execution of `plan` at width `n` with
+  -- `IsRecordingResult plan n number T entries last outcome`: the execution of `plan` at width `n` with
   -- the trace `T` had the result `outcome`. It recorded `entries` in run `number`, and `last` is
   -- the failed put, if any. For a success `RecordedAll` holds, for a failed put `RecordedSome`, and
   -- for a failed allocation `RecordedNone`.
-  abbrev pub RecordEnds : Result Totals RunFault → Type 0
-  RecordEnds (Ok totals) = RecordedAll plan n T entries last totals
-  RecordEnds (Err (SinkFailed fault)) = RecordedSome fault
-  RecordEnds (Err (NoMemory refusal)) = RecordedNone T entries last
+  abbrev pub IsRecordingResult : Result Totals RunFault → Type 0
+  IsRecordingResult (Ok totals) = RecordedAll plan n T entries last totals
+  IsRecordingResult (Err (SinkFailed fault)) = RecordedSome fault
+  IsRecordingResult (Err (NoMemory refusal)) = RecordedNone T entries last
 
 module _ {L R : Type 0} (l : launcher.Ghosts L) (r : keeping.Ghosts R) (plan : List Job) (n number : ℕ) where
-  -- `Records l r plan n number old new answer failed`: `plan` was executed at width `n`, from the
+  -- `ExecutesAndRecords l r plan n number old new answer failed`: `plan` was executed at width `n`, from the
   -- state `old` to `new`, with the result `answer`. The store calls put entries into run `number`,
   -- and the last put may have failed. The lines of the successful puts were printed in order,
   -- unless a write failed (`failed`). `l` has the relations of the launcher, and `r` is the
   -- specification of the store.
-  pub record Records (old new : CommandState L R) (answer : Result Totals RunFault) (failed : Bool) : Type 0 where
+  pub record ExecutesAndRecords (old new : CommandState L R) (answer : Result Totals RunFault) (failed : Bool) : Type 0 where
     pub trace : Trace
     pub leads : Leads l.starts l.waits plan trace old.world new.world
     pub entries : List Entry
     pub last : List StoreCall
-    pub stored : CallsStore r (puts number entries ++ last) old.store new.store
-    pub says : WritesNext old.held false new.held failed (lines entries)
-    pub ends : RecordEnds plan n number trace entries last answer
+    pub stored : CallsStore r (put_calls number entries ++ last) old.store new.store
+    pub written : WritesNext old.held false new.held failed (lines entries)
+    pub ends : IsRecordingResult plan n number trace entries last answer

@@ -20,6 +20,6 @@ module _ {L R : Type 0} (l : launcher.Ghosts L) (r : keeping.Ghosts R) where
     pub calls : List StoreCall
     pub stored : CallsStore r calls old.store new.store
     pub bytes : List ℕ
-    pub due : ℕ
-    pub is : RunResult planned trace calls bytes due
-    pub printed : Printed old.held new.held exit bytes due
+    pub intended_exit : ℕ
+    pub is : RunResult planned trace calls bytes intended_exit
+    pub printed : Printed old.held new.held exit bytes intended_exit

@@ -1,5 +1,5 @@
 ghost use Rattle.std.specs.Prelude.{IfOk, OnErr, ◌≡◌, ℕ, List};
-ghost use Rattle.kt_cli.specs.Common.{IsIdle, CommandResult, CommandState, command_state, ExecutesAllCommands, Run, Command, StoreIsSound};
+ghost use Rattle.kt_cli.specs.Common.{IsIdle, CommandResult, CommandState, command_state, ExecutesAllCommands, Run, Command, IsSoundExecution};
 
 use crate::Exit;
 use crate::commands::debugging::debug;
@@ -93,5 +93,5 @@ pub fn execute_all<W: World, R: ResultStore, O: Write>(
 pub fn theorem_of_sound_stores<W: World, R: ResultStore>()
     ensures { (c : Command) (old new : CommandState W R) (exit : ℕ) (runs : List Run)
         (did : CommandResult W.World R.StoreSpec c old new exit) → R.stands old.store runs
-        → R.sound new.store → StoreIsSound did runs }
+        → R.sound new.store → IsSoundExecution did runs }
 {}

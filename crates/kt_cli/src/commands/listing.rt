@@ -1,5 +1,5 @@
 ghost use Rattle.std.specs.Prelude.{is_err};
-ghost use Rattle.kt_cli.specs.Common.{Emits, IsIdle, listing, ExecutesWithoutStore};
+ghost use Rattle.kt_cli.specs.Common.{Emits, IsIdle, list_output, ExecutesWithoutStore};
 ghost use Rattle.kt_args.specs.declared.command.Command.TheVariants as command;
 
 use crate::Exit;
@@ -19,7 +19,7 @@ fn write_listing<O: Write>(
     out: &mut O,
 ) -> Result<(), OutputFault>
     ensures { Emits (O.contents out.old) (O.contents out.new) (is_err result)
-        (listing options.now.filters chosen.now) }
+        (list_output options.now.filters chosen.now) }
 {
     for case in chosen.cases.as_slice() {
         let name = case.case.name.as_bytes();

@@ -34,12 +34,12 @@ pub fn convert_store_fault(fault: StoreFault) -> SinkFault
 
 impl<R: ResultStore, O: Write> Sink for Recorder<'_, R, O> {
     ghost use Rattle.std.specs.Prelude.{◌≡◌, is_err};
-    ghost use Rattle.kt_cli.specs.Common.{Recorded, recording, HasRecorded};
+    ghost use Rattle.kt_cli.specs.Common.{RecordsEntry, recording, HasRecorded};
 
     ghost entries = { λ s put. HasRecorded R.stands s.number s.results.now put };
 
     ghost puts = { λ s e r t. (t.results.ghost_name ≡ s.results.ghost_name)
-        × (t.out.ghost_name ≡ s.out.ghost_name) × Recorded R.StoreSpec
+        × (t.out.ghost_name ≡ s.out.ghost_name) × RecordsEntry R.StoreSpec
         (recording s.results.now s.number (is_err s.written) (O.contents s.out.now)) e r
         (recording t.results.now t.number (is_err t.written) (O.contents t.out.now)) };
 

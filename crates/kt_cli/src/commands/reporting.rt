@@ -1,5 +1,5 @@
 ghost use Rattle.std.specs.Prelude.{◌≡◌, is_err, true, None};
-ghost use Rattle.kt_cli.specs.Common.{cases_of, ExecutesWithoutWorld, utf8, Emits, WritesReport, WritesStored, Date, IsDateOf, junit_layout, outputs_reading, pairs_reading, text_layout, entries_by_section, ReportCompletes, JunitCompletes, IsMissing, ReadsRun, not_shown_line};
+ghost use Rattle.kt_cli.specs.Common.{case_options_of, ExecutesWithoutWorld, utf8, Emits, WritesReport, WritesStoredReport, Date, IsDateOf, junit_layout, outputs_reading, pairs_reading, text_layout, entries_by_section, PrintsReport, PrintsJunitReport, IsMissing, ReadsRun, not_shown_line};
 
 use crate::Exit;
 use crate::commands::report_error::ReportError;
@@ -82,7 +82,7 @@ fn write_text<R: ResultStore, O: Write>(
     out: &mut O,
 ) -> Result<(), WriteReportError<StoreFault, OutputFault>>
     ensures { (date : Date) × IsDateOf run.now.started date
-        × WritesStored R.StoreSpec pairs_reading run.now.number (text_layout date true run.now)
+        × WritesStoredReport R.StoreSpec pairs_reading run.now.number (text_layout date true run.now)
         (entries_by_section kinds.now run.now.entries) results.old results.new
         (O.contents out.old) (O.contents out.new) result }
 {
@@ -108,7 +108,7 @@ pub fn report<R: ResultStore, O: Write>(
 ) -> Exit
     ensures { WritesReport R.StoreSpec results.old results.new (O.contents out.old)
         (O.contents out.new) result.status
-        (λ failed. ReportCompletes number kinds.now failed verbose) }
+        (λ failed. PrintsReport number kinds.now failed verbose) }
 {
     let run = match read_run(number, results) {
         Ok(run) => run,
@@ -134,7 +134,7 @@ fn write_junit<R: ResultStore, O: Write>(
     results: &mut R,
     out: &mut O,
 ) -> Result<(), WriteReportError<StoreFault, ReportFault>>
-    ensures { WritesStored R.StoreSpec outputs_reading run.now.number (junit_layout run.now)
+    ensures { WritesStoredReport R.StoreSpec outputs_reading run.now.number (junit_layout run.now)
         run.now.entries results.old results.new (O.contents out.old) (O.contents out.new) result }
 {
     let number = run.number;
@@ -156,7 +156,7 @@ pub fn report_junit<R: ResultStore, O: Write>(
     out: &mut O,
 ) -> Exit
     ensures { WritesReport R.StoreSpec results.old results.new (O.contents out.old)
-        (O.contents out.new) result.status (JunitCompletes number) }
+        (O.contents out.new) result.status (PrintsJunitReport number) }
 {
     let run = match read_run(number, results) {
         Ok(run) => run,
@@ -179,7 +179,7 @@ pub fn execute_report<R: ResultStore, O: Write>(
     results: &mut R,
     out: &mut O,
 ) -> Exit
-    requires { cases_of command.now ≡ None }
+    requires { case_options_of command.now ≡ None }
     ensures { ExecutesWithoutWorld R.StoreSpec command.now results.old results.new
         (O.contents out.old) (O.contents out.new) result.status }
 {

@@ -1,5 +1,5 @@
 ghost use Rattle.std.specs.Prelude.{◌≤◌, length, is_err, false};
-ghost use Rattle.kt_cli.specs.Common.{Emits, utf8, IsIdle, IsMoment, IsPlan, IsWidth, item_limit, CommandResult, WritesNext, Records, ExecutesPlan, command_state, ending, run_for, totals_text};
+ghost use Rattle.kt_cli.specs.Common.{Emits, utf8, IsIdle, IsMoment, IsPlan, IsWidth, item_limit, CommandResult, WritesNext, ExecutesAndRecords, ExecutesPlan, command_state, totals_and_warnings, planned_run, totals_text};
 ghost use Rattle.kt_args.specs.declared.command.Command.TheVariants as command;
 
 use crate::Exit;
@@ -39,7 +39,7 @@ fn record_cases<L: Launcher, R: ResultStore, O: Write>(
     requires plan { IsPlan numbered.plan }
     requires width { IsWidth numbered.width }
     requires idle { IsIdle (L.running launcher.old) (L.pending launcher.old) }
-    ensures records { Records L.Launcher R.StoreSpec numbered.plan numbered.width numbered.number
+    ensures records { ExecutesAndRecords L.Launcher R.StoreSpec numbered.plan numbered.width numbered.number
         (command_state launcher.old results.old (O.contents out.old))
         (command_state launcher.new results.new (O.contents out.new)) result.0 (is_err result.1) }
     ensures idle { IsIdle (L.running launcher.new) (L.pending launcher.new) }
@@ -96,7 +96,7 @@ fn write_totals_and_warnings<O: Write>(
     out: &mut O,
 ) -> Result<(), OutputFault>
     ensures { WritesNext (O.contents out.old) (is_err written) (O.contents out.new) (is_err result)
-        (ending totals.good totals.total totals.bad options.now.filters chosen.now.unmatched) }
+        (totals_and_warnings totals.good totals.total totals.bad options.now.filters chosen.now.unmatched) }
 {
     written?;
     write_totals(totals.good, totals.total, totals.bad, out)?;
@@ -126,7 +126,7 @@ fn run_plan<L: Launcher, R: ResultStore, O: Write>(
     requires moment { IsMoment planned.moment }
     requires idle { IsIdle (L.running launcher.old) (L.pending launcher.old) }
     ensures ran { ExecutesPlan L.Launcher R.StoreSpec
-        (run_for planned.entry.plan planned.entry.options.now planned.entry.picked.now
+        (planned_run planned.entry.plan planned.entry.options.now planned.entry.picked.now
         planned.entry.moment)
         (command_state launcher.old results.old (O.contents out.old))
         (command_state launcher.new results.new (O.contents out.new)) result.status }

@@ -1,5 +1,5 @@
 ghost use Rattle.std.specs.Prelude.{◌≡◌, Some};
-ghost use Rattle.kt_cli.specs.Common.{access_of, given_bytes, line_state, RunsArguments, ExecutesInFile, ExecutesOnHost, program, command_state, state, RejectsArguments};
+ghost use Rattle.kt_cli.specs.Common.{command_access, given_bytes, line_state, RunsArguments, ExecutesInFile, ExecutesOnHost, program, command_state, state, RejectsArguments};
 
 use crate::commands::reporting::execute_report;
 use crate::host::host_execution::create_world;
@@ -65,7 +65,7 @@ fn execute_over_store<M: HostFiles + Drop, O: Os + Drop, P: ResultsHost, S: Resu
 ///
 /// Only `test` and the reports have a results file.
 fn command_access(command: &Command) -> Access
-    ensures { result ≡ access_of command.now }
+    ensures { result ≡ command_access command.now }
 {
     if command.adds_run() {
         Access::Record

@@ -7,7 +7,7 @@ use kt_store::{Access, ResultStore, StoreFault};
 /// An implementation may return any result that the contracts allow. The contracts of commands hold
 /// for each such result.
 pub trait ResultsHost {
-    ghost use Rattle.kt_cli.specs.Platforms.{HostCall, Opened, Closed, Found};
+    ghost use Rattle.kt_cli.specs.Platforms.{HostCall, Opened, Closed, ReadProcessEnv};
 
     /// A store of the runs in an open results file.
     type Results: ResultStore + Drop;
@@ -48,5 +48,5 @@ pub trait ResultsHost {
     /// - `Failed`: the system returned no working directory.
     /// - `Memory`: an allocation fails.
     fn process_env(&mut self) -> Result<ProcessEnv, OsFault>
-        ensures { provides self.old (Found result) self.new };
+        ensures { provides self.old (ReadProcessEnv result) self.new };
 }

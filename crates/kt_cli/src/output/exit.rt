@@ -1,5 +1,5 @@
 ghost use Rattle.std.specs.Prelude.{◌≡◌, if◌then◌else◌, is_err};
-ghost use Rattle.kt_cli.specs.Testing.{exit_of};
+ghost use Rattle.kt_cli.specs.Testing.{exit_status};
 
 use kt_base::OutputFault;
 use kt_plan::CaseSelection;
@@ -15,12 +15,12 @@ pub struct Exit {
     pub status: u8,
 }
 
-/// Returns the exit status `due`, or 2 if `written`, the result of writing the output, is an error.
-pub fn exit_after_write(written: Result<(), OutputFault>, due: u8) -> Exit
-    ensures { result.status ≡ (if is_err written then 2 else due) }
+/// Returns the exit status `intended_exit`, or 2 if `written`, the result of writing the output, is an error.
+pub fn exit_after_write(written: Result<(), OutputFault>, intended_exit: u8) -> Exit
+    ensures { result.status ≡ (if is_err written then 2 else intended_exit) }
 {
     Exit {
-        status: if written.is_err() { FAILURE } else { due },
+        status: if written.is_err() { FAILURE } else { intended_exit },
     }
 }
 
@@ -29,7 +29,7 @@ pub fn exit_after_write(written: Result<(), OutputFault>, due: u8) -> Exit
 /// `bad` is the number of cases that failed or are broken. The status is 0 if `bad` is 0 and every
 /// filter selects a case, else 1.
 pub fn exit_status(bad: u64, chosen: &CaseSelection) -> u8
-    ensures { result ≡ exit_of bad chosen.now.unmatched }
+    ensures { result ≡ exit_status bad chosen.now.unmatched }
 {
     let unmatched = chosen.unmatched.as_slice();
     if bad == 0 && unmatched.is_empty() {

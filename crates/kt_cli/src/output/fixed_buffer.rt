@@ -14,7 +14,7 @@ pub const BUFFER_BYTES: usize = 65_536;
 #[derive(Drop)]
 pub struct FixedBuffer {
     /// The memory of the buffer, of which the first `count` bytes are in use.
-    room: [u8; BUFFER_BYTES],
+    memory: [u8; BUFFER_BYTES],
     /// The number of buffered bytes, at most 65,536.
     count: usize,
 }
@@ -24,7 +24,7 @@ impl Model for FixedBuffer {
 
     ghost Value = { List ℕ };
 
-    ghost view = { λ h. take h.count h.room };
+    ghost view = { λ h. take h.count h.memory };
 
     ghost invariant = { λ h. h.count ≤ 65536 };
 }
@@ -35,7 +35,7 @@ impl FixedBuffer {
         ensures { result ≡ [] }
     {
         FixedBuffer {
-            room: [0; BUFFER_BYTES],
+            memory: [0; BUFFER_BYTES],
             count: 0,
         }
     }
@@ -54,7 +54,7 @@ impl FixedBuffer {
         ensures { self.new ≡ self.old ++ more.now }
     {
         let count = self.count;
-        self.room[count..count + more.len()].copy_from_slice(more);
+        self.memory[count..count + more.len()].copy_from_slice(more);
         self.count = count + more.len();
     }
 
@@ -68,8 +68,8 @@ impl FixedBuffer {
         ensures short { result ≡ true → 0 < length self.new }
     {
         let count = self.count;
-        let (sent, failed) = write_until_failure(&self.room[..count], out);
-        self.room.copy_within(sent..count, 0);
+        let (sent, failed) = write_until_failure(&self.memory[..count], out);
+        self.memory.copy_within(sent..count, 0);
         self.count = count - sent;
         failed
     }

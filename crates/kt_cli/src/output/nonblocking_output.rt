@@ -27,7 +27,7 @@ pub struct NonblockingOutput<W> {
     held: Backlog,
     /// The maximum number of bytes in `held`: 1 MiB before the first call of `try_flush`, and no limit
     /// afterwards.
-    most: usize,
+    max_held_bytes: usize,
     /// Whether a write of the inner writer has failed.
     failed: bool,
 }
@@ -50,7 +50,7 @@ impl<W: NonblockingWriter> NonblockingOutput<W> {
         NonblockingOutput {
             out,
             held: Backlog::new(alloc),
-            most: MAX_HELD_BYTES,
+            max_held_bytes: MAX_HELD_BYTES,
             failed: false,
         }
     }
@@ -98,19 +98,19 @@ impl<W: NonblockingWriter> NonblockingOutput<W> {
             self.new) }
         ensures few { length (unsent_bytes self.new) ≤ length (unsent_bytes self.old) }
     {
-        self.most = usize::MAX;
+        self.max_held_bytes = usize::MAX;
         self.offer_repeatedly();
     }
 
     /// Moves all held bytes to the spool of the inner writer if they are more than the limit
-    /// `most`.
+    /// `max_held_bytes`.
     fn spool_excess(&mut self)
         ensures bytes { Keeps (accepted_bytes W.contents self.old) (accepted_bytes W.contents
             self.new) }
         ensures few { length (unsent_bytes self.new) ≤ length (unsent_bytes self.old) }
     {
         let held = self.held.as_slice();
-        if held.len() <= self.most {
+        if held.len() <= self.max_held_bytes {
             return;
         }
         match self.out.spool_bytes(held) {

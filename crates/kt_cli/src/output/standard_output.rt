@@ -26,7 +26,7 @@ pub struct StandardOutput<'a, R> {
     /// Writes to this descriptor don't wait, while writes to the inherited descriptor do. A
     /// terminal or pipe that can't be opened again is polled before each write. Polling alone is
     /// not enough for a terminal, which may be ready for one byte only.
-    again: Option<File>,
+    reopened: Option<File>,
     /// Whether standard output is a file or a device, whose writes wait for no reader.
     is_file: bool,
     /// The file with the bytes that the next write or flush writes first, if there are any.
@@ -63,9 +63,9 @@ fn is_pipe<R: Files>(rt: &R) -> bool {
 /// call fails.
 fn reopen_output<R: Files<File = File>>(rt: &R) -> Option<File> {
     let opened = OpenOptions::new().write(true).open(rt, PATH);
-    let again = opened.ok()?;
-    if os::set_nonblocking(again.as_raw_fd(), true) == 0 {
-        Some(again)
+    let reopened = opened.ok()?;
+    if os::set_nonblocking(reopened.as_raw_fd(), true) == 0 {
+        Some(reopened)
     } else {
         None
     }
@@ -98,7 +98,7 @@ impl<'a, R: Files<File = File>> StandardOutput<'a, R> {
     pub fn new(rt: &'a R) -> StandardOutput<'a, R> {
         StandardOutput {
             rt,
-            again: open_terminal(rt).or_else(|| open_pipe(rt)),
+            reopened: open_terminal(rt).or_else(|| open_pipe(rt)),
             is_file: is_file(rt),
             spool: None,
         }
@@ -132,8 +132,8 @@ impl<R: Env + Print> NonblockingWriter for StandardOutput<'_, R> {
         if self.spool.is_some() {
             return Ok(0);
         }
-        if let Some(again) = &mut self.again {
-            return match again.write(buf) {
+        if let Some(reopened) = &mut self.reopened {
+            return match reopened.write(buf) {
                 Err(fault) if fault.kind() == ErrorKind::WouldBlock => Ok(0),
                 answer => answer,
             };

@@ -10,12 +10,12 @@ use Rattle.sqlite_value.specs.declared.value.Value.{Value}
 use Rattle.kt_store.specs.Types.{AllByRecursion, Blob, Ghosts, Int, IsClean, IsIndex, IsShaped, KeepsSchema, Row, Trees, View, column, from_key, has_rowid, rowid}
 use Rattle.kt_store.specs.declared.result_store.RunHead.{RunHead}
 
--- `ends_with last end`: `true` if `end` can be the greatest key of the index of the table
+-- `is_possible_last_key last end`: `true` if `end` can be the greatest key of the index of the table
 -- `entries`. `last` is the head of the last run. If this run is finished and has cases, `end` must
 -- be the key of its last position. Otherwise, `end` must be below the key of the position
 -- `last.total`, at which the run can't have an entry.
-abbrev pub ends_with : RunHead → Row → Bool
-ends_with last end =
+abbrev pub is_possible_last_key : RunHead → Row → Bool
+is_possible_last_key last end =
     if last.finished && nat_lt 0 last.total then is_eq (prefix_cmp plain end (Int (pos last.number) ∷ Int (pos (last.total - 1)) ∷ []))
     else is_lt (prefix_cmp plain end (Int (pos last.number) ∷ Int (pos last.total) ∷ []))
 
@@ -33,14 +33,14 @@ has_prefix key e = is_eq (prefix_cmp plain e key)
 abbrev pub IsUniqueRow : List Row → Row → Type 0
 IsUniqueRow table row = (id : ℤ) × (rowid row ≡ Int id) × (filter (has_rowid id) table ≡ row ∷ [])
 
--- `IndexesRows columns key mine table index`: `mine` are the rows of `table` whose entries in
+-- `IndexesRows columns key matching table index`: `matching` are the rows of `table` whose entries in
 -- `index` begin with `key`. The rows have the order of `index` and lack their rowids. Their entries
 -- are the first from `key` on, and no later entry begins with `key`. An entry has the values of its
 -- row in the key columns, whose indexes are `columns`, and the row's rowid. No other row of `table`
 -- has this rowid.
-pub record IndexesRows (columns : List ℕ) (key : Row) (mine table index : List Row) : Type 0 where
+pub record IndexesRows (columns : List ℕ) (key : Row) (matching table index : List Row) : Type 0 where
   pub rows : List Row
-  pub are : map (drop 1) rows ≡ mine
+  pub are : map (drop 1) rows ≡ matching
   pub each : AllByRecursion (IsUniqueRow table) rows
   pub rest : List Row
   pub found : from_key plain key index ≡ map (entry_of columns) rows ++ rest
@@ -56,26 +56,26 @@ is_blob _ = false
 abbrev pub selected_columns : List ℕ → Row → Row
 selected_columns columns row = map (column row) columns
 
--- `SelectsColumns columns mine shown`: `mine` are some rows without their rowids. `shown` has the
+-- `SelectsColumns columns source shown`: `source` are some rows without their rowids. `shown` has the
 -- values in `columns` of these rows, in the same order.
 abbrev pub SelectsColumns : List ℕ → List Row → List Row → Type 0
-SelectsColumns columns mine shown = (rows : List Row) × (map (drop 1) rows ≡ mine) × (shown ≡ map (selected_columns columns) rows)
+SelectsColumns columns source shown = (rows : List Row) × (map (drop 1) rows ≡ source) × (shown ≡ map (selected_columns columns) rows)
 
 -- `SelectsUnderKey table index key columns trees shown`: `shown` has the values in `columns` of the
 -- rows whose index entries begin with `key`. The rows have the order of the index. `table` and
 -- `index` are the numbers of a table's tree and of its index's tree in `trees`. Nothing is stated
 -- unless `IndexesRows` holds for these trees.
 abbrev pub SelectsUnderKey : ℕ → ℕ → Row → List ℕ → Trees → List Row → Type 0
-SelectsUnderKey table index key columns trees shown = (cs : List ℕ) (mine : List Row)
-    → (IsShaped Table (trees table) → IsIndex plain (trees index) → IndexesRows cs key mine (trees table) (trees index)) → SelectsColumns columns mine shown
+SelectsUnderKey table index key columns trees shown = (cs : List ℕ) (matching : List Row)
+    → (IsShaped Table (trees table) → IsIndex plain (trees index) → IndexesRows cs key matching (trees table) (trees index)) → SelectsColumns columns matching shown
 
 -- `FindsFirstUnderKey table index key trees found`: `found` is the first row whose index entry
 -- begins with `key`, or `None` if there is no such row. `table` and `index` are the numbers of a
 -- table's tree and of its index's tree in `trees`. Nothing is stated unless `IndexesRows` holds for
 -- these trees.
 abbrev pub FindsFirstUnderKey : ℕ → ℕ → Row → Trees → Option Row → Type 0
-FindsFirstUnderKey table index key trees found = (cs : List ℕ) (mine : List Row)
-    → (IsShaped Table (trees table) → IsIndex plain (trees index) → IndexesRows cs key mine (trees table) (trees index)) → option_map (drop 1) found ≡ slice_get mine 0
+FindsFirstUnderKey table index key trees found = (cs : List ℕ) (matching : List Row)
+    → (IsShaped Table (trees table) → IsIndex plain (trees index) → IndexesRows cs key matching (trees table) (trees index)) → option_map (drop 1) found ≡ slice_get matching 0
 
 -- `CursorReturns key table old place row new found`: a cursor moves to the first of `old`, the
 -- index entries that it has not reached yet. If `found` is `true`, this entry is `place`, which
@@ -91,8 +91,8 @@ CursorReturns key table old place row new false = AllByRecursion (λ e. has_pref
 -- `key`. `table` and `index` are the numbers of a table's tree and of its index's tree in `trees`.
 -- Nothing is stated unless `IndexesRows` holds for these trees.
 abbrev pub CountsUnderKey : ℕ → ℕ → Row → Trees → ℕ → Type 0
-CountsUnderKey table index key trees n = (cs : List ℕ) (mine : List Row)
-    → (IsShaped Table (trees table) → IsIndex plain (trees index) → IndexesRows cs key mine (trees table) (trees index)) → n ≡ length mine
+CountsUnderKey table index key trees n = (cs : List ℕ) (matching : List Row)
+    → (IsShaped Table (trees table) → IsIndex plain (trees index) → IndexesRows cs key matching (trees table) (trees index)) → n ≡ length matching
 
 -- `IsLast rows found`: `found` is the last of `rows`, or `None` if there are no rows.
 abbrev pub IsLast : List Row → Option Row → Type 0

@@ -40,10 +40,10 @@ module _ {S : Type 0} (g : Ghosts S) where
   abbrev pub read_only_spec : store.Ghosts S
   read_only_spec = spec_over_trees HasRuns
 
-  -- `runs_file g`: the specification of a store that is read and written. It represents the runs of
+  -- `runs_file_spec g`: the specification of a store that is read and written. It represents the runs of
   -- its last commit. `g` is the specification of its trees.
-  abbrev pub runs_file : store.Ghosts S
-  runs_file = spec_over_trees HasCommitted
+  abbrev pub runs_file_spec : store.Ghosts S
+  runs_file_spec = spec_over_trees HasCommitted
 
 -- `AreNamed table at names`: from the index `at` on, the columns of `table` have the names `names`,
 -- in order.

@@ -15,7 +15,7 @@ use Rattle.kt_store.specs.Runs.{IsSchema2Of, HasSchemaNumber}
 use Rattle.kt_dbfile.specs.FailedOpen.{HoldsAsBefore}
 use Rattle.kt_store.specs.Ask.{IsDatabaseFault}
 use Rattle.kt_store.specs.Attaching.{InitialDatabase, Describes, AttachFails, AttachSucceeds}
-use Rattle.kt_store.specs.Files.{Follows, IsReadAs}
+use Rattle.kt_store.specs.Files.{IsConvertedStore, IsReadAs}
 use Rattle.kt_store.specs.Seeks.{HasCommitted, HoldsRuns}
 use Rattle.kt_store.specs.Stands.{StandsFor}
 use Rattle.kt_store.specs.TrustedContents.{ListsObjects}
@@ -94,9 +94,9 @@ IsAttached g conn it = (results : Held _) × ((was : InitialDatabase) → Descri
     × (IsClean (g.view it) → IsTrue (g.view it).is_numbered)
 
 -- `IsAttachedFiles conn it`: `Results::attach` succeeded on the connection `conn` to files. The
--- connection after this call was converted to the store `it`, as `Follows` states.
+-- connection after this call was converted to the store `it`, as `IsConvertedStore` states.
 abbrev pub IsAttachedFiles : {D : Type 0} {g : Ghosts D} → Held (FileStore D g) → FileStore D g → Type 0
-IsAttachedFiles conn it = (results : Held _) × ((was : InitialDatabase) → Describes was (file_state conn) → AttachSucceeds was (file_state conn) (file_state results)) × Follows results it
+IsAttachedFiles conn it = (results : Held _) × ((was : InitialDatabase) → Describes was (file_state conn) → AttachSucceeds was (file_state conn) (file_state results)) × IsConvertedStore results it
 
 -- `IsConvertedFrom g held it`: `it` is the store to which the connection `held` was converted. A
 -- crash of `it` leaves only trees that a crash of `held` may leave. If the disk has returned no

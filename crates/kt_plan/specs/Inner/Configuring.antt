@@ -48,12 +48,12 @@ abbrev pub config_or_error : Values → Option SelectionError → Result Values 
 config_or_error config None = Ok config
 config_or_error config (Some fault) = Err fault
 
--- `position_in fault`: the index of the filter that the error `fault` is about, in the command's
+-- `filter_index_of fault`: the index of the filter that the error `fault` is about, in the command's
 -- list of filters. It is 0 if `fault` has no index.
-abbrev pub position_in : FilterFault → ℕ
-position_in (Repeated position) = position
-position_in (NotDisjoint position) = position
-position_in other = 0
+abbrev pub filter_index_of : FilterFault → ℕ
+filter_index_of (Repeated position) = position
+filter_index_of (NotDisjoint position) = position
+filter_index_of other = 0
 
 -- `FindsOverlap words filters found`: `found` is the error of the command for the first filter in
 -- `filters` that may match the same case as an earlier filter. It is `None` if there is no such

@@ -1,5 +1,5 @@
 ghost use Rattle.std.specs.Prelude.{◌≡◌, ◌≤◌, ◌⊎◌, length, IfOk};
-ghost use Rattle.kt_plan.specs.Common.{IsIdle, IsNoMemory, item_limit, CollectsBetween, LeadsByCalls, IsFaultAt, no_memory, program_limit, HoldsOrNoMemory, IsNoMemoryError, IsLoadPrefix, Loads, IsSelectionPrefix, Selects, WorldLeads};
+ghost use Rattle.kt_plan.specs.Common.{IsIdle, IsNoMemory, item_limit, HasTreeSelection, LeadsByCalls, IsFaultAt, no_memory, program_limit, HoldsOrNoMemory, IsNoMemoryError, IsLoadPrefix, Loads, IsSelectionPrefix, Selects, WorldLeads};
 ghost use Rattle.kt_base.specs.declared.no_memory.NoMemory.{NoMemory as OutOfMemory};
 ghost use Rattle.kt_plan.specs.declared.selection_error.SelectionError.TheVariants as stop;
 
@@ -104,7 +104,7 @@ pub fn load_and_select<W: World>(
     world: &mut W,
 ) -> Result<CaseSelection, SelectionError>
     requires { IsIdle (W.running world.old) (W.pending world.old) }
-    ensures collected { CollectsBetween W.asks W.replies settings.now kyuafile.now
+    ensures collected { HasTreeSelection W.asks W.replies settings.now kyuafile.now
         world.old world.new result }
     ensures few { IfOk result (λ chosen. length chosen.cases ≤ item_limit) }
     ensures idle { IsIdle (W.running world.new) (W.pending world.new) }

@@ -1,5 +1,5 @@
 ghost use Rattle.std.specs.Prelude.{◌≡◌, ◌⊎◌, IfOk, IsErrAnd, length};
-ghost use Rattle.kt_plan.specs.Common.{position_in, FindsOverlap, filter_of, filters_of, names_one_case, is_case_missing, Filters, IsNoMemoryError};
+ghost use Rattle.kt_plan.specs.Common.{filter_index_of, FindsOverlap, filter_of, filters_of, names_one_case, is_case_missing, ParsesFilters, IsNoMemoryError};
 
 use crate::SelectionError;
 use kt_args::FilterRule;
@@ -44,7 +44,7 @@ fn parse_filters(
 /// Returns the index of the filter that `fault` is about, in the command's list of filters. Returns
 /// 0 if `fault` has no index.
 fn fault_position(fault: FilterFault) -> usize
-    ensures { result ≡ position_in fault }
+    ensures { result ≡ filter_index_of fault }
 {
     match fault {
         FilterFault::Repeated(position) | FilterFault::NotDisjoint(position) => position,
@@ -111,7 +111,7 @@ pub fn read_filters(
     rule: FilterRule,
     words: &[Text],
 ) -> Result<Items<Filter>, SelectionError>
-    ensures { IsErrAnd result IsNoMemoryError ⊎ Filters rule words.now result }
+    ensures { IsErrAnd result IsNoMemoryError ⊎ ParsesFilters rule words.now result }
 {
     let filters = parse_filters(alloc, words)??;
     if let Some(fault) = find_overlap(words, filters.as_slice())? {

@@ -1,5 +1,5 @@
 ghost use Rattle.std.specs.Prelude.{◌≡◌, ◌∷◌, [], MatchResult};
-ghost use Rattle.kt_plan.specs.Common.{LeadsByCalls, RecordsFound, ChecksNeeds, candidate_meta, needs_of_kinds, case_needs, needs_of_kind, needs_of_cases, Surveys, IsSurveyPrefix, IsCallPrefix, Finds, IsIdle};
+ghost use Rattle.kt_plan.specs.Common.{LeadsByCalls, RecordsFound, ChecksNeeds, candidate_meta, needs_of_kinds, case_needs, needs_of_kind, needs_of_cases, ProbesHost, IsProbePrefix, IsCallPrefix, Finds, IsIdle};
 
 use crate::{Candidate, World};
 use kt_base::{NoMemory, Text};
@@ -131,7 +131,7 @@ fn probe_all_needs<W: World>(
 pub fn probe_host<W: World>(alloc: Global, cases: &[Candidate], world: &mut W) -> Result<Host, NoMemory>
     requires { IsIdle (W.running world.old) (W.pending world.old) }
     ensures surveyed { LeadsByCalls W.replies world.old world.new (λ answers. MatchResult result
-        (Surveys cases.now answers) (λ _. IsSurveyPrefix cases.now answers)) }
+        (ProbesHost cases.now answers) (λ _. IsProbePrefix cases.now answers)) }
     ensures idle { IsIdle (W.running world.new) (W.pending world.new) }
 {
     let root = world.is_root();

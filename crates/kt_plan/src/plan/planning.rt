@@ -1,5 +1,5 @@
 ghost use Rattle.std.specs.Prelude.{◌≡◌, ◌≤◌, ◌&&◌, length, IfOk, MatchResult};
-ghost use Rattle.kt_plan.specs.Common.{Values, candidate_meta, first_reason, requirement_reason_texts, variables_for, IsPlan, item_limit, is_atf, ArePlanned, DecidesVerdict, IsJobOf, IsIdle, LeadsByCalls, Surveys, IsSurveyPrefix};
+ghost use Rattle.kt_plan.specs.Common.{Values, candidate_meta, first_reason, requirement_reason_texts, variables_for, IsPlan, item_limit, is_atf, ArePlanned, DecidesVerdict, IsJobOf, IsIdle, LeadsByCalls, ProbesHost, IsProbePrefix};
 ghost use Rattle.kt_metadata.specs.declared.host.Host.{Host as Surveyed};
 
 use crate::plan::looking::probe_host;
@@ -181,8 +181,8 @@ pub fn prepare_plan<W: World>(
     requires few { length cases.now ≤ item_limit }
     requires idle { IsIdle (W.running world.old) (W.pending world.old) }
     ensures planned { LeadsByCalls W.replies world.old world.new (λ answers. MatchResult result
-        (λ plan. (host : Surveyed) × Surveys cases.now answers host
-        × ArePlanned config.now host 0 cases.now plan) (λ _. IsSurveyPrefix cases.now answers)) }
+        (λ plan. (host : Surveyed) × ProbesHost cases.now answers host
+        × ArePlanned config.now host 0 cases.now plan) (λ _. IsProbePrefix cases.now answers)) }
     ensures plan { IfOk result (λ plan. IsPlan plan × (length plan ≡ length cases.now)) }
     ensures idle { IsIdle (W.running world.new) (W.pending world.new) }
 {

@@ -23,9 +23,9 @@ entry_columns e =
 abbrev pub output_columns : Entry → Row
 output_columns e = Blob e.body.out ∷ Blob e.body.err ∷ Blob e.cleanup.out ∷ Blob e.cleanup.err ∷ []
 
--- `whole_columns e`: the row of entry `e` in the result of the query for entries, with its outputs
-abbrev pub whole_columns : Entry → Row
-whole_columns e = entry_columns e ++ output_columns e
+-- `full_entry_columns e`: the row of entry `e` in the result of the query for entries, with its outputs
+abbrev pub full_entry_columns : Entry → Row
+full_entry_columns e = entry_columns e ++ output_columns e
 
 -- `pair_columns v`: the row of property `v` in the result of the query for properties: name and
 -- value

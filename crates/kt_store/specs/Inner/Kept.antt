@@ -12,11 +12,11 @@ IsNotBlank Blank = ⊥
 IsNotBlank _ = ⊤
 
 module _ {S : Type 0} (g : Ghosts S) (old new : Held S) where
-  -- `WasClean g old new`: `old` and `new` are a connection before and after a call. If the disk has
+  -- `WasCleanIfClean g old new`: `old` and `new` are a connection before and after a call. If the disk has
   -- returned no wrong data up to `new`, it had returned none up to `old`. `g` is the specification
   -- of connections.
-  abbrev pub WasClean : Type 0
-  WasClean = HasCleanDisk (state g new) → HasCleanDisk (state g old)
+  abbrev pub WasCleanIfClean : Type 0
+  WasCleanIfClean = HasCleanDisk (state g new) → HasCleanDisk (state g old)
 
   -- `CommitsNothing g old new`: a call led from connection `old` to `new` without a commit. A crash
   -- after the call leaves only what a crash before the call leaves, unless the disk has returned
@@ -47,7 +47,7 @@ module _ {S : Type 0} (g : Ghosts S) (old new : Held S) where
   -- nothing or rolls the open transaction back. Nothing is stated if the disk has returned wrong
   -- data up to `new`. `g` is the specification of connections.
   pub record ReadsSchemaNumber : Type 0 where
-    pub earlier : WasClean
+    pub earlier : WasCleanIfClean
     pub rests : (n : ℤ) → StoresSchemaNumber n (state g old) → HasCleanDisk (state g new) → IsUnchangedOrRolledBack (state g old) (state g new)
     pub crash : (n : ℤ) → StoresSchemaNumber n (state g old) → CommitsNothing
 

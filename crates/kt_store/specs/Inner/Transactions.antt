@@ -11,10 +11,10 @@ use Rattle.kt_store.specs.Types.{AllByRecursion, Entry, ExecutesInside, Ghosts, 
 abbrev pub Statement : Type 0
 Statement = List ℕ × Row × List (List ℕ)
 
--- `IsOurs sql`: the statement `sql` creates one of the four tables of schema 2, or SQLite can
+-- `IsSchema2Statement sql`: the statement `sql` creates one of the four tables of schema 2, or SQLite can
 -- prepare it over the tables of schema 2
-abbrev pub IsOurs : List ℕ → Type 0
-IsOurs sql = (sql ≡ create_meta_sql) ⊎ (sql ≡ create_runs_sql) ⊎ (sql ≡ create_entries_sql) ⊎ (sql ≡ create_props_sql) ⊎ IsPlain (understood schema_2 sql)
+abbrev pub IsSchema2Statement : List ℕ → Type 0
+IsSchema2Statement sql = (sql ≡ create_meta_sql) ⊎ (sql ≡ create_runs_sql) ⊎ (sql ≡ create_entries_sql) ⊎ (sql ≡ create_props_sql) ⊎ IsPlain (understood schema_2 sql)
 
 -- the statement that inserts a property of an entry into the table `props`
 abbrev pub insert_prop_sql : List ℕ

@@ -8,8 +8,8 @@ use Rattle.kt_dbfile.proofs.rules.apply_edit.Goals.{In-Some}
 use Rattle.kt_dbfile.proofs.rules.apply_edit.Goals as goal
 
 -- the table is at the index where it was looked up
-here : (g : Over) (c : In-Some g) → slice_get c.args.schema.now.tables c.args.edit.place ≡ Some c.in-Some.table.now
-here g c = ap (λ l. slice_get l c.args.edit.place) (sym c.as_slice.ensures) ∙ slice_get_read c.as_slice.result.now _ c.args.edit.place _ refl c.in-Some.ensures.lookup.3.0 c.in-Some.ensures.lookup.1
+here : (g : Over) (c : In-Some g) → slice_get c.args.schema.now.tables c.args.edit.table_index ≡ Some c.in-Some.table.now
+here g c = ap (λ l. slice_get l c.args.edit.table_index) (sym c.as_slice.ensures) ∙ slice_get_read c.as_slice.result.now _ c.args.edit.table_index _ refl c.in-Some.ensures.lookup.3.0 c.in-Some.ensures.lookup.1
 
 pub write-requires-clause-set_up : goal.write-requires-clause-set_up
 write-requires-clause-set_up g c clean =
@@ -48,8 +48,8 @@ returns-clause-puts g c clean table found =
     let old = (g.S.Store.view c.args.store.now).trees in
     let own = c.in-Some.table.now in
     let one : own ≡ table = let e : Some own ≡ Some table = sym (here g (goal.at.returns-clause-puts g c).In-Some) ∙ found in cc in
-    subst (λ (t : Table). Writes c.args.schema.now Enforced old (edit_of old t c.args.edit.gone.now c.args.edit.rowids c.args.edit.from c.args.edit.sources.now) (Ok (g.S.Store.view c.are_kept.new.store).trees)) one
-    (subst (λ (t : Trees). Writes c.args.schema.now Enforced old (edit_of old own c.args.edit.gone.now c.args.edit.rowids c.args.edit.from c.args.edit.sources.now) (Ok t)) (sym (ap (λ (v : View). v.trees) same)) (c.in_ok-write.ensures.ok (omega arith)))
+    subst (λ (t : Table). Writes c.args.schema.now Enforced old (edit_of old t c.args.edit.removed_rowids.now c.args.edit.rowids c.args.edit.first_column c.args.edit.sources.now) (Ok (g.S.Store.view c.are_kept.new.store).trees)) one
+    (subst (λ (t : Trees). Writes c.args.schema.now Enforced old (edit_of old own c.args.edit.removed_rowids.now c.args.edit.rowids c.args.edit.first_column c.args.edit.sources.now) (Ok t)) (sym (ap (λ (v : View). v.trees) same)) (c.in_ok-write.ensures.ok (omega arith)))
 
 pub returns-clause-obeys : goal.returns-clause-obeys
 returns-clause-obeys g c clean =

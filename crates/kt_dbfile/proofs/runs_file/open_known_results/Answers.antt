@@ -13,7 +13,7 @@ returns-in-Ok-clause-found g c =
       held = opens_runs (image_of g.D.Disk c.args.files) c.in-Ok-Ok.store r found.0 settled (rw c.in-Ok-Ok.field-0-is at over.unbroken) (rw c.in-Ok-Ok.field-0-is at over.opens);
       whose = inl (record {
         lists = λ clean. (rw c.in-Ok-Ok.field-0-is at over.lists) (found.0.clean clean);
-        says = λ opened.
+        schema = λ opened.
             let clean = clean_if_open (view r) (shut_if_dirty_at r) opened in
             subst (HasSchemaNumber (pos 2)) (settled ∙ sym (found.0.held clean opened).1) (found.1 clean);
       });

@@ -1,4 +1,4 @@
-use Rattle.kt_doubles.proofs.EmptyPlaces.{all_same}
+use Rattle.kt_doubles.proofs.FreeSlots.{all_same}
 use Rattle.kt_doubles.specs.declared.children.ChildSlot.TheVariants.{Free}
 use Rattle.kt_doubles.proofs.children.create_free_slots.Goals as goal
 

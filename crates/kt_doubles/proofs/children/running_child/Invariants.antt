@@ -4,4 +4,4 @@ use Rattle.kt_doubles.proofs.children.running_child.Given as goal
 
 -- No child runs at a position below `k`.
 abbrev pub invariant-loop-k : goal.invariant-loop-k
-invariant-loop-k l = (i : ℕ) (r : Role) → i < l.k → running_child_at l.places i r ≡ None
+invariant-loop-k l = (i : ℕ) (r : Role) → i < l.k → running_child_at l.slots i r ≡ None

@@ -1,7 +1,7 @@
 use Rattle.std.proofs.Common.{false, ap}
 use Rattle.kt_report.specs.Cases.{with_outputs}
 use Rattle.kt_report.specs.Junits.{case_bytes}
-use Rattle.kt_report.proofs.Outlines.{same_text, same_heading}
+use Rattle.kt_report.proofs.HiddenParts.{same_text, same_heading}
 use Rattle.kt_report.proofs.text_report.theorem_of_hidden_parts.Goals as goal
 
 pub returns-clause-text : goal.returns-clause-text

@@ -1,4 +1,4 @@
-use Rattle.kt_store.proofs.Common.{Tables, arith, bound, state}
+use Rattle.kt_store.proofs.Common.{IsSchema2Database, arith, bound, state}
 use Rattle.kt_store.proofs.AskLemmas.{asked_mid, asked_stands, asked_survives}
 use Rattle.kt_store.proofs.StepLemmas.{rests_hold}
 use Rattle.kt_store.proofs.statements.query.Goals as goal
@@ -14,7 +14,7 @@ returns-clause-shown g c runs has clean =
 
 pub returns-in_err-rows-clause-looked : goal.returns-in_err-rows-clause-looked
 returns-in_err-rows-clause-looked g c = record {
-  stands = λ runs has. rests_hold (λ db. Tables db runs) (state g.S.Store c.args.conn.now) (state g.S.Store c.execute_query.new.conn) has (λ k. omega (arith, k, c.execute_query.ensures.survives.clean)) c.in_err-rows.ensures.rests;
+  stands = λ runs has. rests_hold (λ db. IsSchema2Database db runs) (state g.S.Store c.args.conn.now) (state g.S.Store c.execute_query.new.conn) has (λ k. omega (arith, k, c.execute_query.ensures.survives.clean)) c.in_err-rows.ensures.rests;
   crash = λ runs has. asked_survives g.S.Store c.args.conn.now c.execute_query.new.conn runs has (λ k. omega (arith, k, c.execute_query.ensures.survives.clean)) c.args.sql.now c.requires.plain (bound c.args.params.now) c.execute_query.ensures.survives;
 }
 

@@ -14,7 +14,7 @@ pub returns-in_default-clause-asked : goal.returns-in_default-clause-asked
 returns-in_default-clause-asked g c =
     let a : c.as_slice-cases.result.now ≡ c.in-Ok.picked.chosen.cases = search rules in
     picked_only (world_of g.W.Tree g.W.Launcher g.W.World) _ OneCase c.args.options.now _ _ _ _ _ c.in-Ok.picked _ _
-    (λ failed questions s k. nothing_to_debug c.args.options.now c.in-Ok.picked s (sym a ∙ nil_from_length _ c.in_default.ensures.cases) k) c.in-Ok.ensures.selects
+    (λ failed world_calls s k. nothing_to_debug c.args.options.now c.in-Ok.picked s (sym a ∙ nil_from_length _ c.in_default.ensures.cases) k) c.in-Ok.ensures.selects
     (printed_as _ _ _ _ _ _ _ c.write_warnings.ensures refl c.exit_after_write.ensures)
 
 pub returns-in-Err-prepare_plan-clause-asked : goal.returns-in-Err-prepare_plan-clause-asked

@@ -8,12 +8,12 @@ returns-clause-debugged g c =
     let k = debug_ends _ (λ s. is_err s.written) (λ s. g.O.Write.contents s.out.now) (λ s. s.out.ghost_name) (λ s t e r h. h)
     c.args.plan w.trace w.gained c.run_cases-answer.result _ c.run_cases-answer.new.sink w.are w.ends in
     let n = k.printed.same_out in
-    let s = k.printed.says in
+    let s = k.printed.written in
     let m = s.more in
     record {
       trace = w.trace;
       leads = w.leads;
       entries = w.gained;
       ends = k.ends;
-      says = search (rules, s, n);
+      written = search (rules, s, n);
     }

@@ -1,11 +1,11 @@
 use Rattle.std.proofs.Common.{rules, ◌≡◌, true, false, refl}
-use Rattle.kt_cli.proofs.Common.{ReportCompletes, not_shown}
+use Rattle.kt_cli.proofs.Common.{PrintsReport, not_shown}
 use Rattle.kt_cli.proofs.ShownRuns.{did_show, did_not_show, did_show_pairs, did_refuse_pairs, did_stop_pairs}
 use Rattle.kt_cli.proofs.commands.reporting.report.Goals as goal
 
 pub returns-in-Err : goal.returns-in-Err
 returns-in-Err g c =
-    did_not_show g.R.StoreSpec c.args.number _ _ _ _ _ (λ failed. ReportCompletes c.args.number c.args.kinds.now failed c.args.verbose)
+    did_not_show g.R.StoreSpec c.args.number _ _ _ _ _ (λ failed. PrintsReport c.args.number c.args.kinds.now failed c.args.verbose)
     c.in-Err.why _ (not_shown c.args.verbose) c.in-Err.ensures c.write_report_error.ensures c.exit_after_write.ensures
 
 pub returns-then-not-verbose : goal.returns-then-not-verbose

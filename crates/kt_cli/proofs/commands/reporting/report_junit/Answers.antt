@@ -1,12 +1,12 @@
 use Rattle.std.proofs.Common.{refl}
-use Rattle.kt_cli.proofs.Common.{JunitCompletes}
+use Rattle.kt_cli.proofs.Common.{PrintsJunitReport}
 use Rattle.kt_cli.specs.Reports.{not_shown}
 use Rattle.kt_cli.proofs.ShownRuns.{did_show_junit, did_not_show, did_refuse, did_cut, did_stop}
 use Rattle.kt_cli.proofs.commands.reporting.report_junit.Goals as goal
 
 pub returns-in-Err : goal.returns-in-Err
 returns-in-Err g c =
-    did_not_show g.R.StoreSpec c.args.number _ _ _ _ _ (JunitCompletes c.args.number) c.in-Err.why _ not_shown
+    did_not_show g.R.StoreSpec c.args.number _ _ _ _ _ (PrintsJunitReport c.args.number) c.in-Err.why _ not_shown
     c.in-Err.ensures c.write_report_error.ensures c.exit_after_write.ensures
 
 pub returns-in-Ok-write_junit : goal.returns-in-Ok-write_junit

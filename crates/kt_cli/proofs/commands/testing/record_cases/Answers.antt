@@ -14,6 +14,6 @@ returns-clause-records g c =
       entries = w.gained;
       last = k.last;
       stored = search (rules, k.gained.same_store, k.gained.stored);
-      says = search (rules, k.gained.same_out, k.gained.says);
+      written = search (rules, k.gained.same_out, k.gained.written);
       ends = k.ends;
     }

@@ -1,5 +1,5 @@
 use Rattle.kt_dbfile.proofs.Common.{IsTrustedImage, subst, sym, ◌≡◌}
-use Rattle.kt_store.specs.Files.{Finds}
+use Rattle.kt_store.specs.Files.{RepresentsImage}
 use Rattle.kt_dbfile.specs.Common.{FailsToOpen, image_at}
 use Rattle.kt_dbfile.proofs.FailLemmas.{as_left, left_before}
 use Rattle.kt_dbfile.proofs.OpeningLemmas.{as_found}
@@ -12,7 +12,7 @@ open_results-requires-clause-held g c =
 
 pub returns-in-Ok-open_results-clause-opened : goal.returns-in-Ok-open_results-clause-opened
 returns-in-Ok-open_results-clause-opened g c =
-    subst (λ i. Finds i c.in-Ok-open_results.it) (as_found g.S.Start.log g.S.Start.db c.in-Ok-open_files.ensures.fresh) c.in-Ok-open_results.ensures.opened
+    subst (λ i. RepresentsImage i c.in-Ok-open_results.it) (as_found g.S.Start.log g.S.Start.db c.in-Ok-open_files.ensures.fresh) c.in-Ok-open_results.ensures.opened
 
 -- a crash before the open left the first contents
 pub returns-in-Err-open_results-clause-left : goal.returns-in-Err-open_results-clause-left

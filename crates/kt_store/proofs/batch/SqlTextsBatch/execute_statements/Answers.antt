@@ -1,8 +1,8 @@
-use Rattle.kt_store.proofs.Common.{AllByRecursion, IsOurs, List, [], arith, drop, get_or, length, map, plain_statements, subst, suc, zero, ℕ, ◌+◌, ◌<◌, ◌∙◌, ◌∷◌}
+use Rattle.kt_store.proofs.Common.{AllByRecursion, IsSchema2Statement, List, [], arith, drop, get_or, length, map, plain_statements, subst, suc, zero, ℕ, ◌+◌, ◌<◌, ◌∙◌, ◌∷◌}
 use Rattle.kt_store.proofs.CommitLemmas.{SoFar, one_done, texts_at}
 use Rattle.kt_store.proofs.batch.SqlTextsBatch.execute_statements.Goals as goal
 
-each_is : {T : Type 0} (see : T → List ℕ) (i : ℕ) (vs : List T) (d : T) → AllByRecursion IsOurs (map see vs) → i < length vs → IsOurs (see (get_or vs i d))
+each_is : {T : Type 0} (see : T → List ℕ) (i : ℕ) (vs : List T) (d : T) → AllByRecursion IsSchema2Statement (map see vs) → i < length vs → IsSchema2Statement (see (get_or vs i d))
 each_is see i [] d all low = absurd (omega (arith, low))
 each_is see zero (v ∷ vs) d all low = all.0
 each_is see (suc i) (v ∷ vs) d all low = each_is see i vs d all.1 (omega (arith, low))

@@ -14,7 +14,7 @@ moved (Some xs) (Some ys) held n h = ap (λ l. l ++ drop n held) h ∙ append_as
 
 pub returns-clause-bytes : goal.returns-clause-bytes
 returns-clause-bytes g c =
-    let all = c.self.inside.room in
+    let all = c.self.inside.memory in
     let count = c.self.inside.count in
     let from = c.write_until_failure-sent.result.0 in
     let size : length (take count all) ≡ count = length-take-le count all (omega (arith, c.self.invariant, c.self.told)) in

@@ -1,8 +1,8 @@
 -- The parts of entries that a report doesn't contain don't change the report.
 use Rattle.std.proofs.Common.{codes, flat_map, fold, if◌then◌else◌, ◌≡◌, ℕ, ◌+◌, Bool, true, false, cond, List, [], ◌∷◌, ◌++◌, length, map, refl, ap, ap₂, ◌∙◌}
-use Rattle.kt_report.proofs.Common.{decimal, list_any, length-map, Date, Entry, Kind, Skipped, ExpectedFailure, Failed, Broken, seconds, heading, entry_bytes, is_same_kind, has_kind, entries_of, order, title_line, titled_section, section, kind_count_bytes, totals_bytes, summary_title_bytes, text_bytes}
+use Rattle.kt_report.proofs.Common.{decimal, list_any, length-map, Date, Entry, Kind, Skipped, ExpectedFailure, Failed, Broken, seconds_bytes, junit_start, entry_bytes, is_same_kind, has_kind, entries_of, section_order, title_line, titled_section, section, kind_count_bytes, totals_bytes, summary_title_bytes, text_bytes}
 use Rattle.kt_base.specs.declared.entry.Run.{Run}
-use Rattle.kt_report.specs.Outlines.{ChangesHiddenParts, with_entries}
+use Rattle.kt_report.specs.HiddenParts.{ChangesHiddenParts, with_entries}
 
 one : (v : Bool) (change : Entry → Entry) → ChangesHiddenParts v change → (e : Entry) → entry_bytes v (change e) ≡ entry_bytes v e
 one false change same e = ap (entry_bytes false) (same e)
@@ -49,8 +49,8 @@ module _ (v : Bool) (change : Entry → Entry) (same : ChangesHiddenParts v chan
 
   pub same_text : (date : Date) (kinds : List Kind) (run : Run) → text_bytes date kinds v (with_entries change run) ≡ text_bytes date kinds v run
   same_text date kinds run =
-      ap₂ (λ x y. x ++ y) (each_section kinds order run.entries)
-      (ap₂ (λ x y. summary_title_bytes date run ++ x ++ codes "Total time: " ++ seconds y ++ codes "s\n") (all_counts run.entries) (times 0 run.entries))
+      ap₂ (λ x y. x ++ y) (each_section kinds section_order run.entries)
+      (ap₂ (λ x y. summary_title_bytes date run ++ x ++ codes "Total time: " ++ seconds_bytes y ++ codes "s\n") (all_counts run.entries) (times 0 run.entries))
 
-  pub same_heading : (run : Run) → heading (with_entries change run) ≡ heading run
+  pub same_heading : (run : Run) → junit_start (with_entries change run) ≡ junit_start run
   same_heading run = rw (length-map run.entries change, one_count Failed run.entries, one_count Broken run.entries, one_count Skipped run.entries) refl
