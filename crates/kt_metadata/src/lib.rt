@@ -23,4 +23,4 @@ pub use props::Props;
 pub use requirements::unmet;
 pub use table::is_kyuafile_property;
 pub use value::RequiredUser;
-pub use values::theorem_of_words;
+pub use values::theorem_of_unique_elements;

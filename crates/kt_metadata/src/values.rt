@@ -69,7 +69,7 @@ pub fn split_elements(alloc: Global, text: &Text) -> Result<Items<Text>, NoMemor
 /// Theorem: by the relation `AreElements`, each text has exactly one list of elements.
 ///
 /// The definition `list_elements` returns this list.
-pub fn theorem_of_words()
+pub fn theorem_of_unique_elements()
     ensures words { (text : List ℕ) → AreElements text (list_elements text) }
     ensures only { (text : List ℕ) → (found : List (List ℕ)) → AreElements text found
         → found ≡ list_elements text }

@@ -129,7 +129,7 @@ impl Removals {
 
     /// Opens the directory `path` to read the names of its entries. Returns `None` if that fails,
     /// or if [`Self::make_accessible`] returns `false`.
-    pub(crate) fn open_names<R: Files>(&self, rt: &R, path: &Text) -> Option<R::Dir>
+    pub(crate) fn open_directory<R: Files>(&self, rt: &R, path: &Text) -> Option<R::Dir>
         requires { MayEmpty self.now path.now }
     {
         if !self.make_accessible(rt, path) {

@@ -285,7 +285,7 @@ impl Removals {
         requires { MayEmpty self.old directory.now }
         ensures stays { KeepsQueue self.old self.new }
     {
-        let Some(mut names) = self.open_names(rt, directory) else {
+        let Some(mut names) = self.open_directory(rt, directory) else {
             return true;
         };
         for _ in 0..bound.micros {
@@ -331,7 +331,7 @@ impl Removals {
     ///
     /// Returns `true` if another step may follow within the time limit `bound`. If the allocation
     /// of the path fails, the next step tries the directory again.
-    fn process_next_number<R: Files + Clock + AllocGlobal>(&mut self, rt: &R, bound: &mut RemovalLimit) -> bool
+    fn empty_or_skip_next_dir<R: Files + Clock + AllocGlobal>(&mut self, rt: &R, bound: &mut RemovalLimit) -> bool
         requires { self.old.current_number < self.old.next_number }
         ensures root { self.new.root ≡ self.old.root }
         ensures queue_dir { self.new.queue_dir ≡ self.old.queue_dir }
@@ -362,7 +362,7 @@ impl Removals {
                 self.current_number = self.next_number;
                 return;
             }
-            if !self.process_next_number(rt, bound) {
+            if !self.empty_or_skip_next_dir(rt, bound) {
                 return;
             }
         }

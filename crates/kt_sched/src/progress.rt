@@ -78,7 +78,7 @@ pub fn stage_after_end(alloc: Global, was: Stage, cleanup: bool, ended: Ended) -
 /// `active` is the number of active cases before the event, and `width` is the greatest number of
 /// active cases. `before` is `true` if the case of the event was active before the event. `stage`
 /// is the new stage of that case.
-pub fn count_active(active: u32, width: u32, before: bool, stage: &Stage) -> u32
+pub fn active_after_event(active: u32, width: u32, before: bool, stage: &Stage) -> u32
     requires less { before ≡ true → 0 < active }
     requires more { before ≡ false → active < width }
     ensures { result + cond before 1 0 ≡ active + cond (is_active_stage stage.now) 1 0 }

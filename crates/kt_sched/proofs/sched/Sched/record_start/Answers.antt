@@ -6,7 +6,7 @@ use Rattle.kt_sched.proofs.sched.Sched.record_start.Goals as goal
 pub returns : goal.returns
 returns c =
     started c.self.view_is c.self.invariant c.args.i c.args.role c.args.answer c.stage_after_start.result c.requires c.index_mut-case.ensures.value c.replace-was.ensures.value
-    (c.stage_after_start.ensures c.args.i) c.turn_after_start-self-inside.ensures (c.eq.ensures ∙ is_cleanup c.args.role) c.count_active-self-inside.ensures
+    (c.stage_after_start.ensures c.args.i) c.turn_after_start-self-inside.ensures (c.eq.ensures ∙ is_cleanup c.args.role) c.active_after_event-self-inside.ensures
     c.pending_and_ready_cases.ensures.owing c.pending_and_ready_cases.ensures.ready
 
 pub invariant_of-self : goal.invariant_of-self
@@ -23,6 +23,6 @@ pub turn_after_start-self-inside-requires : goal.turn_after_start-self-inside-re
 turn_after_start-self-inside-requires c = λ r.
     omega (arith, c.len.ensures, (start_fits c.self.view_is c.self.invariant c.args.i c.args.role c.requires c.index_mut-case.ensures.value c.replace-was.ensures.value).turn r)
 
-pub count_active-self-inside-requires-clause-less : goal.count_active-self-inside-requires-clause-less
-count_active-self-inside-requires-clause-less c = λ e.
+pub active_after_event-self-inside-requires-clause-less : goal.active_after_event-self-inside-requires-clause-less
+active_after_event-self-inside-requires-clause-less c = λ e.
     start_active c.self.view_is c.self.invariant c.args.i c.args.role c.requires c.index_mut-case.ensures.value (sym (c.eq.ensures ∙ is_cleanup c.args.role) ∙ e)
