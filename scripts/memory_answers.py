@@ -33,14 +33,14 @@ KINDS = "passed|skipped|expected_failure|failed|broken"
 
 # The messages of kt_rows for a part of the example itself that could not be made.
 SETUPS = {
-    "commands": ["no statement failed", "there is no store", "its tables are not taken",
-                 "its runs can not be told", "its entries can not be told", "it does not open again", "it can not be attached again",
+    "commands": ["no statement failed", "there is no store", "its tables are not attached",
+                 "its runs can't be read", "its entries can't be read", "it does not open again", "it can not be attached again",
                  "the old store is not made", "its trees can't be read"],
-    "filters": ["a filter that is refused is asked for by `read`"],
+    "filters": ["a rejected filter is only allowed with `read`"],
     "lists": ["there is no such property or value"],
     "openings": ["no statement failed"],
     "properties": ["there is no such property or value", "there is no such variable"],
-    "stores": ["no tables were taken", "the statement fails", "no statement failed", "its trees can't be read"],
+    "stores": ["no tables are attached", "the statement fails", "no statement failed", "its trees can't be read"],
 }
 
 

@@ -30,7 +30,7 @@ fn parse_item(alloc: Global, raw: &str) -> Result<Item> {
 /// if `Filter::parse` rejects the text.
 fn parse_filter(alloc: Global, raw: &str) -> Result<Filter> {
     let filter = Filter::parse(alloc, &unescape_text(alloc, raw)?).ok();
-    require_part(filter, "a filter that is refused is asked for by `read`")
+    require_part(filter, "a rejected filter is only allowed with `read`")
 }
 
 /// Decodes the escapes of `raw`, parses the text as a filter, and appends its parts, as `d/b, case

@@ -344,6 +344,6 @@ pub fn push_output(out: &mut ExampleOutput, example: &Example<'_>) -> Result<()>
         "plan" => push_plan_output(out, example, scene),
         "list" => push_list_output(out, example, &scene),
         "reader" => push_read_output(out, example),
-        _ => Err(ExampleFault::InvalidExample("nothing like that is asked of a system")),
+        _ => Err(ExampleFault::InvalidExample("no such example of a system")),
     }
 }

@@ -31,7 +31,7 @@ fn is_last_example_incomplete(examples: &[Example<'_>]) -> bool {
 /// Appends the line `expected` to the expected output of the last example. Fails if there is no
 /// example yet.
 fn push_output_line<'a>(examples: &mut Vec<Example<'a>>, expected: &'a str) -> Result<()> {
-    let fault = ExampleFault::InvalidExample("an answer without a question");
+    let fault = ExampleFault::InvalidExample("expected output without input");
     convert_error(examples.last_mut().ok_or(fault)?.expected.push(expected))
 }
 
@@ -98,7 +98,7 @@ pub fn parse_examples<'a>(
     if is_last_example_incomplete(&examples) {
         return Err((
             number,
-            ExampleFault::InvalidExample("the last row has no answer"),
+            ExampleFault::InvalidExample("the last example has no expected output"),
         ));
     }
     Ok(examples)

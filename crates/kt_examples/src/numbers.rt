@@ -11,7 +11,7 @@ use std::alloc::Global;
 ///
 /// - `InvalidExample`: `text` isn't such a number.
 pub fn parse_number(text: &str) -> Result<u64> {
-    require_part(text.parse::<u64>().ok(), "a number is due")
+    require_part(text.parse::<u64>().ok(), "a number is expected")
 }
 
 /// Parses `text` as a number from 0 to 2^32 - 1. Allocates nothing.

@@ -239,7 +239,7 @@ impl DiskTrial<'_> {
             "there is no store",
         )?;
         Ok(BaselineRun {
-            test_result: require_part(whole.test_result, "its tables are not taken")?,
+            test_result: require_part(whole.test_result, "its tables are not attached")?,
             initial_runs,
             remaining_runs: whole.remaining_runs,
         })

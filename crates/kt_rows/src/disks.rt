@@ -141,7 +141,7 @@ fn push_run_texts<S: Alter>(
     head: &RunHead,
 ) -> Result<()> {
     let Ok(found) = results.entries(head.number) else {
-        return Err(ExampleFault::InvalidExample("its entries can not be told"));
+        return Err(ExampleFault::InvalidExample("its entries can't be read"));
     };
     let text = format!(in alloc;
         "run {} at {}, {} cases",
@@ -161,7 +161,7 @@ fn push_run_texts<S: Alter>(
 /// of the store `results`.
 fn run_texts<S: Alter>(alloc: Global, results: &mut Results<S>) -> Result<Vec<String>> {
     let Ok(heads) = results.runs() else {
-        return Err(ExampleFault::InvalidExample("its runs can not be told"));
+        return Err(ExampleFault::InvalidExample("its runs can't be read"));
     };
     let mut texts = Vec::new(alloc);
     for head in heads.as_slice() {

@@ -72,7 +72,7 @@ fn push_bytes_output(
         }
         "send" => push_send_output(out, example, &bytes),
         "emit" => push_printed_text(out, &[bytes], false),
-        _ => Err(ExampleFault::InvalidExample("nothing like that is asked of a reason")),
+        _ => Err(ExampleFault::InvalidExample("no such example of a reason")),
     }
 }
 

@@ -127,7 +127,7 @@ fn execute_store_line<S: Alter + Drop>(
             Ok(OpenStore::Detached(connection))
         }
         _ => match store {
-            OpenStore::Detached(_) => Err(ExampleFault::InvalidExample("no tables were taken")),
+            OpenStore::Detached(_) => Err(ExampleFault::InvalidExample("no tables are attached")),
             OpenStore::Attached(results) => execute_by_sql(out, results, line, content),
             OpenStore::Trees(file) => Ok(OpenStore::Trees(execute_call(out, file, line, content)?)),
         },
