@@ -7,16 +7,16 @@ use Rattle.kt_args.specs.declared.filter_rule.FilterRule.{FilterRule}
 use Rattle.kt_args.specs.declared.filter_rule.FilterRule.TheVariants.{AnyFilters, OneCase}
 use Rattle.kt_args.specs.declared.command.Command.TheVariants as command
 
--- `case_options_of c`: the options of the command `c` if it is `list`, `test` or `debug`, and otherwise
--- `None`.
+-- `case_options_of c`: the options of the command `c` if it is `list`, `test` or `debug`, and
+-- otherwise `None`.
 abbrev pub case_options_of : Command → Option CaseOptions
 case_options_of (command.List options) = Some options
 case_options_of (command.Test options file) = Some options
 case_options_of (command.Debug options) = Some options
 case_options_of other = None
 
--- `results_file_of c`: the path of the results file that the command `c` reads or writes, or `None` if
--- it uses no results file.
+-- `results_file_of c`: the path of the results file that the command `c` reads or writes, or `None`
+-- if it uses no results file.
 abbrev pub results_file_of : Command → Option (List ℕ)
 results_file_of (command.Test options file) = Some file
 results_file_of (command.Report options kinds verbose) = Some options.results

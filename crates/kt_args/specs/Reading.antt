@@ -56,9 +56,9 @@ kinds_option (Some word) = kinds_of_elements (comma_elements word)
 
 -- ---- commands
 
--- `case_options_in before own`: the options and arguments of `list`, `test` or `debug`. `before` are the
--- options before the command's name, and `own` are the options and arguments after it, with their
--- values.
+-- `case_options_in before own`: the options and arguments of `list`, `test` or `debug`. `before`
+-- are the options before the command's name, and `own` are the options and arguments after it, with
+-- their values.
 abbrev pub case_options_in : List Row → List Row → CaseOptions
 case_options_in before own = record {
   config = option_text (codes "config") before;
@@ -131,17 +131,17 @@ command_in before (Some entered) = command_named before entered.0 entered.1
 
 -- ---- results
 
--- `ParsesCommand words result`: `result` is the result of parsing the arguments `words`. If `clap` rejects
--- the arguments, `result` is `Usage`. Otherwise, `result` is the command with the values that
--- `clap` finds, or the error of this command. `result` may also be `NoMemory`.
+-- `ParsesCommand words result`: `result` is the result of parsing the arguments `words`. If `clap`
+-- rejects the arguments, `result` is `Usage`. Otherwise, `result` is the command with the values
+-- that `clap` finds, or the error of this command. `result` may also be `NoMemory`.
 abbrev pub ParsesCommand : List Text → Result Command CommandFault → Type 0
 ParsesCommand words (Err (fault.NoMemory shortage)) = ⊤
 ParsesCommand words (Err (fault.Usage message)) = fault_of kyua_app words ≢ []
 ParsesCommand words result =
     (fault_of kyua_app words ≡ []) × (result ≡ command_in (matches_of kyua_app words) (subcommand_of kyua_app words))
 
--- `IsArgsFault out_of_memory fault`: `fault`, an error of a command line, is `Usage` or `NoMemory`. It is
--- `NoMemory` if `out_of_memory`, the condition that memory ran short, is true.
+-- `IsArgsFault out_of_memory fault`: `fault`, an error of a command line, is `Usage` or `NoMemory`.
+-- It is `NoMemory` if `out_of_memory`, the condition that memory ran short, is true.
 abbrev pub IsArgsFault : Type 0 → CommandFault → Type 0
 IsArgsFault out_of_memory (fault.NoMemory shortage) = ⊤
 IsArgsFault out_of_memory (fault.Usage message) = out_of_memory → ⊥

@@ -22,7 +22,8 @@ pub struct ParserAllocationFailure {
 #[derive(Clone, Copy, Debug)]
 struct ParserSeal;
 
-/// Errors returned by [`read_command`](crate::read_command) and [`read_process_args`](crate::read_process_args).
+/// Errors returned by [`read_command`](crate::read_command) and
+/// [`read_process_args`](crate::read_process_args).
 #[derive(Debug, Drop, Error)]
 #[error("{}", self.message())]
 pub enum CommandFault {

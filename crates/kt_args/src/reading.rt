@@ -124,7 +124,10 @@ fn parse_run_option<'a>(matches: &ArgMatches<'a>) -> Result<Option<u64>, Command
 ///
 /// Returns the default kinds if the option is not given. Fails with `BadKind` if an element of the
 /// value does not name a kind.
-fn parse_kinds_option<'a>(alloc: Global, matches: &ArgMatches<'a>) -> Result<Items<Kind>, CommandFault>
+fn parse_kinds_option<'a>(
+    alloc: Global,
+    matches: &ArgMatches<'a>,
+) -> Result<Items<Kind>, CommandFault>
     ensures { ParsesKinds (kinds_option (first_of (codes "kinds") (rows_of (found_of matches.now))))
         result }
 {

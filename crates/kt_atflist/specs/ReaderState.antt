@@ -2,8 +2,8 @@
 use Rattle.std.specs.Prelude.{List, Option}
 use Rattle.kt_atflist.specs.declared.listing.CaseDef.{CaseDef}
 
--- `ReaderState`: a state of the reader of a list: the cases of the finished blocks, and the block that has
--- begun, if any.
+-- `ReaderState`: a state of the reader of a list: the cases of the finished blocks, and the block
+-- that has begun, if any.
 pub record ReaderState : Type 0 where
   -- The test cases whose blocks in the list are finished, in order.
   pub cases : List CaseDef

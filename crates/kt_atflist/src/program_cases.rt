@@ -88,7 +88,11 @@ fn single_case_list(
 ///
 /// `listing` is the result of running the program to list its cases. If the listing can't be used,
 /// the program has the one case `__test_cases_list__`.
-fn atf_program_cases(alloc: Global, props: &Props, listing: &Listing) -> Result<Items<CaseDef>, NoMemory>
+fn atf_program_cases(
+    alloc: Global,
+    props: &Props,
+    listing: &Listing,
+) -> Result<Items<CaseDef>, NoMemory>
     ensures { IfOk result (λ cases. AreCases props.now Atf (Some listing.now) cases) }
 {
     let found = listed_cases(alloc, listing)?;

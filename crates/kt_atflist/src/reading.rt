@@ -10,8 +10,8 @@ use std::marker::Model;
 
 /// A state of the reader of a list of test cases, between two lines of the list.
 ///
-/// In contracts, a `ListReader` is the record `ReaderState`: the cases of the finished blocks, and the
-/// block that has begun, if any.
+/// In contracts, a `ListReader` is the record `ReaderState`: the cases of the finished blocks, and
+/// the block that has begun, if any.
 #[derive(Drop)]
 pub struct ListReader {
     /// The test cases whose blocks in the list are finished, in order.

@@ -4,8 +4,8 @@ use Rattle.kt_base.proofs.Common.{IsScalar, IsUtf8, IsValidUpTo, is_utf8, chars,
 use Rattle.std.proofs.Math.Utf8.{scalars}
 use Rattle.std.proofs.Math.Seq.{drop-append_seam, take-append_seam, take-add}
 
--- `utf8_prefix bytes n` is nothing if `bytes` has fewer than `n` bytes, or if its first `n` bytes are not
--- UTF-8
+-- `utf8_prefix bytes n` is nothing if `bytes` has fewer than `n` bytes, or if its first `n` bytes
+-- are not UTF-8
 front_none : (n : ℕ) (bytes : List ℕ) → (n ≤ length bytes → IsUtf8 (take n bytes) → ⊥) → utf8_prefix bytes n ≡ None
 front_none n bytes bad = by_length (nat_le n (length bytes)) refl
   where

@@ -12,8 +12,8 @@ keyword_row row = (chars row.0.now, row.1)
 abbrev pub byte_keyword_row : {T : Type 0} → Bor (List ℕ) × T → List ℕ × T
 byte_keyword_row row = (row.0.now, row.1)
 
--- `value_of_keyword rows word`: the value of the first of the table rows `rows` whose keyword is `word`, or
--- nothing if no row has this keyword.
+-- `value_of_keyword rows word`: the value of the first of the table rows `rows` whose keyword is
+-- `word`, or nothing if no row has this keyword.
 abbrev pub value_of_keyword : {T : Type 0} → List (List ℕ × T) → List ℕ → Option T
 value_of_keyword [] word = None
 value_of_keyword (row ∷ rows) word = if bytes_eq word row.0 then Some row.1 else value_of_keyword rows word

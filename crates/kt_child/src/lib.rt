@@ -9,7 +9,7 @@ mod polling;
 
 pub use driving::driver::{Driver, DriverFault};
 pub use driving::run::{run_driver, theorem_of_names, theorem_of_numbers, theorem_of_traces};
-pub use kt_os::{Background, Child, EnvPlan, FileRead, HostOs, Os, OsFault, ChildState};
+pub use kt_os::{Background, Child, ChildState, EnvPlan, FileRead, HostOs, Os, OsFault};
 pub use planning::Want;
 pub use planning::environment::env_plan;
 pub use planning::words::argv_plan;

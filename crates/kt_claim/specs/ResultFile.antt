@@ -54,7 +54,8 @@ pub data SpellsClaim : List ℕ → Claim → Type 0 where
 abbrev pub line : List ℕ → List ℕ
 line file = take (length file - 1) file
 
--- `leading_keyword file`: the letters from a to z and underscores that the line of `file` begins with.
+-- `leading_keyword file`: the letters from a to z and underscores that the line of `file` begins
+-- with.
 abbrev pub leading_keyword : List ℕ → List ℕ
 leading_keyword file = take (prefix_len is_keyword_byte (line file)) (line file)
 

@@ -36,8 +36,8 @@ begins [] text = true
 begins (c ∷ word) [] = false
 begins (c ∷ word) (b ∷ text) = b == c && begins word text
 
--- `begins_ignoring_case word text`: `text` begins with `word`, in upper or lower case. `word` itself is in lower
--- case.
+-- `begins_ignoring_case word text`: `text` begins with `word`, in upper or lower case. `word`
+-- itself is in lower case.
 abbrev pub begins_ignoring_case : List ℕ → List ℕ → Bool
 begins_ignoring_case [] text = true
 begins_ignoring_case (c ∷ word) [] = false
@@ -104,8 +104,8 @@ directive_at text =
     else if begins_ignoring_case (codes "skip") text then Some (true, reason_of (drop 4 text))
     else None
 
--- `directive_after_hash escaped b rest`: the directive in `rest` after its leading blanks, if any. `b`
--- is the byte before `rest`, and `escaped` is true if a backslash precedes `b`. Unless `b` is a
+-- `directive_after_hash escaped b rest`: the directive in `rest` after its leading blanks, if any.
+-- `b` is the byte before `rest`, and `escaped` is true if a backslash precedes `b`. Unless `b` is a
 -- hash (35) and `escaped` is false, there is no directive.
 abbrev pub directive_after_hash : Bool → ℕ → List ℕ → Option Directive
 directive_after_hash escaped b rest = if b == 35 && not escaped then directive_at (without_leading is_blank rest) else None

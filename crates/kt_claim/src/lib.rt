@@ -1,11 +1,11 @@
 //! Reads the results that a test program reports: an ATF result file or a TAP stream.
 #![tactic(auto)]
 
-mod open_line;
 mod claim_reader;
 mod evidence;
 mod line_parts;
 mod line_steps;
+mod open_line;
 mod result_line;
 mod tally;
 mod tap_lines;

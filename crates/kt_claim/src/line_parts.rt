@@ -3,8 +3,8 @@
 ghost use Rattle.std.specs.Prelude.{◌≡◌, ◌∷◌, ◌++◌, ℕ, List, [], IfOk, OnOk, None, false, true};
 ghost use Rattle.kt_claim.specs.Common.{facts_with, is_reason_byte, is_kind_known, KeepsIfReason, IsStateAfter, IsStateMidLine, without_trailing_blanks, facts_after_opening, directive_facts, facts_of_kind, is_reason};
 
-use crate::open_line::{DirectivePurpose, LineKind, LineProgress, OpenLine, Opening};
 use crate::line_steps::{PLAN_TESTS_LIMIT, is_blank, state_after_byte};
+use crate::open_line::{DirectivePurpose, LineKind, LineProgress, OpenLine, Opening};
 use kt_base::NoMemory;
 
 /// Returns `text` without the spaces and tabs at its end.
@@ -158,8 +158,8 @@ fn feed_bytes(
     Ok(state)
 }
 
-/// Reads a carriage return that an earlier call held back, if `held_cr` is `true`, and returns the new
-/// state of the TAP line.
+/// Reads a carriage return that an earlier call held back, if `held_cr` is `true`, and returns the
+/// new state of the TAP line.
 ///
 /// `begun` is the state of the line before the carriage return, and `kept` has the kept bytes of
 /// the line. The caller has more bytes of the line, so the carriage return is not at the end of the

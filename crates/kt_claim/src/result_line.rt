@@ -7,7 +7,7 @@ ghost use Rattle.kt_claim.specs.ResultFile.{limit};
 ghost use Rattle.kt_claim.specs.Inner.ResultReading.{number_in, reason_in, claim_with_number, claim_with_reason, claim_after_bracket, claim_of, keyword_of, may_have_number};
 
 use crate::{Claim, ClaimFault};
-use kt_base::{NoMemory, Text, digits_length, lossy, value_of_keyword_bytes, parse_decimal_up_to};
+use kt_base::{NoMemory, Text, digits_length, lossy, parse_decimal_up_to, value_of_keyword_bytes};
 use std::alloc::Global;
 
 /// A keyword of a result file.

@@ -5,8 +5,8 @@ ghost use Rattle.kt_claim.specs.Common.{list_any, is_newline, tap_of_lines, line
 ghost use Rattle.kt_claim.specs.TapStream.{limit};
 
 use crate::Tap;
-use crate::open_line::{LineProgress, OpenLine};
 use crate::line_parts::{feed_line, kind_at_end, trim_trailing_blanks};
+use crate::open_line::{LineProgress, OpenLine};
 use crate::tally::Tally;
 use kt_base::{NoMemory, line_length};
 use std::alloc::Global;

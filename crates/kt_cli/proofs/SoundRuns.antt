@@ -40,8 +40,8 @@ failed : (fault : StoreFault) (Q : Type 0) → IsDatabaseFault fault ⊎ Q → (
 failed fault Q (inl p) never = inl p
 failed fault Q (inr q) never = absurd (never q)
 
--- `Coming runs calls`: each of `calls` meets `HasAllowedFault`, and together they append at most one run
--- to `runs`
+-- `Coming runs calls`: each of `calls` meets `HasAllowedFault`, and together they append at most
+-- one run to `runs`
 record Coming (runs : List Run) (calls : List StoreCall) : Type 0 where
   only_fails : AllByRecursion HasAllowedFault calls
   adds : AddsAtMostOneRun runs calls

@@ -73,9 +73,9 @@ module _ {W R : Type 0} (w : World W) (r : keeping.Ghosts R) where
   -- `CommandResult w r c old new exit`: `execute` ran the command `c` from state `old` to `new`
   -- with the exit status `exit`. `course` are its calls of the world, in order. `stored` states the
   -- effect of its calls on the runs, and no other field depends on what the store contains. `bytes`
-  -- were printed, and `exit` is `intended_exit`. If a write failed, only a proper prefix of `bytes` was
-  -- printed, and `exit` is 2. `w` has the relations of the world, and `r` is the specification of
-  -- the store.
+  -- were printed, and `exit` is `intended_exit`. If a write failed, only a proper prefix of `bytes`
+  -- was printed, and `exit` is 2. `w` has the relations of the world, and `r` is the specification
+  -- of the store.
   pub record CommandResult (c : Command) (old new : CommandState W R) (exit : ℕ) : Type 0 where
     pub seen : CommandCalls
     pub course : CallsWorld w seen old.world new.world

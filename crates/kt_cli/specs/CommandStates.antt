@@ -6,15 +6,15 @@ use Rattle.kt_sched.specs.Children.{Child}
 use Rattle.kt_suite.specs.declared.tree.Tree as tree
 use Rattle.kt_plan.specs.declared.world.World as world
 
--- `CommandState W R`: the state before or after a command: a world of type `W`, a store of runs of type
--- `R`, and the content of the writer (`held`). An unknown content is `None`.
+-- `CommandState W R`: the state before or after a command: a world of type `W`, a store of runs of
+-- type `R`, and the content of the writer (`held`). An unknown content is `None`.
 pub record CommandState (W R : Type 0) : Type 0 where
   pub world : W
   pub store : R
   pub held : Option (List ℕ)
 
--- `command_state world store held`: the `CommandState` of the world `world`, the store `store` and a writer with
--- the content `held`.
+-- `command_state world store held`: the `CommandState` of the world `world`, the store `store` and
+-- a writer with the content `held`.
 abbrev pub command_state : {W R : Type 0} → W → R → Option (List ℕ) → CommandState W R
 command_state world store held = record { world = world; store = store; held = held }
 

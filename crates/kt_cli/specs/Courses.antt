@@ -8,9 +8,9 @@ use Rattle.kt_plan.specs.WorldCalls.{host_calls}
 use Rattle.kt_plan.specs.Selecting.{Selects, IsSelectionPrefix}
 use Rattle.kt_cli.specs.CommandStates.{World}
 
--- The calls of one command with their results. `world_calls` are the calls of the world, and `calls`
--- are those of the store, each in order. `plan` are the jobs of the launcher, and `trace` are its
--- events.
+-- The calls of one command with their results. `world_calls` are the calls of the world, and
+-- `calls` are those of the store, each in order. `plan` are the jobs of the launcher, and `trace`
+-- are its events.
 pub record CommandCalls : Type 0 where
   pub world_calls : List WorldCall
   pub plan : List Job
@@ -48,15 +48,15 @@ pub record IsPrepared (rule : FilterRule) (options : CaseOptions) (seen : Comman
   pub asked : seen.world_calls ≡ before ++ (host_calls answers ++ host_calls last)
   pub planned : ArePlanned picked.settings.config host 0 cases seen.plan
 
--- `executed_cases rule cases`: the cases that a command runs, out of the selected cases `cases`: only the
--- first case if `rule` is `OneCase`, the filter rule of `debug`, and otherwise all cases.
+-- `executed_cases rule cases`: the cases that a command runs, out of the selected cases `cases`:
+-- only the first case if `rule` is `OneCase`, the filter rule of `debug`, and otherwise all cases.
 abbrev pub executed_cases : FilterRule → List Candidate → List Candidate
 executed_cases AnyFilters cases = cases
 executed_cases OneCase cases = take 1 cases
 
--- `MakesCallPrefix rule options world_calls`: `world_calls` are a prefix of the world calls of a command
--- with `options`, up to a failed allocation. The calls that select cases come first, then those for
--- the requirements of the cases. `rule` states which filters the command accepts.
+-- `MakesCallPrefix rule options world_calls`: `world_calls` are a prefix of the world calls of a
+-- command with `options`, up to a failed allocation. The calls that select cases come first, then
+-- those for the requirements of the cases. `rule` states which filters the command accepts.
 pub data MakesCallPrefix (rule : FilterRule) (options : CaseOptions) : List WorldCall → Type 0 where
   selecting : (world_calls : List WorldCall) → IsSelectionPrefix rule options world_calls → MakesCallPrefix rule options world_calls
   preparing : (before : List WorldCall) (picked : CommandSelection) (answers : List Reply) → Selects rule options before (Ok picked)

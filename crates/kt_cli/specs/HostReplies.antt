@@ -28,7 +28,8 @@ abbrev pub file_answer : Result (List ℕ) ReadFault → Result (List ℕ) FileF
 file_answer (Ok bytes) = Ok bytes
 file_answer (Err fault) = Err (file_fault fault)
 
--- `IsWithinReadLimit answer`: if `answer` is the content of a file, it has at most `read_limit` bytes.
+-- `IsWithinReadLimit answer`: if `answer` is the content of a file, it has at most `read_limit`
+-- bytes.
 abbrev pub IsWithinReadLimit : Result (List ℕ) ReadFault → Type 0
 IsWithinReadLimit answer = IfOk answer (λ bytes. length bytes ≤ read_limit)
 
@@ -103,8 +104,8 @@ module _ {M O : Type 0} where
     replies = IsHostReply m.answers o.leads;
   }
 
-  -- `machine_keeps_children old new`: theorem: if the worlds `old` and `new` differ only in their machines, the
-  -- same children run in both.
+  -- `machine_keeps_children old new`: theorem: if the worlds `old` and `new` differ only in their
+  -- machines, the same children run in both.
   machine_keeps_children : (old new : HostWorld M O) → new ≡ with_machine old new.machine → new.driver.running ≡ old.driver.running
   machine_keeps_children old new h = ap (λ (w : HostWorld M O). w.driver.running) h
 

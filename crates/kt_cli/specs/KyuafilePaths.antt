@@ -3,7 +3,8 @@ use Rattle.std.specs.Prelude.{ℕ, List, ◌++◌, codes, if◌then◌else◌}
 use Rattle.kt_cli.specs.Types.{is_absolute}
 use Rattle.kt_suite.specs.Paths.{parent_of}
 
--- `absolute_path here path`: `path` if it is absolute, else `path` below the working directory `here`.
+-- `absolute_path here path`: `path` if it is absolute, else `path` below the working directory
+-- `here`.
 abbrev pub absolute_path : List ℕ → List ℕ → List ℕ
 absolute_path here path = if is_absolute path then path else here ++ codes "/" ++ path
 

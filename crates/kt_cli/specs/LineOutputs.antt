@@ -28,10 +28,10 @@ is_broken l = has_failed l || is_some (flush_fault l)
 abbrev pub given_bytes : {W : Type 0} → (W → Option (List ℕ)) → LineOutput W → Option (List ℕ)
 given_bytes contents l = append_known (contents l.out) (unwritten l)
 
--- `LineState`: the state of a buffered writer. `given` are all bytes that were given to it, or `None`
--- if the content of the inner writer is unknown. `unwritten` are those that are not written yet.
--- `failed` is true if a write of the inner writer failed. `flush_fault` is the fault of its flush, if
--- the flush failed.
+-- `LineState`: the state of a buffered writer. `given` are all bytes that were given to it, or
+-- `None` if the content of the inner writer is unknown. `unwritten` are those that are not written
+-- yet. `failed` is true if a write of the inner writer failed. `flush_fault` is the fault of its
+-- flush, if the flush failed.
 pub record LineState : Type 0 where
   pub given : Option (List ℕ)
   pub unwritten : List ℕ

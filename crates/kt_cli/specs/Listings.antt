@@ -6,8 +6,8 @@ use Rattle.kt_cli.specs.CaseLines.{case_line}
 use Rattle.kt_cli.specs.Testing.{all_matched}
 use Rattle.kt_cli.specs.Warnings.{warnings}
 
--- `list_output words chosen`: the output of `list`: a line for each case of the selection `chosen`, and
--- a warning for each of the filters `words` that selects no case.
+-- `list_output words chosen`: the output of `list`: a line for each case of the selection `chosen`,
+-- and a warning for each of the filters `words` that selects no case.
 abbrev pub list_output : List (List ℕ) → CaseSelection → List ℕ
 list_output words chosen = utf8 (flat_map case_line chosen.cases) ++ utf8 (warnings words chosen.unmatched)
 

@@ -40,8 +40,8 @@ pub record ProgramRelations (M O P S : Type 0) : Type 1 where
   pub results : keeping.Ghosts S
 
 module _ {M O P S : Type 0} where
-  -- `program machine system platform results`: the `ProgramRelations` with the relations `machine`, `system`
-  -- and `platform` of its parts, and with the specification `results` of its stores.
+  -- `program machine system platform results`: the `ProgramRelations` with the relations `machine`,
+  -- `system` and `platform` of its parts, and with the specification `results` of its stores.
   abbrev pub program : machine.Ghosts M → system.Ghosts O → platform.Ghosts P S → keeping.Ghosts S → ProgramRelations M O P S
   program machine system platform results = record { machine = machine; system = system; platform = platform; results = results }
 
@@ -51,15 +51,15 @@ pub record ProgramState (M O P : Type 0) : Type 0 where
   pub platform : P
   pub outside : HostHandles M O
 
--- `state platform outside`: the `ProgramState` of a program with the platform `platform` and the handles
--- `outside` of the host.
+-- `state platform outside`: the `ProgramState` of a program with the platform `platform` and the
+-- handles `outside` of the host.
 abbrev pub state : {M O P : Type 0} → P → HostHandles M O → ProgramState M O P
 state platform outside = record { platform = platform; outside = outside }
 
 module _ {O : Type 0} (o : system.Ghosts O) (os : O) where
-  -- `IsNewDriver o os here base kyuafile d`: `d` is a new driver for the programs of `kyuafile`, made
-  -- from the system `os` with a new root directory in `base`. `here` is the working directory, and
-  -- no child runs. `o` has the relations of the system.
+  -- `IsNewDriver o os here base kyuafile d`: `d` is a new driver for the programs of `kyuafile`,
+  -- made from the system `os` with a new root directory in `base`. `here` is the working directory,
+  -- and no child runs. `o` has the relations of the system.
   pub record IsNewDriver (here base kyuafile : List ℕ) (d : Driver O) : Type 0 where
     pub calls : List Call
     pub asked : Chain o.leads os calls d.os
@@ -68,17 +68,17 @@ module _ {O : Type 0} (o : system.Ghosts O) (os : O) where
     pub first : d.next ≡ 0
     pub none_runs : d.running ≡ idle_state
 
-  -- `FailsToCreateRoot o os base fault left`: no driver was created, because `base` is not absolute, no root
-  -- directory could be created in `base`, or an allocation failed. `fault` is the cause. `os` and
-  -- `left` are the system before and after, and `o` has its relations.
+  -- `FailsToCreateRoot o os base fault left`: no driver was created, because `base` is not
+  -- absolute, no root directory could be created in `base`, or an allocation failed. `fault` is the
+  -- cause. `os` and `left` are the system before and after, and `o` has its relations.
   pub data FailsToCreateRoot (base : List ℕ) : DriverFault → O → Type 0 where
     not_absolute : is_absolute base ≡ false → FailsToCreateRoot base NoWorkDirectory os
     none_made : (fault : DriverFault) (calls : List Call) (left : O) → Chain o.leads os calls left → CreatesRoot base calls (Err fault) → FailsToCreateRoot base fault left
 
 module _ {M O : Type 0} (o : system.Ghosts O) (before : HostHandles M O) where
-  -- `FailsToCreateDriver o before base fault after`: no driver with a root directory in `base` was created,
-  -- because of `fault`, and the machine was not called. `before` and `after` are the handles of the
-  -- host, and `o` has the relations of the system.
+  -- `FailsToCreateDriver o before base fault after`: no driver with a root directory in `base` was
+  -- created, because of `fault`, and the machine was not called. `before` and `after` are the
+  -- handles of the host, and `o` has the relations of the system.
   abbrev pub FailsToCreateDriver : List ℕ → DriverFault → HostHandles M O → Type 0
   FailsToCreateDriver base fault after = FailsToCreateRoot o before.os base fault after.os × (after.machine ≡ before.machine)
 
@@ -120,9 +120,9 @@ module _ {M O P S R : Type 0} (p : ProgramRelations M O P S) (r : keeping.Ghosts
         → FailsToCreateDriver p.system old.world.outside options.work fault new.world.outside → new.store ≡ old.store → Printed old.held new.held exit (utf8 (driver_line fault)) failure_exit
         → ExecutesOnHost c old new exit
 
--- `FlushesOutput held now intended_exit exit`: a flush of standard output, which had been given the bytes
--- `held`, led to the state `now`. If all bytes were written, `exit` is `intended_exit`. If some bytes are
--- unwritten, or the flush failed, `exit` is 2.
+-- `FlushesOutput held now intended_exit exit`: a flush of standard output, which had been given the
+-- bytes `held`, led to the state `now`. If all bytes were written, `exit` is `intended_exit`. If
+-- some bytes are unwritten, or the flush failed, `exit` is 2.
 pub record FlushesOutput (held : Option (List ℕ)) (now : LineState) (intended_exit exit : ℕ) : Type 0 where
   pub kept : Keeps held now.given
   pub failed : Bool
@@ -143,15 +143,15 @@ pub record Streams : Type 0 where
   pub out : LineState
   pub errors : Option (List ℕ)
 
--- `RejectsArguments fault was now exit`: arguments were rejected with `fault`, and `exit` is the exit
--- status. From the streams `was` to `now`, the text of `fault` was printed on standard error, and
--- nothing on standard output. An out-of-memory fault was printed on standard output instead.
+-- `RejectsArguments fault was now exit`: arguments were rejected with `fault`, and `exit` is the
+-- exit status. From the streams `was` to `now`, the text of `fault` was printed on standard error,
+-- and nothing on standard output. An out-of-memory fault was printed on standard output instead.
 abbrev pub RejectsArguments : CommandFault → Streams → Streams → ℕ → Type 0
 RejectsArguments (command.NoMemory shortage) was now exit = PrintsMemoryError was.out.given now.out exit × (now.errors ≡ was.errors)
 RejectsArguments fault was now exit = PrintedWithStatus was.errors now.errors exit (utf8 (command_text fault)) wrong_arguments_exit × (now.out.given ≡ was.out.given)
 
--- `command_access c`: the access with which the command `c` opens its results file: `Record` for `test`,
--- else `Read`.
+-- `command_access c`: the access with which the command `c` opens its results file: `Record` for
+-- `test`, else `Read`.
 abbrev pub command_access : Command → Access
 command_access c = if adds_run c then Record else Read
 
@@ -173,8 +173,8 @@ module _ {M O P S : Type 0} (p : ProgramRelations M O P S) where
   -- `RunsArguments p command old new was now exit`: `command`, the result of parsing the arguments,
   -- was executed from state `old` to `new`, and then its output was flushed. If `command` is a
   -- fault, the fault was printed, and nothing was called. `was` and `now` are the streams before
-  -- and after. `exit` is the exit status: that of the command (`intended_exit`), or 2 if its output (`held`)
-  -- could not be written. `p` has the relations of the program.
+  -- and after. `exit` is the exit status: that of the command (`intended_exit`), or 2 if its output
+  -- (`held`) could not be written. `p` has the relations of the program.
   abbrev pub RunsArguments : Result Command CommandFault → ProgramState M O P → ProgramState M O P → Streams → Streams → ℕ → Type 0
   RunsArguments (Ok c) old new was now exit =
       (held : Option (List ℕ)) × (intended_exit : ℕ) × ExecutesInFile c (command_state old tt was.out.given) (command_state new tt held) intended_exit (results_file_of c) × FlushesOutput held now.out intended_exit exit × (now.errors ≡ was.errors)

@@ -31,8 +31,9 @@ abbrev pub command_exit : CommandFault → ℕ
 command_exit (command.NoMemory shortage) = failure_exit
 command_exit other = wrong_arguments_exit
 
--- `PrintedWithStatus old new exit bytes intended_exit`: from content `old` to content `new` of a writer, `bytes` were
--- written, or a proper prefix if the write failed. `exit` is `intended_exit` in both cases.
+-- `PrintedWithStatus old new exit bytes intended_exit`: from content `old` to content `new` of a
+-- writer, `bytes` were written, or a proper prefix if the write failed. `exit` is `intended_exit`
+-- in both cases.
 pub record PrintedWithStatus (old new : Option (List ℕ)) (exit : ℕ) (bytes : List ℕ) (intended_exit : ℕ) : Type 0 where
   pub failed : Bool
   pub shows : Emits old new failed bytes

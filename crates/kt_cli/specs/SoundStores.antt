@@ -8,9 +8,9 @@ use Rattle.kt_cli.specs.Command.{CommandResult}
 use Rattle.kt_cli.specs.CommandStates.{CommandState, World}
 use Rattle.kt_cli.specs.Stores.{entries_by_position, runs_after_calls}
 
--- `with_new_run runs moment total finished entries`: `runs` with one run appended, which has the start
--- `moment`, `total` cases, the flag `finished`, and `entries` sorted by their positions in the
--- plan.
+-- `with_new_run runs moment total finished entries`: `runs` with one run appended, which has the
+-- start `moment`, `total` cases, the flag `finished`, and `entries` sorted by their positions in
+-- the plan.
 abbrev pub with_new_run : List Run → ℕ → ℕ → Bool → List Entry → List Run
 with_new_run runs moment total finished entries = runs ++ record { number = suc (length runs); started = moment; total = total; finished = finished; entries = entries_by_position entries } ∷ []
 
@@ -36,8 +36,8 @@ call_fault done = None
 abbrev pub HasAllowedFault : StoreCall → Type 0
 HasAllowedFault call = IfSome (call_fault call) (λ fault. IsDatabaseFault fault ⊎ (fault ≡ StoreFull))
 
--- `AddsAtMostOneRun runs calls`: `calls` left `runs` unchanged, or appended a run with the entries that they
--- put. The run is finished only if the number of these entries is its total.
+-- `AddsAtMostOneRun runs calls`: `calls` left `runs` unchanged, or appended a run with the entries
+-- that they put. The run is finished only if the number of these entries is its total.
 pub data AddsAtMostOneRun (runs : List Run) (calls : List StoreCall) : Type 0 where
   none : runs_after_calls calls runs ≡ runs → AddsAtMostOneRun runs calls
   one_run : (moment total : ℕ) (finished : Bool) → runs_after_calls calls runs ≡ with_new_run runs moment total finished (entries_put calls)

@@ -4,8 +4,8 @@ use Rattle.kt_cli.specs.Types.{Agrees, Began, Chain, Entry, Finished, Head, Outl
 use Rattle.kt_store.specs.Runs.{new_run, insert_by_position, finish}
 use Rattle.kt_store.specs.declared.result_store.StoreSpec as keeping
 
--- `with_entries_inserted present entries`: the entries `present` with each of `entries` inserted in the order of
--- their positions in the plan.
+-- `with_entries_inserted present entries`: the entries `present` with each of `entries` inserted in
+-- the order of their positions in the plan.
 abbrev pub with_entries_inserted : List Entry → List Entry → List Entry
 with_entries_inserted present [] = present
 with_entries_inserted present (e ∷ es) = with_entries_inserted (insert_by_position e present) es
@@ -14,7 +14,8 @@ with_entries_inserted present (e ∷ es) = with_entries_inserted (insert_by_posi
 abbrev pub entries_by_position : List Entry → List Entry
 entries_by_position entries = with_entries_inserted [] entries
 
--- `put_calls number entries`: the calls that put each of `entries` into run `number`, all successful.
+-- `put_calls number entries`: the calls that put each of `entries` into run `number`, all
+-- successful.
 abbrev pub put_calls : ℕ → List Entry → List StoreCall
 put_calls number [] = []
 put_calls number (e ∷ es) = Put number e (Ok tt) ∷ put_calls number es

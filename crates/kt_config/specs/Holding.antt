@@ -61,9 +61,9 @@ abbrev pub non_empty_list : List Variable → Option (List Variable)
 non_empty_list [] = None
 non_empty_list (variable ∷ variables) = Some (variable ∷ variables)
 
--- `HasValuesSetBy config definitions`: the values `config` are those that `definitions` set: each variable
--- has its last value. `parallelism` is 1 if it is not set. Each variable of a suite occurs once. A
--- suite's variables are in the order of their first definitions.
+-- `HasValuesSetBy config definitions`: the values `config` are those that `definitions` set: each
+-- variable has its last value. `parallelism` is 1 if it is not set. Each variable of a suite occurs
+-- once. A suite's variables are in the order of their first definitions.
 pub record HasValuesSetBy (config : Values) (definitions : List Definition) : Type 0 where
   pub architecture : config.architecture ≡ last_value_by architecture_in definitions
   pub platform : config.platform ≡ last_value_by platform_in definitions

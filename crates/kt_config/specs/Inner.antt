@@ -18,9 +18,9 @@ pub record SetsSuiteVariable (suite : List ℕ) (variable : Variable) (old new :
   pub own : variables_of suite new ≡ Some (last_values (unwrap_or (variables_of suite old) [] ++ variable ∷ []))
   pub others : (other : List ℕ) → bytes_eq other suite ≡ false → variables_of other new ≡ variables_of other old
 
--- `IsResultOfDefinitions result outcome`: `result` is the result of reading a configuration file whose
--- definitions or first fault are `outcome`. Either both are the same fault, or `result` has the
--- values that the definitions in `outcome` set.
+-- `IsResultOfDefinitions result outcome`: `result` is the result of reading a configuration file
+-- whose definitions or first fault are `outcome`. Either both are the same fault, or `result` has
+-- the values that the definitions in `outcome` set.
 abbrev pub IsResultOfDefinitions : Result Values ConfigFault → DefinitionsOrFault → Type 0
 IsResultOfDefinitions (Ok config) (Ok definitions) = HasValuesSetBy config definitions
 IsResultOfDefinitions (Ok config) (Err fault) = ⊥

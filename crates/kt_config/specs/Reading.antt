@@ -39,8 +39,8 @@ definition_in (Assign parts value) = definition_of parts (text_of value)
 abbrev pub DefinitionsOrFault : Type 0
 DefinitionsOrFault = Result (List Definition) ConfigFault
 
--- `with_prepended_definition definition outcome`: the definitions in `outcome` with `definition` prepended. A
--- fault in `outcome` is unchanged.
+-- `with_prepended_definition definition outcome`: the definitions in `outcome` with `definition`
+-- prepended. A fault in `outcome` is unchanged.
 abbrev pub with_prepended_definition : Definition → DefinitionsOrFault → DefinitionsOrFault
 with_prepended_definition definition (Ok definitions) = Ok (definition ∷ definitions)
 with_prepended_definition definition (Err fault) = Err fault

@@ -30,10 +30,10 @@ HoldsAsBefore before after = (db : Trees) → HoldsDatabase before db → HoldsD
 abbrev pub Contains : Image → (Trees → Type 0) → Type 0
 Contains image P = ∥ ((db : Trees) × HoldsDatabase image db × P db) ∥₁
 
--- `KeepsRunsOfFiles before after`: `before` and `after` are contents of the results file and its log,
--- earlier and later. The runs in `before` are also in `after`. If `before` has schema 1, `after`
--- has schema 1 or 2. If `before` has schema 2 and doesn't meet `MustBeChecked`, the trees in
--- `after` may be unnumbered.
+-- `KeepsRunsOfFiles before after`: `before` and `after` are contents of the results file and its
+-- log, earlier and later. The runs in `before` are also in `after`. If `before` has schema 1,
+-- `after` has schema 1 or 2. If `before` has schema 2 and doesn't meet `MustBeChecked`, the trees
+-- in `after` may be unnumbered.
 pub record KeepsRunsOfFiles (before after : Image) : Type 0 where
   pub current : (runs : List Run) → HoldsRuns before runs → ∥ ((trees : Trees) × (HoldsDatabase after trees ⊎ HasTrees false trees after) × IsSchema2Of runs trees) ∥₁
   pub checked : (runs : List Run) → HoldsRuns before runs → MustBeChecked before → Contains after (IsSchema2Of runs)

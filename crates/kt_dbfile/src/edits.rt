@@ -18,7 +18,7 @@ use kt_store::heads::push_item;
 use kt_store::lookup::{MAX_RUNS, run_key};
 use kt_store::put::copy_reason_text;
 use kt_store::store_fault::DatabaseError;
-use kt_store::value::{blob_value, kind_code, int_value, text_value};
+use kt_store::value::{blob_value, int_value, kind_code, text_value};
 use sqlite_rules::error::Rowids;
 use sqlite_schema::schema::Schema;
 use sqlite_trees::store::{Alter, Store};

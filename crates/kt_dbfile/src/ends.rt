@@ -12,7 +12,8 @@ use crate::tables::{
     RUNS_TREE, create_entry_key, entry_table, head_from_stored_row, property_table, read_last_row,
 };
 use crate::trees::{
-    TreeTable, copy_columns, count_rows_by_key, create_number_key, has_expected_shapes, read_next_row,
+    TreeTable, copy_columns, count_rows_by_key, create_number_key, has_expected_shapes,
+    read_next_row,
 };
 use kt_base::{Entry, NoMemory};
 use kt_store::RunHead;

@@ -129,7 +129,14 @@ fn create_unopened_store<D: Disk + Drop>(
 
 /// Returns `true` if `row`, a row of SQLite's schema list, has exactly these values: the rowid
 /// `id`, the type `kind`, the name `name`, the table name `table` and the SQL text `text`.
-fn is_schema_object(row: &Row, id: i64, kind: &str, name: &str, table: &str, text: ValueRef<'_>) -> bool
+fn is_schema_object(
+    row: &Row,
+    id: i64,
+    kind: &str,
+    name: &str,
+    table: &str,
+    text: ValueRef<'_>,
+) -> bool
     ensures { IsTrue result → row.now ≡ Int id ∷ Words kind.now ∷ Words name.now
         ∷ Words table.now ∷ owned text.entry ∷ [] }
 {
@@ -229,8 +236,8 @@ fn convert_open_result<T, L>(returned: Result<T, (OpenError, L)>) -> Result<T, (
 }
 
 /// Opens the database in `files`, from which the schema list has been read already. Checks all
-/// pages and trees if `needs_full_check` is `true`. Otherwise, checks only the pages of the schema and
-/// the free pages. On failure, returns the error with the files.
+/// pages and trees if `needs_full_check` is `true`. Otherwise, checks only the pages of the schema
+/// and the free pages. On failure, returns the error with the files.
 fn open_sound_files<D: Disk + Drop>(
     files: Unopened<D>,
     needs_full_check: bool,

@@ -12,8 +12,8 @@ ghost use Rattle.sqlite_wal.specs.Recovery.{Image};
 use sqlite_disk::Disk;
 
 /// Theorem: after a process has closed the results file, the next process that opens the file finds
-/// the runs of the last commit. The premises are `OpensAndCloses` for the first process and `RepresentsImage`
-/// for the next process.
+/// the runs of the last commit. The premises are `OpensAndCloses` for the first process and
+/// `RepresentsImage` for the next process.
 ///
 /// The facts in `OpensAndCloses` are clauses of [`RunsFile`](crate::RunsFile), of its open, its
 /// calls and its close, except `checked` and `honest`. After a close, the files hold the runs of

@@ -14,8 +14,8 @@ use Rattle.kt_store.specs.declared.store_fault.StoreFault.TheVariants.{NoRun, Ru
 abbrev pub AllowsAnyCallInMemory : List Run → StoreCall → List Run → Type 0
 AllowsAnyCallInMemory m call n = Unit {0}
 
--- `RepresentsInMemory m runs`: the store `m` contains exactly `runs`, which are numbered from 1, with
--- entries that ascend by position.
+-- `RepresentsInMemory m runs`: the store `m` contains exactly `runs`, which are numbered from 1,
+-- with entries that ascend by position.
 abbrev pub RepresentsInMemory : List Run → List Run → Type 0
 RepresentsInMemory m runs = (m ≡ runs) × AreNumbered 1 runs × AreOrdered runs
 
@@ -40,8 +40,8 @@ memory_runs = record { answers = AllowsAnyCallInMemory; stands = RepresentsInMem
 abbrev pub ServesInMemory : List Run → StoreCall → List Run → Type 0
 ServesInMemory old call new = Agrees old call × (AreNumbered 1 old → new ≡ runs_after call old)
 
--- `FindsRunIndex runs number result`: `result` is the index of run `number` in `runs`, or `NoRun` if
--- there is no such run.
+-- `FindsRunIndex runs number result`: `result` is the index of run `number` in `runs`, or `NoRun`
+-- if there is no such run.
 abbrev pub FindsRunIndex : List Run → ℕ → Result ℕ StoreFault → Type 0
 FindsRunIndex runs number (Ok index) = (number ≡ suc index) × (index < length runs)
 FindsRunIndex runs number (Err fault) = (fault ≡ NoRun) × (run_at runs number ≡ None)

@@ -1,4 +1,4 @@
-use crate::entry_copies::{copy_full_entry, copy_outputs, copy_entry_outlines};
+use crate::entry_copies::{copy_entry_outlines, copy_full_entry, copy_outputs};
 use kt_base::{Entry, Items, NoMemory, Run, Variables};
 use kt_store::{CaseOutputs, ResultStore, RunHead, StoreFault, StoreSpec};
 use std::alloc::Global;
@@ -82,8 +82,8 @@ impl MemRuns {
 
     /// Inserts a copy of an entry into run `number`, in the order of positions.
     ///
-    /// Fails with `NoRun` if there is no such run, and with the error of [`find_put_fault`] if the run
-    /// rejects the entry. Fails with `NoMemory` if an allocation fails.
+    /// Fails with `NoRun` if there is no such run, and with the error of [`find_put_fault`] if the
+    /// run rejects the entry. Fails with `NoMemory` if an allocation fails.
     fn put_entry(&mut self, number: u64, entry: &Entry) -> Result<(), StoreFault>
         ensures { ServesInMemory self.old (Put number entry.now result) self.new }
     {
@@ -101,8 +101,8 @@ impl MemRuns {
 
     /// Marks run `number` as finished.
     ///
-    /// Fails with `NoRun` if there is no such run, and with the error of [`find_finish_fault`] if the
-    /// run can't be finished.
+    /// Fails with `NoRun` if there is no such run, and with the error of [`find_finish_fault`] if
+    /// the run can't be finished.
     fn finish_run(&mut self, number: u64) -> Result<(), StoreFault>
         ensures { ServesInMemory self.old (Finished number result) self.new }
     {
@@ -288,7 +288,11 @@ fn insert_entry(alloc: Global, entries: &mut Items<Entry>, entry: Entry) -> Resu
 
 /// Inserts a copy of `entry` into `entries`, before the first entry with a greater position. If an
 /// allocation fails, `entries` is unchanged.
-fn insert_entry_copy(alloc: Global, entries: &mut Items<Entry>, entry: &Entry) -> Result<(), NoMemory>
+fn insert_entry_copy(
+    alloc: Global,
+    entries: &mut Items<Entry>,
+    entry: &Entry,
+) -> Result<(), NoMemory>
     ensures ok { OnOk result (entries.new ≡ insert_by_position entry.now entries.old) }
     ensures err { OnErr result (entries.new ≡ entries.old) }
 {

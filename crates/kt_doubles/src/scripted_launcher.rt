@@ -3,7 +3,9 @@ ghost use Rattle.kt_base.specs.declared.child.Role.{Role};
 ghost use Rattle.kt_sched.specs.Children.{IsEvidence, IsIdle};
 ghost use Rattle.kt_doubles.specs.Children.{running_child_at, is_cleanup_pending};
 
-use crate::children::{ChildSlot, ChildSlots, MAX_POSITIONS, create_free_slots, running_child, set_slot};
+use crate::children::{
+    ChildSlot, ChildSlots, MAX_POSITIONS, create_free_slots, running_child, set_slot,
+};
 use crate::plans::is_start_refused;
 use kt_base::{Bytes, Interface, LATEST_MOMENT_MILLIS, Outcome, Output, Refused, Role};
 use kt_claim::{Claim, Evidence, Tap};

@@ -3,7 +3,7 @@ ghost use Rattle.kt_os.specs.System.Reads.{IsReadWithin};
 use crate::Scene;
 use crate::scene::{ChildScript, PartFault};
 use kt_base::{Bytes, Items, NoMemory, Role, Text};
-use kt_child::{Child, EnvPlan, FileRead, Os, OsFault, ChildState};
+use kt_child::{Child, ChildState, EnvPlan, FileRead, Os, OsFault};
 use kt_examples::ExampleOutput;
 
 /// An `Os` that follows a scene and logs each call in a line. The line of a failed call ends in

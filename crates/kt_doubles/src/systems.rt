@@ -187,7 +187,11 @@ fn run_plan<'a>(example: &Example<'_>, scene: &'a Scene) -> Result<DriverRun<Scr
 /// early, if any.
 fn push_run(out: &mut ExampleOutput, example: &Example<'_>, scene: &Scene) -> Result<()> {
     let run = run_plan(example, scene)?;
-    for keyword in example.find_text("show").unwrap_or("entries").split_whitespace() {
+    for keyword in example
+        .find_text("show")
+        .unwrap_or("entries")
+        .split_whitespace()
+    {
         out.push_separator("\n");
         push_run_part(out, keyword, &run)?;
     }

@@ -193,7 +193,10 @@ fn parse_entries(alloc: Global, lines: &[ExampleLine<'_>]) -> Result<Items<Entry
 /// - `InvalidExample`: a line is invalid, or there are 2^32 entries or more.
 /// - `NoMemory`: an allocation failed.
 pub fn parse_run(alloc: Global, example: &Example<'_>) -> Result<Run> {
-    let (number, started) = zip_results(example.find_number("run", 1), example.find_number("at", 0))?;
+    let (number, started) = zip_results(
+        example.find_number("run", 1),
+        example.find_number("at", 0),
+    )?;
     let entries = parse_entries(alloc, example.lines.as_slice())?;
     Ok(Run {
         number,

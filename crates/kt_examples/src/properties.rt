@@ -58,7 +58,12 @@ fn set_property_copies(alloc: Global, props: &mut Props, raw: &str) -> Result<()
 /// pair.
 fn find_value<'a>(pairs: &'a Variables, name: &str) -> Option<&'a str> {
     let mut pairs = pairs.as_slice().iter();
-    Some(pairs.find(|pair| pair.name.is_equal_to(name))?.value.as_str())
+    Some(
+        pairs
+            .find(|pair| pair.name.is_equal_to(name))?
+            .value
+            .as_str(),
+    )
 }
 
 /// Appends the properties in `props` that differ from their defaults, each as ` timeout=20`.

@@ -14,8 +14,8 @@ use Rattle.kt_metadata.specs.Properties.{value_of_text}
 abbrev pub texts_of : List Variable → List ℕ → Option (List ℕ)
 texts_of definitions name = value_of name definitions
 
--- `parsed_value texts name`: the value of the property `name`, or nothing if the property isn't set or its
--- text is invalid. The function `texts` maps the name of a property to the text to which the
+-- `parsed_value texts name`: the value of the property `name`, or nothing if the property isn't set
+-- or its text is invalid. The function `texts` maps the name of a property to the text to which the
 -- property is set, or to nothing.
 abbrev pub parsed_value : (List ℕ → Option (List ℕ)) → List ℕ → Option Value
 parsed_value texts name = option_and_then (value_of_text name) (texts name)
@@ -45,8 +45,8 @@ user_in other = Any
 abbrev pub default_timeout_seconds : ℕ
 default_timeout_seconds = 300
 
--- `timeout_or_default value`: the timeout `value`, in seconds, or the default timeout if `value` is absent
--- or isn't a timeout.
+-- `timeout_or_default value`: the timeout `value`, in seconds, or the default timeout if `value` is
+-- absent or isn't a timeout.
 abbrev pub timeout_or_default : Option Value → ℕ
 timeout_or_default (Some (Timeout seconds)) = seconds
 timeout_or_default other = default_timeout_seconds

@@ -66,8 +66,8 @@ user_reason_text user root = None
 abbrev pub all_needs : List Need
 all_needs = File ∷ Program ∷ []
 
--- `required_objects need meta`: the objects of the kind `need`, files or programs, that the properties `meta`
--- of a case require on the host.
+-- `required_objects need meta`: the objects of the kind `need`, files or programs, that the
+-- properties `meta` of a case require on the host.
 abbrev pub required_objects : Need → Meta → List (List ℕ)
 required_objects File meta = meta.required_files
 required_objects Program meta = meta.required_programs
@@ -105,9 +105,9 @@ need_text Program = codes "Required program '"
 abbrev pub need_reason_text : Need → Meta → Host → Option (List ℕ)
 need_reason_text need meta host = enclosed_text (need_text need) (codes "' not found") (find (λ word. not (is_found need host word)) (required_objects need meta))
 
--- `amount_reason_text phrase required available`: the reason to skip a case that requires `required` bytes,
--- because the host has only `available` bytes. The reason has the message `phrase`. Nothing if `available`
--- is enough or unknown.
+-- `amount_reason_text phrase required available`: the reason to skip a case that requires
+-- `required` bytes, because the host has only `available` bytes. The reason has the message
+-- `phrase`. Nothing if `available` is enough or unknown.
 abbrev pub amount_reason_text : Phrase → ℕ → Option ℕ → Option (List ℕ)
 amount_reason_text phrase required None = None
 amount_reason_text phrase required (Some available) =
@@ -122,10 +122,10 @@ host_reason_texts meta host =
     ∷ amount_reason_text MemoryNeeded meta.required_memory host.memory
     ∷ amount_reason_text DiskNeeded meta.required_disk_space host.disk ∷ []
 
--- `requirement_reason_texts meta config suite host`: for each of the eight requirements of a case, the reason why the
--- requirement isn't met, or nothing if it is met. The list is in the order of the checks. The case
--- has the properties `meta` and belongs to the test suite `suite`. `config` is the configuration,
--- and `host` is the host.
+-- `requirement_reason_texts meta config suite host`: for each of the eight requirements of a case,
+-- the reason why the requirement isn't met, or nothing if it is met. The list is in the order of
+-- the checks. The case has the properties `meta` and belongs to the test suite `suite`. `config` is
+-- the configuration, and `host` is the host.
 abbrev pub requirement_reason_texts : Meta → Values → List ℕ → Host → List (Option (List ℕ))
 requirement_reason_texts meta config suite host =
     config_reason_text meta config suite ∷ architecture_reason_text meta config

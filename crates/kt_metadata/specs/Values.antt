@@ -93,7 +93,7 @@ timeout_of text = timeout_in (utf8 text)
 abbrev pub is_not_absolute : List ℕ → Bool
 is_not_absolute word = not (is_absolute word)
 
--- `is_relative_with_slash word`: the element `word` is a relative path with a slash, so it can't name
--- a required program.
+-- `is_relative_with_slash word`: the element `word` is a relative path with a slash, so it can't
+-- name a required program.
 abbrev pub is_relative_with_slash : List ℕ → Bool
 is_relative_with_slash word = if is_absolute word then false else list_any is_slash word

@@ -30,8 +30,8 @@ abbrev pub with_element : List ℕ → List (List ℕ) → List (List ℕ)
 with_element [] found = found
 with_element (c ∷ cs) found = (c ∷ cs) ∷ found
 
--- `elements_from word text`: the elements of a text that consists of `word` and then of `text`. `word`
--- has no white space.
+-- `elements_from word text`: the elements of a text that consists of `word` and then of `text`.
+-- `word` has no white space.
 abbrev pub elements_from : List ℕ → List ℕ → List (List ℕ)
 elements_from word [] = with_element word []
 elements_from word (c ∷ cs) = if is_space c then with_element word (elements_from [] cs) else elements_from (word ++ c ∷ []) cs

@@ -4,7 +4,10 @@ ghost use Rattle.kt_metadata.specs.Properties.{value_in};
 
 use crate::RequiredUser;
 use crate::value::Value;
-use crate::values::{has_invalid_file, has_invalid_program, parse_size, parse_timeout, parse_truth, parse_user, split_elements};
+use crate::values::{
+    has_invalid_file, has_invalid_program, parse_size, parse_timeout, parse_truth, parse_user,
+    split_elements,
+};
 use kt_base::{Items, NoMemory, Text};
 use std::alloc::Global;
 

@@ -297,8 +297,8 @@ impl Props {
     /// follow in the order of their first definitions. The elements of a list are joined by one
     /// space, and numbers are decimal. A property with an empty text is omitted.
     ///
-    /// If these properties are an overlay that adds no property to a result of [`Props::to_shared`],
-    /// the listings of both share their memory.
+    /// If these properties are an overlay that adds no property to a result of
+    /// [`Props::to_shared`], the listings of both share their memory.
     ///
     /// # Errors
     ///

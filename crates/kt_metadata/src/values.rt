@@ -4,7 +4,8 @@ ghost use Rattle.kt_metadata.specs.Values.{size_in, timeout_in};
 
 use crate::RequiredUser;
 use kt_base::{
-    Items, NoMemory, Text, digits_length, has_slash, is_absolute, value_of_keyword, parse_decimal_up_to,
+    Items, NoMemory, Text, digits_length, has_slash, is_absolute, parse_decimal_up_to,
+    value_of_keyword,
 };
 use std::alloc::Global;
 

@@ -43,9 +43,9 @@ path_in [] name = name
 path_in (b ∷ bs) name = (b ∷ bs) ++ codes "/" ++ name
 
 module _ {M : Type 0} (answers : M → HostResponse → M → Type 0) where
-  -- `CallsUnlessTooLong answers path asked Unasked old new`: the call `asked` about the joined path `path`
-  -- leads the host from state `old` to `new`. If the path is longer than `longest_path`, no call is
-  -- made, and `Unasked` holds. `answers` is the relation of the host's calls.
+  -- `CallsUnlessTooLong answers path asked Unasked old new`: the call `asked` about the joined path
+  -- `path` leads the host from state `old` to `new`. If the path is longer than `longest_path`, no
+  -- call is made, and `Unasked` holds. `answers` is the relation of the host's calls.
   pub data CallsUnlessTooLong (path : List ℕ) (asked : HostResponse) (Unasked : Type 0) (old new : M) : Type 0 where
     taken : length path ≤ longest_path → answers old asked new → CallsUnlessTooLong path asked Unasked old new
     too_long : longest_path < length path → Unasked → new ≡ old → CallsUnlessTooLong path asked Unasked old new

@@ -17,4 +17,4 @@ pub use machine::process_env::ProcessEnv;
 pub use machine::program_search::is_program_found;
 pub use system::moments::moment;
 pub use system::os::Os;
-pub use system::{Child, EnvPlan, FileRead, OsFault, ChildState};
+pub use system::{Child, ChildState, EnvPlan, FileRead, OsFault};

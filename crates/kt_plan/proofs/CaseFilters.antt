@@ -58,8 +58,8 @@ names_word words filters fault n found word same f at read copied =
 -- ---- the filters of a command
 
 module _ (rule : FilterRule) (words : List (List ℕ)) where
-  -- `Reads result`: `result` has the filters of the arguments, is their first error as `ParsesFilters`
-  -- says, or is the error of a failed allocation.
+  -- `Reads result`: `result` has the filters of the arguments, is their first error as
+  -- `ParsesFilters` says, or is the error of a failed allocation.
   abbrev pub Reads : Result (List Filter) SelectionError → Type 0
   Reads result = IsErrAnd result IsNoMemoryError ⊎ ParsesFilters rule words result
 

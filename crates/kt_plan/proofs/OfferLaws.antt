@@ -10,8 +10,8 @@ use Rattle.std.proofs.lemmas.List.{nil_from_length}
 module _ {W : Type 0} (replies : W → Reply → W → Type 0) (config : Values) (filters : List Filter) where
   module _ (program : Program) (variables : List Variable) (old new : W) (answer : Listing) (atf : program.interface ≡ Atf) (w : IsSelectable filters program)
       (own : variables ≡ variables_for config program.suite) (h : replies old (Lists program variables answer) new) where
-    -- The listing of an ATF program that `IsSelectable`, with the variables of its test suite, is its
-    -- only call.
+    -- The listing of an ATF program that `IsSelectable`, with the variables of its test suite, is
+    -- its only call.
     listed_once : {P : List Reply → Type 0} → P (Lists program (variables_for config program.suite) answer ∷ []) → LeadsByCalls replies old new P
     listed_once p = answered-once (Lists program (variables_for config program.suite) answer) (subst (λ (vs : List Variable). replies old (Lists program vs answer) new) own h) p
 
@@ -19,7 +19,8 @@ module _ {W : Type 0} (replies : W → Reply → W → Type 0) (config : Values)
     pub offers_listed : (cases : List CaseDef) → AreCases program.props Atf (Some answer) cases → LeadsByCalls replies old new (λ answers. ListsProgramCases config filters program answers (candidates_of program cases))
     offers_listed cases a = listed_once (listing _ cases atf w (listed answer cases a))
 
-    -- If an allocation fails after the listing, the listing is a prefix of the calls for the program.
+    -- If an allocation fails after the listing, the listing is a prefix of the calls for the
+    -- program.
     pub list_asked : LeadsByCalls replies old new (λ answers. IsAllListsPrefix config filters (program ∷ []) answers)
     list_asked = listed_once (asks program [] answer [] atf w (no_further []))
 

@@ -67,24 +67,24 @@ pub data IsReadFailure : ReadFault → Type 0 where
   missing : IsReadFailure Missing
   failed : IsReadFailure Failed
 
--- `IsConfiguration bytes result`: `bytes` are the contents of a configuration file. `result` has the
--- definitions in the file, or is the command's error for the file.
+-- `IsConfiguration bytes result`: `bytes` are the contents of a configuration file. `result` has
+-- the definitions in the file, or is the command's error for the file.
 pub data IsConfiguration (bytes : List ℕ) : Result (List Definition) SelectionError → Type 0 where
   refused : (fault : ConfigFault) → HasFault bytes fault → IsConfiguration bytes (Err (stop.Configuration fault))
   read : (stmts : List Stmt) (definitions : List Definition) → Spells bytes stmts → definitions_of_file stmts ≡ Ok definitions → IsConfiguration bytes (Ok definitions)
 
--- `ReadsConfig path config_calls result`: `config_calls` is a list of one call, which reads the configuration
--- file at `path`. `result` has the definitions in the file, or is the error of the command. If
--- `path` is `None`, there are no calls and no definitions.
+-- `ReadsConfig path config_calls result`: `config_calls` is a list of one call, which reads the
+-- configuration file at `path`. `result` has the definitions in the file, or is the error of the
+-- command. If `path` is `None`, there are no calls and no definitions.
 pub data ReadsConfig : Option (List ℕ) → List Reply → Result (List Definition) SelectionError → Type 0 where
   none : ReadsConfig None [] (Ok [])
   unread : (path : List ℕ) (fault : ReadFault) → IsReadFailure fault → ReadsConfig (Some path) (ReadConfig path (Err fault) ∷ []) (Err stop.UnreadableConfiguration)
   seen : (path bytes : List ℕ) (result : Result (List Definition) SelectionError) → IsConfiguration bytes result
       → ReadsConfig (Some path) (ReadConfig path (Ok bytes) ∷ []) result
 
--- `Configures options config_calls result`: `result` has the definitions for a command with the options
--- `options`: those in its configuration file, and then those of `-v`. `config_calls` are the calls that
--- read the file. If a definition has an error, `result` is the first error.
+-- `Configures options config_calls result`: `result` has the definitions for a command with the
+-- options `options`: those in its configuration file, and then those of `-v`. `config_calls` are
+-- the calls that read the file. If a definition has an error, `result` is the first error.
 pub data Configures (options : CaseOptions) (config_calls : List Reply) : Result (List Definition) SelectionError → Type 0 where
   stopped : (fault : SelectionError) → ReadsConfig options.config config_calls (Err fault) → Configures options config_calls (Err fault)
   defined : (before : List Definition) → ReadsConfig options.config config_calls (Ok before) → Configures options config_calls (values_after before (argument_definitions options.variables))
@@ -123,9 +123,9 @@ abbrev pub is_case_missing : FilterRule → List Filter → Bool
 is_case_missing AnyFilters filters = false
 is_case_missing OneCase filters = not (names_one_case filters)
 
--- `ParsesFilters rule words result`: `result` has the filters that the arguments `words` represent, or is
--- the first error. The arguments are parsed, then checked for an overlap, and then checked against
--- `rule`, which states which filters the command accepts.
+-- `ParsesFilters rule words result`: `result` has the filters that the arguments `words` represent,
+-- or is the first error. The arguments are parsed, then checked for an overlap, and then checked
+-- against `rule`, which states which filters the command accepts.
 pub data ParsesFilters (rule : FilterRule) (words : List (List ℕ)) : Result (List Filter) SelectionError → Type 0 where
   unparsed : (fault : SelectionError) → filters_of words ≡ Err fault → ParsesFilters rule words (Err fault)
   clash : (filters : List Filter) (word : List ℕ) (fault : FilterFault) → filters_of words ≡ Ok filters → IsFirstOverlap words filters word fault
@@ -139,8 +139,8 @@ pub data ParsesFilters (rule : FilterRule) (words : List (List ℕ)) : Result (L
 
 -- `ReadsSettings rule options config_calls result`: `result` has the settings of a command with the
 -- options `options`, or is the first error. The configuration file is read first, then the
--- arguments of `-v`, then the filters. `config_calls` are the calls to the host, which read the file.
--- `rule` states which filters the command accepts.
+-- arguments of `-v`, then the filters. `config_calls` are the calls to the host, which read the
+-- file. `rule` states which filters the command accepts.
 pub data ReadsSettings (rule : FilterRule) (options : CaseOptions) (config_calls : List Reply) : Result Settings SelectionError → Type 0 where
   unconfigured : (fault : SelectionError) → Configures options config_calls (Err fault) → ReadsSettings rule options config_calls (Err fault)
   unfiltered : (definitions : List Definition) (fault : SelectionError) → Configures options config_calls (Ok definitions) → ParsesFilters rule options.filters (Err fault)
@@ -148,9 +148,9 @@ pub data ReadsSettings (rule : FilterRule) (options : CaseOptions) (config_calls
   settled : (definitions : List Definition) (settings : Settings) → Configures options config_calls (Ok definitions) → HasValuesSetBy settings.config definitions
       → ParsesFilters rule options.filters (Ok settings.filters) → ReadsSettings rule options config_calls (Ok settings)
 
--- `IsReadPrefix path config_calls`: `config_calls` may be the calls that read the settings of a command
--- before an allocation failed. There is no call, or only the read of the configuration file at
--- `path`. If `path` is `None`, there is no call.
+-- `IsReadPrefix path config_calls`: `config_calls` may be the calls that read the settings of a
+-- command before an allocation failed. There is no call, or only the read of the configuration file
+-- at `path`. If `path` is `None`, there is no call.
 pub data IsReadPrefix : Option (List ℕ) → List Reply → Type 0 where
   before_file : (path : Option (List ℕ)) → IsReadPrefix path []
   after_file : (path : List ℕ) (answer : Result (List ℕ) ReadFault) → IsReadPrefix (Some path) (ReadConfig path answer ∷ [])

@@ -121,6 +121,7 @@ impl RemovalLimit {
         ensures counted { self.new.steps ≡ min (self.old.steps + 1) (2 ^ 64 - 1) }
     {
         self.steps = self.steps.saturating_add(1);
-        self.steps >= self.min_steps && is_spent(self.micros, self.steps, self.elapsed_micros(clock))
+        self.steps >= self.min_steps
+            && is_spent(self.micros, self.steps, self.elapsed_micros(clock))
     }
 }

@@ -82,8 +82,8 @@ impl Removals {
         queued_path(alloc, &self.queue_dir, self.next_number)
     }
 
-    /// Returns `true` if no directory has the queue's next number, `current_number`, because the move to this
-    /// number failed.
+    /// Returns `true` if no directory has the queue's next number, `current_number`, because the
+    /// move to this number failed.
     fn is_gap(&self) -> bool
         ensures { result ≡ list_any (λ n. n == self.now.current_number) self.now.gaps.items }
     {
@@ -331,7 +331,11 @@ impl Removals {
     ///
     /// Returns `true` if another step may follow within the time limit `bound`. If the allocation
     /// of the path fails, the next step tries the directory again.
-    fn empty_or_skip_next_dir<R: Files + Clock + AllocGlobal>(&mut self, rt: &R, bound: &mut RemovalLimit) -> bool
+    fn empty_or_skip_next_dir<R: Files + Clock + AllocGlobal>(
+        &mut self,
+        rt: &R,
+        bound: &mut RemovalLimit,
+    ) -> bool
         requires { self.old.current_number < self.old.next_number }
         ensures root { self.new.root ≡ self.old.root }
         ensures queue_dir { self.new.queue_dir ≡ self.old.queue_dir }

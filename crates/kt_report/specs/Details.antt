@@ -47,12 +47,12 @@ module _ {S F : Type 0} (reads : S → Entry → Result Entry F → S → Type 0
     more : (e full : Entry) (due shown : List Entry) (old mid new : S) → reads old e (Ok full) mid → ReadsDetails mid due shown new → ReadsDetails old (e ∷ due) (full ∷ shown) new
 
   module _ {E : Type 0} (layout : Layout) (due : List Entry) (old : S) (was now : Option (List ℕ)) (new : S) where
-    -- `IsReportResult answer`: `answer` is the result of writing a report of the entries `due`, with
-    -- the properties or outputs that were read for each entry. The report has the layout `layout`.
-    -- On success, the whole report was written. After a failed read, the entries before the failure
-    -- were written. After a failed write, a proper prefix of the report was written. The reads lead
-    -- from the state `old` to the state `new`, and the writes change the writer's contents from
-    -- `was` to `now`. `reads` is the relation of one read.
+    -- `IsReportResult answer`: `answer` is the result of writing a report of the entries `due`,
+    -- with the properties or outputs that were read for each entry. The report has the layout
+    -- `layout`. On success, the whole report was written. After a failed read, the entries before
+    -- the failure were written. After a failed write, a proper prefix of the report was written.
+    -- The reads lead from the state `old` to the state `new`, and the writes change the writer's
+    -- contents from `was` to `now`. `reads` is the relation of one read.
     abbrev pub IsReportResult : Result (Unit {0}) (WriteReportError F E) → Type 0
     IsReportResult (Ok done) = (shown : List Entry) × ReadsDetails old due shown new × Emits was now false (bytes_up_to layout shown [])
     IsReportResult (Err (Details fault)) =

@@ -18,7 +18,7 @@ three_digits n = last_digit (n / 100) ∷ last_digit (n / 10) ∷ last_digit n �
 abbrev pub four_digits : ℕ → List ℕ
 four_digits n = last_digit (n / 1000) ∷ last_digit (n / 100) ∷ last_digit (n / 10) ∷ last_digit n ∷ []
 
--- `seconds_bytes millis`: the bytes that are printed for a duration of `millis` milliseconds: seconds
--- with three digits after the point.
+-- `seconds_bytes millis`: the bytes that are printed for a duration of `millis` milliseconds:
+-- seconds with three digits after the point.
 abbrev pub seconds_bytes : ℕ → List ℕ
 seconds_bytes millis = decimal (millis / 1000) ++ codes "." ++ three_digits (millis % 1000)

@@ -1,8 +1,9 @@
 -- Characters and texts, escaped for XML.
 use Rattle.std.specs.Prelude.{ℕ, Bool, if◌then◌else◌, ◌==◌, nat_lt, ◌||◌, List, [], ◌∷◌, codes, flat_map}
 
--- `allowed_or_question_mark c`: the character `c`, or a question mark if `c` is below 32, or is U+FFFE or U+FFFF.
--- `escaped` handles the characters below 32 that XML allows, before it uses `allowed_or_question_mark`.
+-- `allowed_or_question_mark c`: the character `c`, or a question mark if `c` is below 32, or is
+-- U+FFFE or U+FFFF. `escaped` handles the characters below 32 that XML allows, before it uses
+-- `allowed_or_question_mark`.
 abbrev pub allowed_or_question_mark : ℕ → List ℕ
 allowed_or_question_mark c = if nat_lt c 32 || c == 65534 || c == 65535 then codes "?" else c ∷ []
 

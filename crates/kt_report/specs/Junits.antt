@@ -27,8 +27,8 @@ abbrev pub output_element : List ℕ → List ℕ → List ℕ
 output_element name [] = []
 output_element name (c ∷ text) = codes "<" ++ name ++ codes ">" ++ utf8 (c ∷ text) ++ codes "</" ++ name ++ codes ">\n"
 
--- `case_element texts kind millis`: the XML element of a case with the escaped texts `texts`, a verdict
--- of the kind `kind`, and a duration of `millis` milliseconds.
+-- `case_element texts kind millis`: the XML element of a case with the escaped texts `texts`, a
+-- verdict of the kind `kind`, and a duration of `millis` milliseconds.
 abbrev pub case_element : CaseTexts → Kind → ℕ → List ℕ
 case_element texts kind millis =
     codes "<testcase classname=\"" ++ utf8 texts.program ++ codes "\" name=\"" ++ utf8 texts.case_name ++ codes "\" time=\"" ++ seconds_bytes millis ++ codes "\">\n"

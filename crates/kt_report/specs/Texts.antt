@@ -70,7 +70,8 @@ abbrev pub section : Bool → List Kind → List Entry → Kind → List ℕ
 section verbose kinds entries kind = titled_section verbose kind (chosen_entries kinds entries kind)
 
 -- `sections verbose kinds entries`: the sections of the chosen kinds `kinds` in a report of
--- `entries`, in the order `section_order`. Lines of properties follow each entry if `verbose` is true.
+-- `entries`, in the order `section_order`. Lines of properties follow each entry if `verbose` is
+-- true.
 abbrev pub sections : Bool → List Kind → List Entry → List ℕ
 sections verbose kinds entries = flat_map (section verbose kinds entries) section_order
 

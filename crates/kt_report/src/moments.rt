@@ -31,7 +31,12 @@ pub fn three_digits(n: u64) -> [u8; 3]
 pub fn four_digits(n: u64) -> [u8; 4]
     ensures { result ≡ four_digits n }
 {
-    [last_digit(n / 1000), last_digit(n / 100), last_digit(n / 10), last_digit(n)]
+    [
+        last_digit(n / 1000),
+        last_digit(n / 100),
+        last_digit(n / 10),
+        last_digit(n),
+    ]
 }
 
 /// Writes a duration of `millis` milliseconds as a number of seconds, with three digits after the

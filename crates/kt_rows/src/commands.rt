@@ -177,7 +177,11 @@ fn find_violation(
 /// Appends the output without a failed write. If `find_violation` returns a message for another
 /// execution, appends the number of the write, this message and the output of that execution, and
 /// stops.
-fn push_each_failed_write(out: &mut ExampleOutput, example: &Example<'_>, scene: &Scene) -> Result<()> {
+fn push_each_failed_write(
+    out: &mut ExampleOutput,
+    example: &Example<'_>,
+    scene: &Scene,
+) -> Result<()> {
     let mut whole = run_example(example, scene, 0)?;
     push_result_and_state(out, example, &mut whole)?;
     for failing_write in 1..MAX_TRIALS {

@@ -142,7 +142,11 @@ impl BaselineRun {
             (Ok(stop), Some(done)) if stop == done || stop == done.saturating_add(1) => match stop {
                 0 => write!(out, " attach {}", cut.schema),
                 1 => out.push(" begin"),
-                _ if stop < self.finish_call_number() => write!(out, " put {}", stop.saturating_sub(1)),
+                _ if stop < self.finish_call_number() => write!(
+                    out,
+                    " put {}",
+                    stop.saturating_sub(1)
+                ),
                 _ if stop == self.finish_call_number() => out.push(" finish"),
                 _ => out.push(", then not"),
             },

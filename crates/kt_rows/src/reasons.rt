@@ -1,5 +1,7 @@
 use crate::printing::{create_writer, push_printed_text};
-use kt_base::{Bytes, NoMemory, Reason, Text, Verdict, emit_number, emit_u128, lossy, write_until_failure};
+use kt_base::{
+    Bytes, NoMemory, Reason, Text, Verdict, emit_number, emit_u128, lossy, write_until_failure,
+};
 use kt_examples::{
     Example, ExampleFault, ExampleLine, ExampleOutput, Result, ScriptedWriter, WriteFault,
     parse_kind, push_reason, unescape,

@@ -59,7 +59,11 @@ impl<R: ResultStore + Drop> ScriptedResultsHost<R> {
         let working_dir = Text::from_str(self.calls.alloc, "/here")?;
         let path = self.path.as_ref().map(Text::copy).transpose()?;
         let user = self.user.as_ref().map(Text::copy).transpose()?;
-        Ok(ProcessEnv { working_dir, path, user })
+        Ok(ProcessEnv {
+            working_dir,
+            path,
+            user,
+        })
     }
 }
 

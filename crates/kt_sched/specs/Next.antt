@@ -59,8 +59,8 @@ AreWhole plan T = (i : ℕ) (job : Job) → slice_get plan i ≡ Some job → (e
 abbrev pub WerePutsAllowed : List Job → ℕ → Trace → Type 0
 WerePutsAllowed plan n T = (i : ℕ) (job : Job) → slice_get plan i ≡ Some job → is_some job.decided ≡ true → was_put_allowed plan n T job ≡ true
 
--- `HasStepFacts plan n fed next`: the facts that hold after the responses `fed`, in the run of `plan`
--- with the width `n`, if `next` is the next step. A case to be started may start now
+-- `HasStepFacts plan n fed next`: the facts that hold after the responses `fed`, in the run of
+-- `plan` with the width `n`, if `next` is the next step. A case to be started may start now
 -- (`MayStartNow`). A body starts as the first event of its case, and a cleanup right after the end
 -- of its body. At a wait, a child runs. At the end of the run, each case with an event is over. If
 -- no put failed, each case of `plan` is over, and each decided case could be put

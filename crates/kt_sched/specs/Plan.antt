@@ -4,8 +4,8 @@ use Rattle.kt_sched.specs.Types.{Job}
 use Rattle.kt_base.specs.Limits.{longest_timeout_seconds, largest_width}
 use Rattle.kt_base.specs.declared.child.Interface.TheVariants.{Atf}
 
--- `IsStartableJob job`: `job` can be started: its timeout is 1 to 1,000,000 seconds, and only an ATF case
--- declares a cleanup.
+-- `IsStartableJob job`: `job` can be started: its timeout is 1 to 1,000,000 seconds, and only an
+-- ATF case declares a cleanup.
 pub record IsStartableJob (job : Job) : Type 0 where
   pub timed : 1 ≤ job.timeout
   pub limited : job.timeout ≤ longest_timeout_seconds

@@ -7,7 +7,8 @@ use Rattle.kt_sched.specs.Trace.{Start, End, Trace, NoEvent, Then, event_count}
 use Rattle.kt_sched.specs.History.{EventKind, BodyStarted, BodyEnded, CleanupStarted, history}
 
 -- `Responses`: the responses in a run so far: the trace of the launcher, and the number of stored
--- entries. If a put failed, `failed_put_after` is the number of events before this put, else `None`.
+-- entries. If a put failed, `failed_put_after` is the number of events before this put, else
+-- `None`.
 pub record Responses : Type 0 where
   pub trace : Trace
   pub stored : ℕ

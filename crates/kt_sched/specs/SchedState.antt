@@ -39,8 +39,8 @@ is_active_stage (PendingCleanup b) = true
 is_active_stage (Cleaning b) = true
 is_active_stage _ = false
 
--- `stage_changes_left stage`: the greatest number of changes of the stage that may follow for a case in the
--- stage `stage`, until the stage is `Taken`.
+-- `stage_changes_left stage`: the greatest number of changes of the stage that may follow for a
+-- case in the stage `stage`, until the stage is `Taken`.
 abbrev pub stage_changes_left : Stage → ℕ
 stage_changes_left Waiting = 5
 stage_changes_left Decided = 1
@@ -50,14 +50,15 @@ stage_changes_left (Cleaning b) = 2
 stage_changes_left (Finished t) = 1
 stage_changes_left Taken = 0
 
--- `changes_left cases`: the greatest number of changes of a stage that may follow for all `cases` together
--- (`stage_changes_left`).
+-- `changes_left cases`: the greatest number of changes of a stage that may follow for all `cases`
+-- together (`stage_changes_left`).
 abbrev pub changes_left : List Case → ℕ
 changes_left cases = sum_by (λ c. stage_changes_left c.stage) cases
 
--- `ReducesChangesLeft next old new`: `old` and `new` are the greatest numbers of changes of a stage that
--- may follow (`changes_left`), before and after the response to the step `next`. The response to a put
--- keeps this number, and the response to a start or a wait reduces it. `Done` has no condition.
+-- `ReducesChangesLeft next old new`: `old` and `new` are the greatest numbers of changes of a stage
+-- that may follow (`changes_left`), before and after the response to the step `next`. The response
+-- to a put keeps this number, and the response to a start or a wait reduces it. `Done` has no
+-- condition.
 abbrev pub ReducesChangesLeft : Next → ℕ → ℕ → Type 0
 ReducesChangesLeft (next.Put i) old new = new ≡ old
 ReducesChangesLeft (next.Start i role) old new = new < old

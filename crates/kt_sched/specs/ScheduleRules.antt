@@ -24,15 +24,15 @@ abbrev pub KeepsWidth : List Job → ℕ → Trace → Event → Type 0
 KeepsWidth plan n T (Start i Body answer) = active plan T < n
 KeepsWidth plan n T other = ⊤
 
--- `MayStartExclusive plan T`: after the events `T`, no case of `plan` is active, and each case that is not
--- exclusive is over (`is_whole`).
+-- `MayStartExclusive plan T`: after the events `T`, no case of `plan` is active, and each case that
+-- is not exclusive is over (`is_whole`).
 abbrev pub MayStartExclusive : List Job → Trace → Type 0
 MayStartExclusive plan T = (active plan T ≡ 0) × (list_all (λ (job : Job). job.exclusive || has_whole_history T job) plan ≡ true)
 
 -- `IsExclusiveAtStart plan T i role`: the rule of exclusive cases allows the start of case `i` of
 -- `plan` in the role `role` after the events `T`. An exclusive body starts only if no case is
--- active and each case that is not exclusive is over (`MayStartExclusive`). While an exclusive case is
--- active, only its own cleanup starts.
+-- active and each case that is not exclusive is over (`MayStartExclusive`). While an exclusive case
+-- is active, only its own cleanup starts.
 pub record IsExclusiveAtStart (plan : List Job) (T : Trace) (i : ℕ) (role : Role) : Type 0 where
   pub quiet : (job : Job) → slice_get plan i ≡ Some job → job.exclusive ≡ true → role ≡ Body → MayStartExclusive plan T
   pub own : (job : Job) (k : ℕ) → slice_get plan k ≡ Some job → job.exclusive ≡ true → is_active T job ≡ true → (k ≡ i) × (role ≡ Cleanup)

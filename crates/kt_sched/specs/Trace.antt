@@ -8,8 +8,8 @@ pub data Event : Type 0 where
   Start : (position : ℕ) (role : Role) (answer : StartAnswer) → Event
   End : (ended : Ended) → Event
 
--- `HasValidTimestamp answer`: if `answer` reports a start, the timestamp of the start is before the year
--- 10000.
+-- `HasValidTimestamp answer`: if `answer` reports a start, the timestamp of the start is before the
+-- year 10000.
 abbrev pub HasValidTimestamp : StartAnswer → Type 0
 HasValidTimestamp (Started moment) = IsMoment moment
 HasValidTimestamp (Refused cause) = ⊤

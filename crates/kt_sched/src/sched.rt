@@ -1,6 +1,7 @@
 use crate::entries::take_entry;
 use crate::progress::{
-    active_after_event, pending_and_ready_cases, stage_after_end, stage_after_start, turn_after_start,
+    active_after_event, pending_and_ready_cases, stage_after_end, stage_after_start,
+    turn_after_start,
 };
 use crate::setup::{create_cases, turn_order};
 use crate::stage::{Case, Stage};
@@ -172,7 +173,12 @@ impl Sched {
         let was = mem::replace(&mut case.stage, Stage::Taken);
         case.stage = stage_after_start(self.alloc, was, role, answer);
         self.turn = turn_after_start(self.turn, self.order.len(), role);
-        self.active = active_after_event(self.active, self.width, role == Role::Cleanup, &case.stage);
+        self.active = active_after_event(
+            self.active,
+            self.width,
+            role == Role::Cleanup,
+            &case.stage,
+        );
         (self.pending, self.ready) = pending_and_ready_cases(&case.stage, self.failed, i);
         self.asked = Next::Done;
     }

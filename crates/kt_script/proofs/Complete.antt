@@ -108,7 +108,8 @@ joined_none (Some end) = refl
 abbrev pub reached : ℕ → Transition → ScriptState × List Stmt
 reached line s = ((transition_of_step line s).0, option_to_list (transition_of_step line s).1)
 
--- `transition_of_tokens` over the tokens after a statement's name reaches the step that `walk` reaches
+-- `transition_of_tokens` over the tokens after a statement's name reaches the step that `walk`
+-- reaches
 steps_run : (ts : List Token) (line : ℕ) (s r : Transition) → walk s (token_kinds ts) ≡ Some r
     → option_map (joined (option_to_list (transition_of_step line s).1)) (transition_of_tokens (transition_of_step line s).0 ts) ≡ Some (reached line r)
 steps_run [] line (Advance q) r e = ap (λ (s : Transition). Some (reached line s)) (same_Some (Advance q) r e)
@@ -136,7 +137,8 @@ name_from_resting Start t n r e = rw e refl
 name_from_resting AfterStatement t n r e = rw e refl
 name_from_resting (InStatement line q) t n r e = elim r [ ]
 
--- `transition_of_tokens` over a statement's name and the tokens after it reaches the step that `walk` reaches
+-- `transition_of_tokens` over a statement's name and the tokens after it reaches the step that
+-- `walk` reaches
 pub named_runs : (t : Token) (ts : List Token) (p : ScriptState) (n : List ℕ) (s : Transition) → IsBetweenStatements p → t.kind ≡ Name n
     → walk (Advance (AfterName n)) (token_kinds ts) ≡ Some s
     → transition_of_tokens p (t ∷ ts) ≡ Some (reached t.line s)

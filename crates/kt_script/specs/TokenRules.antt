@@ -17,8 +17,8 @@ punctuation_kind_of c =
     else if c == 59 then Some Semicolon else if c == 46 then Some Dot
     else None
 
--- `kind_of_word letters`: the kind of the token with the bytes `letters`: a truth value for `true` and
--- `false`, otherwise a name.
+-- `kind_of_word letters`: the kind of the token with the bytes `letters`: a truth value for `true`
+-- and `false`, otherwise a name.
 abbrev pub kind_of_word : List ℕ → TokenKind
 kind_of_word letters = if bytes_eq letters (codes "true") then Truth true else if bytes_eq letters (codes "false") then Truth false else Name (chars letters)
 

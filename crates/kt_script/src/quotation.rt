@@ -58,7 +58,11 @@ fn string_element(quote: u8, text: &[u8]) -> StringElement
 ///
 /// Returns the characters of the string, and the number of bytes in `text` up to and including the
 /// closing quote. Returns the flaw if the string is not closed or has an unknown escape.
-fn decode_string(alloc: Global, quote: u8, text: &str) -> Result<Result<(Text, usize), Flaw>, NoMemory>
+fn decode_string(
+    alloc: Global,
+    quote: u8,
+    text: &str,
+) -> Result<Result<(Text, usize), Flaw>, NoMemory>
     requires { quote < 128 }
     ensures value { IfOk result (λ read. read ≡ decoded_string (string_at quote false text.now)) }
     ensures within { IfOk result (λ read. IfOk read (λ x. x.1 ≤ length text.now)) }

@@ -83,18 +83,18 @@ impl State {
             (State::AfterName(name), TokenKind::OpenParen) => Transition::Advance(State::AfterParen(
                 name,
             )),
-            (State::AfterName(name), TokenKind::OpenBrace) => Transition::Advance(State::Pairs(Table::new(
-                alloc, name, false,
-            ))),
+            (State::AfterName(name), TokenKind::OpenBrace) => Transition::Advance(State::Pairs(
+                Table::new(alloc, name, false),
+            )),
             (State::AfterName(name), TokenKind::Dot) => Transition::Advance(State::AfterDot(
                 single_part_path(alloc, name)?,
             )),
             (State::AfterName(name), TokenKind::OpenBracket) => Transition::Advance(
                 State::AfterPathBracket(single_part_path(alloc, name)?),
             ),
-            (State::AfterName(name), TokenKind::Equals) => Transition::Advance(State::AfterPathEquals(
-                single_part_path(alloc, name)?,
-            )),
+            (State::AfterName(name), TokenKind::Equals) => Transition::Advance(
+                State::AfterPathEquals(single_part_path(alloc, name)?),
+            ),
             (State::AfterParen(name), TokenKind::OpenBrace) => Transition::Advance(State::Pairs(
                 Table::new(alloc, name, true),
             )),
@@ -109,9 +109,9 @@ impl State {
             (State::Pairs(table), TokenKind::Name(name)) => Transition::Advance(State::AfterKey(
                 table, name,
             )),
-            (State::Pairs(table), TokenKind::OpenBracket) => Transition::Advance(State::AfterKeyBracket(
-                table,
-            )),
+            (State::Pairs(table), TokenKind::OpenBracket) => Transition::Advance(
+                State::AfterKeyBracket(table),
+            ),
             (State::Pairs(table), TokenKind::CloseBrace) => table.close(),
             (State::AfterKeyBracket(table), TokenKind::Quoted(key)) => Transition::Advance(
                 State::AfterKeyString(table, key),
@@ -119,9 +119,9 @@ impl State {
             (State::AfterKeyString(table, key), TokenKind::CloseBracket) => Transition::Advance(
                 State::AfterKey(table, key),
             ),
-            (State::AfterKey(table, key), TokenKind::Equals) => Transition::Advance(State::AfterKeyEquals(
-                table, key,
-            )),
+            (State::AfterKey(table, key), TokenKind::Equals) => Transition::Advance(
+                State::AfterKeyEquals(table, key),
+            ),
             (State::AfterKeyEquals(table, name), kind) => match literal_of(kind) {
                 None => return Ok(None),
                 Some(value) => {
@@ -130,9 +130,8 @@ impl State {
                     Transition::Advance(State::AfterPair(table))
                 }
             },
-            (State::AfterPair(table), TokenKind::Comma | TokenKind::Semicolon) => Transition::Advance(
-                State::Pairs(table),
-            ),
+            (State::AfterPair(table), TokenKind::Comma | TokenKind::Semicolon) =>
+                Transition::Advance(State::Pairs(table)),
             (State::AfterPair(table), TokenKind::CloseBrace) => table.close(),
             (State::AfterDot(mut path), TokenKind::Name(name)) => {
                 path.push(name)?;
@@ -149,9 +148,9 @@ impl State {
             (State::AfterPath(path), TokenKind::OpenBracket) => Transition::Advance(
                 State::AfterPathBracket(path),
             ),
-            (State::AfterPath(path), TokenKind::Equals) => Transition::Advance(State::AfterPathEquals(
-                path,
-            )),
+            (State::AfterPath(path), TokenKind::Equals) => Transition::Advance(
+                State::AfterPathEquals(path),
+            ),
             (State::AfterPathEquals(path), kind) => match literal_of(kind) {
                 None => return Ok(None),
                 Some(value) => Transition::Accept(Action::Assign(path, value)),

@@ -72,35 +72,36 @@ module _ {D : Type 0} {g : disk.Ghosts D} where
   abbrev pub AreResultsOf : Image → Held (FileStore D g) → Type 0
   AreResultsOf image results = (conn : Held (FileStore D g)) × IsConnectionTo image conn × ((was : InitialDatabase) → Describes was (file_state conn) → AttachSucceeds was (file_state conn) (file_state results))
 
-  -- `IsConvertedStore results store`: the connection `results` was converted to `store`. The last commit of
-  -- `store` has the runs of `results`, and a crash of `store` leaves only what a crash of `results`
-  -- leaves. If the disk has returned no wrong data up to `store`, it had returned none up to
-  -- `results`. The B-trees of `store` are then numbered (`HasTrees`).
+  -- `IsConvertedStore results store`: the connection `results` was converted to `store`. The last
+  -- commit of `store` has the runs of `results`, and a crash of `store` leaves only what a crash of
+  -- `results` leaves. If the disk has returned no wrong data up to `store`, it had returned none up
+  -- to `results`. The B-trees of `store` are then numbered (`HasTrees`).
   pub record IsConvertedStore (results : Held (FileStore D g)) (store : FileStore D g) : Type 0 where
     pub stands : (runs : List Run) → StandsFor (file_state results) runs → HasCommitted (view store) runs
     pub earlier : IsClean (view store) → HasCleanDisk (file_state results)
     pub crash : (trees : Trees) → recovers store trees → (file_state results).may_leave trees
     pub numbered : IsClean (view store) → IsTrue (view store).is_numbered
 
-  -- `ListsSchema2 image store`: `store` was opened over files with the content `image`. The files list the
-  -- tables of schema 2, unless the disk has returned wrong data. If `store` is open, its last
-  -- commit has the schema number 2.
+  -- `ListsSchema2 image store`: `store` was opened over files with the content `image`. The files
+  -- list the tables of schema 2, unless the disk has returned wrong data. If `store` is open, its
+  -- last commit has the schema number 2.
   pub record ListsSchema2 (image : Image) (store : FileStore D g) : Type 0 where
     pub lists : IsClean (view store) → ListsTables image
     pub schema : IsTrue (view store).is_open → HasSchemaNumber (pos 2) (view store).committed
 
-  -- `RepresentsImage image store`: `store` was opened over files with the content `image`, and represents
-  -- their runs. Either the files list the tables of schema 2 (`ListsSchema2`), or their tables were
-  -- created, checked or migrated by `Results::attach` (`IsConvertedStore`). If an open must check all trees,
-  -- the trees of `store` are numbered (`HasTrees`), unless the disk has returned wrong data.
+  -- `RepresentsImage image store`: `store` was opened over files with the content `image`, and
+  -- represents their runs. Either the files list the tables of schema 2 (`ListsSchema2`), or their
+  -- tables were created, checked or migrated by `Results::attach` (`IsConvertedStore`). If an open
+  -- must check all trees, the trees of `store` are numbered (`HasTrees`), unless the disk has
+  -- returned wrong data.
   pub record RepresentsImage (image : Image) (store : FileStore D g) : Type 0 where
     pub held : OpensRuns image store
     pub whose : ListsSchema2 image store ⊎ ((results : Held (FileStore D g)) × AreResultsOf image results × IsConvertedStore results store)
     pub numbered : IsClean (view store) → MustBeChecked image → IsTrue (view store).is_numbered
 
-  -- `ClosesCleanly store`: the close of `store` succeeded and left the log and the database file. Unless the
-  -- disk has returned wrong data, the files contain the last commit of `store`, also without the
-  -- log. This also holds after a crash.
+  -- `ClosesCleanly store`: the close of `store` succeeded and left the log and the database file.
+  -- Unless the disk has returned wrong data, the files contain the last commit of `store`, also
+  -- without the log. This also holds after a crash.
   pub record ClosesCleanly (store : FileStore D g) : Type 0 where
     pub last : FileStore D g
     pub quiet : IsQuiet view faults recovers is_shielded store last

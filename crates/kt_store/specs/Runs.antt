@@ -100,8 +100,8 @@ AreOrdered runs = AllByRecursion (λ (r : Run). IsAscending (λ (a b : Entry). a
 abbrev pub HasSchemaNumber : ℤ → Trees → Type 0
 HasSchemaNumber n trees = map (drop 1) (trees 0) ≡ (Text (codes "schema") ∷ Int n ∷ []) ∷ []
 
--- `IsSchema2Database db runs`: database `db` has schema 2, and its rows are exactly those of `runs`, which
--- meet `AreValidRuns`
+-- `IsSchema2Database db runs`: database `db` has schema 2, and its rows are exactly those of
+-- `runs`, which meet `AreValidRuns`
 pub record IsSchema2Database (db : Database) (runs : List Run) : Type 0 where
   pub schema : db.schema ≡ schema_2
   pub marked : HasSchemaNumber (pos 2) db.trees
@@ -154,8 +154,8 @@ abbrev pub run_at : List Run → ℕ → Option Run
 run_at runs zero = None
 run_at runs (suc k) = slice_get runs k
 
--- `insert_by_position e es`: the entries `es` with `e` inserted before the first entry with a greater
--- position
+-- `insert_by_position e es`: the entries `es` with `e` inserted before the first entry with a
+-- greater position
 abbrev pub insert_by_position : Entry → List Entry → List Entry
 insert_by_position e [] = e ∷ []
 insert_by_position e (x ∷ es) = if nat_lt e.position x.position then e ∷ x ∷ es else x ∷ insert_by_position e es

@@ -68,8 +68,9 @@ pub record Reads {R : Type 0} (r : store.Ghosts R) (old new : R) : Type 0 where
   pub earlier : (runs : List Run) → r.stands old runs → r.sound new → r.sound old
   pub crash : (runs : List Run) (may : List (List Run)) → r.stands old runs → r.leaves old may → r.leaves new may
 
--- `results_spec g`: the specification of the store `Results` over connections with the specification
--- `g`. Its relation `answers` always holds, since other clauses state the results of calls.
+-- `results_spec g`: the specification of the store `Results` over connections with the
+-- specification `g`. Its relation `answers` always holds, since other clauses state the results of
+-- calls.
 abbrev pub results_spec : {S : Type 0} → Ghosts S → store.Ghosts (Held S)
 results_spec g = record {
   answers = λ _ _ _. Unit {0};

@@ -44,7 +44,10 @@ impl Batch for SqlTexts<'_> {
 
     ghost is_ready = { λ t. AllByRecursion IsSchema2Statement (map (λ sql. sql.now) t.texts.now) };
 
-    fn execute_statements<S: Alter>(&self, tx: &mut Transaction<'_, S>) -> Result<(), DatabaseError> {
+    fn execute_statements<S: Alter>(
+        &self,
+        tx: &mut Transaction<'_, S>,
+    ) -> Result<(), DatabaseError> {
         for text in self.texts {
             execute_in_transaction(tx, text, &[])?;
         }

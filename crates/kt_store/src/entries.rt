@@ -3,7 +3,7 @@ ghost use Rattle.kt_store.specs.Common.{HoldsForRuns, AreWide, AreValidRuns, Ent
 
 use crate::StoreFault;
 use crate::heads::push_item;
-use crate::lookup::{run_key, look_up_run};
+use crate::lookup::{look_up_run, run_key};
 use crate::outlines::{entry_from_row, properties_from_rows};
 use crate::statements::{get_column, query};
 use crate::store_fault::DatabaseError;

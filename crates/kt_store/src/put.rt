@@ -3,10 +3,10 @@ ghost use Rattle.kt_store.specs.Common.{HoldsForRuns, greatest_run_number, IsSto
 
 use crate::StoreFault;
 use crate::batch::{Batch, commit};
-use crate::lookup::{run_key, look_up_run, has_entry_at};
+use crate::lookup::{has_entry_at, look_up_run, run_key};
 use crate::statements::execute_in_transaction;
 use crate::store_fault::DatabaseError;
-use crate::value::{blob_value, kind_code, int_value, text_value};
+use crate::value::{blob_value, int_value, kind_code, text_value};
 use kt_base::{Entry, NoMemory, Text, Variable};
 use sqlite::{Alter, Connection, Transaction};
 use std::alloc::Global;
@@ -129,7 +129,10 @@ impl Batch for EntryInsert<'_> {
 
     ghost is_ready = { λ n. (n.reason.now ≡ n.entry.now.verdict.reason) × IsStorable n.entry.now };
 
-    fn execute_statements<S: Alter>(&self, tx: &mut Transaction<'_, S>) -> Result<(), DatabaseError> {
+    fn execute_statements<S: Alter>(
+        &self,
+        tx: &mut Transaction<'_, S>,
+    ) -> Result<(), DatabaseError> {
         insert_entry_rows(tx, self.run, self.entry, self.reason)
     }
 }

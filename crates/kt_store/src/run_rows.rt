@@ -3,7 +3,7 @@ ghost use Rattle.kt_store.specs.Common.{HoldsForRuns, greatest_run_number, IsMom
 
 use crate::StoreFault;
 use crate::entries::read_entry_rows;
-use crate::lookup::{MAX_RUNS, find_run_state, run_key, look_up_run};
+use crate::lookup::{MAX_RUNS, find_run_state, look_up_run, run_key};
 use crate::statements::execute;
 use crate::store_fault::DatabaseError;
 use crate::value::int_value;
@@ -50,7 +50,10 @@ pub(crate) fn add_run<S: Alter>(
 /// Checks that the run with the number `run` can be finished: it exists, is unfinished, and has an
 /// entry for each selected case. Fails with the first of `NoRun`, `RunClosed` and `Incomplete` that
 /// applies.
-pub(crate) fn check_can_finish<S: Alter>(conn: &mut Connection<S>, run: u64) -> Result<(), StoreFault>
+pub(crate) fn check_can_finish<S: Alter>(
+    conn: &mut Connection<S>,
+    run: u64,
+) -> Result<(), StoreFault>
     ensures small { OnOk result (run ≤ greatest_run_number) }
     ensures looked { OnlyReadsRuns S.Store conn.old conn.new }
     ensures refused { HoldsForRuns S.Store conn.old conn.new (λ runs.

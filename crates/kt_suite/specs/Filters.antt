@@ -6,8 +6,8 @@ use Rattle.kt_suite.specs.declared.filter.FilterFault.TheVariants.{NoMemory, Emp
 use Rattle.kt_base.specs.Characters.{is_slash}
 use Rattle.kt_base.specs.Texts.{is_empty, before, after}
 
--- `is_kept_component component`: the path component `component` is neither empty nor `.`, so `normalized_path`
--- keeps it.
+-- `is_kept_component component`: the path component `component` is neither empty nor `.`, so
+-- `normalized_path` keeps it.
 abbrev pub is_kept_component : List ℕ → Bool
 is_kept_component component = not (is_empty component) && not (bytes_eq component (codes "."))
 
@@ -55,8 +55,8 @@ abbrev pub filter_meaning : List ℕ → FilterResult
 filter_meaning text =
     fault_or_meaning (parts_fault (before 58 text) (after 58 text)) (filter_of (normalized_path (before 58 text)) (after 58 text))
 
--- `IsFilterResult result meaning`: `result` is the result of parsing a filter's text that has the meaning
--- `meaning`. It is this meaning, or the error of a failed allocation.
+-- `IsFilterResult result meaning`: `result` is the result of parsing a filter's text that has the
+-- meaning `meaning`. It is this meaning, or the error of a failed allocation.
 abbrev pub IsFilterResult : Result Filter FilterFault → FilterResult → Type 0
 IsFilterResult (Err (NoMemory refusal)) meaning = Unit {0}
 IsFilterResult found meaning = found ≡ meaning

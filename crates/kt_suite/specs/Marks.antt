@@ -111,7 +111,7 @@ pub data Unfolds : List (List ℕ) → List Part → List Mark → Type 0 where
       → include_cause files path ≡ None → HasFileParts path own → Unfolds (files ++ path ∷ []) own inner → Unfolds files parts marks
       → Unfolds files (Includes at path ∷ parts) (File at ∷ (inner ++ marks))
 
--- `HasTreeMarks root marks`: `marks` are the marks of reading the tree with the root Kyuafile `root`.
--- The calls among `marks` may have any results.
+-- `HasTreeMarks root marks`: `marks` are the marks of reading the tree with the root Kyuafile
+-- `root`. The calls among `marks` may have any results.
 abbrev pub HasTreeMarks : List ℕ → List Mark → Type 0
 HasTreeMarks root marks = Unfolds [] (Includes (record { file = root; line = 0 }) root ∷ []) marks

@@ -51,11 +51,11 @@ program_with_suite interface name file (Some own) props =
 program_with_suite interface name (Some suite) None props = meaning.Program interface name suite props
 program_with_suite interface name None None props = meaning.Wrong NoSuite
 
--- `named_table_meaning interface file own props name`: the meaning of a table that declares a program with the
--- interface `interface`, the properties `props` and the optional name `name`. `own` is the test
--- suite that the table sets, and `file` is the test suite that the Kyuafile sets, if any. The
--- meaning is an error if the name is absent or empty, contains a slash, or is `.` or `..`.
--- Otherwise, `program_with_suite` defines the meaning.
+-- `named_table_meaning interface file own props name`: the meaning of a table that declares a
+-- program with the interface `interface`, the properties `props` and the optional name `name`.
+-- `own` is the test suite that the table sets, and `file` is the test suite that the Kyuafile sets,
+-- if any. The meaning is an error if the name is absent or empty, contains a slash, or is `.` or
+-- `..`. Otherwise, `program_with_suite` defines the meaning.
 abbrev pub named_table_meaning : Interface → Option (List ℕ) → Option (List ℕ) → List Variable → Option (List ℕ) → Meaning
 named_table_meaning interface file own props None = meaning.Wrong BadValue
 named_table_meaning interface file own props (Some name) =

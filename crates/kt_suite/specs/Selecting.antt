@@ -8,8 +8,8 @@ use Rattle.kt_suite.specs.Matching.{matches}
 abbrev pub item_limit : ℕ
 item_limit = 100000
 
--- `passing_positions test n xs`: the positions of the elements of the list `xs` that pass the test `test`,
--- ascending. The first element has the position `n`.
+-- `passing_positions test n xs`: the positions of the elements of the list `xs` that pass the test
+-- `test`, ascending. The first element has the position `n`.
 abbrev pub passing_positions : {A : Type 0} → (A → Bool) → ℕ → List A → List ℕ
 passing_positions test n [] = []
 passing_positions test n (x ∷ xs) = if test x then n ∷ passing_positions test (n + 1) xs else passing_positions test (n + 1) xs

@@ -45,8 +45,8 @@ key_cause key.Unknown pair = Some UnknownProperty
 abbrev pub pair_cause : Variable → Option SuiteCause
 pair_cause pair = key_cause (key_named pair.name) pair
 
--- `first_invalid_pair_cause pairs`: the cause of the error in the first invalid pair of `pairs`, or `None` if
--- all pairs are valid.
+-- `first_invalid_pair_cause pairs`: the cause of the error in the first invalid pair of `pairs`, or
+-- `None` if all pairs are valid.
 abbrev pub first_invalid_pair_cause : List Variable → Option SuiteCause
 first_invalid_pair_cause [] = None
 first_invalid_pair_cause (pair ∷ pairs) = option_or (pair_cause pair) (first_invalid_pair_cause pairs)

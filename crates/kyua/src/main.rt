@@ -5,7 +5,8 @@ mod host;
 
 use host::{InitialContents, KyuaHost};
 use kt_cli::{
-    HostHandles, LineOutput, NonblockingOutput, ResultsHost, SharedOutput, StandardOutput, run_process_args,
+    HostHandles, LineOutput, NonblockingOutput, ResultsHost, SharedOutput, StandardOutput,
+    run_process_args,
 };
 use kt_os::{HostOs, OsFiles};
 use sqlite::Unknown;
@@ -27,7 +28,13 @@ fn execute<P: ResultsHost>(rt: &HostRuntime, host: &mut P) -> ExitCode {
     };
     // `run_process_args` sets `by_line` for `test`.
     let mut out = LineOutput::new(SharedOutput::new(&held), false);
-    let (status, _outside) = run_process_args(outside, host, env::args(rt), &mut out, &mut rt.stderr());
+    let (status, _outside) = run_process_args(
+        outside,
+        host,
+        env::args(rt),
+        &mut out,
+        &mut rt.stderr(),
+    );
     ExitCode::from(status)
 }
 

@@ -23,8 +23,8 @@ cases_of children = map (λ k. k.case) children
 abbrev pub launcher_child : CaseAttempt → Shown
 launcher_child c = record { interface = c.interface; cleanup = c.cleanup }
 
--- `find_launcher_child cases k r`: the child (`launcher_child`) of the first case in `cases` that has
--- the position `k` and the role `r`. It is `None` if there is no such case.
+-- `find_launcher_child cases k r`: the child (`launcher_child`) of the first case in `cases` that
+-- has the position `k` and the role `r`. It is `None` if there is no such case.
 abbrev pub find_launcher_child : List CaseAttempt → ℕ → Role → Option Shown
 find_launcher_child [] k r = None
 find_launcher_child (c ∷ cases) k r = if k == c.position && is_same_role r c.role then Some (launcher_child c) else find_launcher_child cases k r

@@ -17,8 +17,8 @@ program_path source program = source ++ codes "/" ++ program
 abbrev pub program_directory : List ℕ → List ℕ
 program_directory path = if is_empty (parent_of path) then codes "/" else parent_of path
 
--- `child_timeout_seconds job role`: the timeout of the child of `job` in `role`, in seconds. It is 60 for a
--- cleanup.
+-- `child_timeout_seconds job role`: the timeout of the child of `job` in `role`, in seconds. It is
+-- 60 for a cleanup.
 abbrev pub child_timeout_seconds : Job → Role → ℕ
 child_timeout_seconds job Body = job.timeout
 child_timeout_seconds job Cleanup = 60

@@ -56,8 +56,8 @@ numbers b = map (λ a. a.case.attempt) b.running_children ++ map (λ c. c.attemp
 abbrev pub HasUniqueNumbers : DriverState → Type 0
 HasUniqueNumbers b = (n : ℕ) → (occurrences n (numbers b) ≤ 1) × (b.next ≤ n → occurrences n (numbers b) ≡ 0)
 
--- `AttemptNumbersAreUnique`: the attempt numbers are unique (`HasUniqueNumbers`) in each driver state that a
--- trace reaches from a state without children and without pending cleanups.
+-- `AttemptNumbersAreUnique`: the attempt numbers are unique (`HasUniqueNumbers`) in each driver
+-- state that a trace reaches from a state without children and without pending cleanups.
 abbrev pub AttemptNumbersAreUnique : Type 0
 AttemptNumbersAreUnique =
     (plan : List Job) (source root : List ℕ) (next : ℕ) (T : Trace) (calls : List Call) (b : DriverState)

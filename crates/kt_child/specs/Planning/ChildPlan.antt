@@ -13,8 +13,8 @@ child_of c = record { attempt = c.attempt; role = c.role }
 abbrev pub attempt_dir : List ℕ → ℕ → List ℕ
 attempt_dir root number = root ++ codes "/" ++ decimal number
 
--- `attempt_path root number name`: the path of `name` in the directory of the attempt `number` below
--- `root`, the root directory of the driver.
+-- `attempt_path root number name`: the path of `name` in the directory of the attempt `number`
+-- below `root`, the root directory of the driver.
 abbrev pub attempt_path : List ℕ → ℕ → List ℕ → List ℕ
 attempt_path root number name = attempt_dir root number ++ codes "/" ++ name
 

@@ -21,9 +21,9 @@ outcome_of Running = None
 outcome_of (PolledExit code) = Some (Exited code)
 outcome_of (PolledSignal signal core) = Some (Signaled signal core)
 
--- `YieldsAfterKill left responses outcome`: a child was killed, and the responses `responses` after the
--- kill give `outcome`. An exit or a signal gives a timeout. A failed poll gives a failed wait, and
--- so does the `left`-th poll that reports the child as running.
+-- `YieldsAfterKill left responses outcome`: a child was killed, and the responses `responses` after
+-- the kill give `outcome`. An exit or a signal gives a timeout. A failed poll gives a failed wait,
+-- and so does the `left`-th poll that reports the child as running.
 abbrev pub YieldsAfterKill : ℕ → List ChildResponse → Outcome → Type 0
 YieldsAfterKill left responses outcome =
     ((k : ℕ) × (s : ChildState) × (x : Outcome) × (k < left) × (outcome_of s ≡ Some x)
@@ -32,10 +32,10 @@ YieldsAfterKill left responses outcome =
     ⊎ ((k : ℕ) × (f : OsFault) × (done : Bool) × (k < left)
     × (responses ≡ replicate k running ++ PollResponse (Err f) ∷ KillResponse done ∷ []) × (outcome ≡ WaitFailed))
 
--- `YieldsWithin left responses outcome`: the responses `responses` of a child give `outcome`. An exit or a
--- signal before a kill is the outcome. After the `left`-th poll that reports the child as running,
--- it is killed, and the responses after the kill give the outcome. A failed poll or a failed kill
--- gives a failed wait.
+-- `YieldsWithin left responses outcome`: the responses `responses` of a child give `outcome`. An
+-- exit or a signal before a kill is the outcome. After the `left`-th poll that reports the child as
+-- running, it is killed, and the responses after the kill give the outcome. A failed poll or a
+-- failed kill gives a failed wait.
 abbrev pub YieldsWithin : ℕ → List ChildResponse → Outcome → Type 0
 YieldsWithin left responses outcome =
     ((k : ℕ) × (s : ChildState) × (k < left) × (outcome_of s ≡ Some outcome)
@@ -45,8 +45,9 @@ YieldsWithin left responses outcome =
     ⊎ ((k : ℕ) × (f : OsFault) × (done : Bool) × (k < left)
     × (responses ≡ replicate k running ++ PollResponse (Err f) ∷ KillResponse done ∷ []) × (outcome ≡ WaitFailed))
 
--- `Yields limit responses outcome`: the responses `responses` of a child with the timeout `limit`, in
--- seconds, give `outcome` (`YieldsWithin`). The timeout is reached after 100 polls for each second.
+-- `Yields limit responses outcome`: the responses `responses` of a child with the timeout `limit`,
+-- in seconds, give `outcome` (`YieldsWithin`). The timeout is reached after 100 polls for each
+-- second.
 abbrev pub Yields : ℕ → List ChildResponse → Outcome → Type 0
 Yields limit responses outcome = YieldsWithin (100 * limit) responses outcome
 

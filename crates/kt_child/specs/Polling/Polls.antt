@@ -7,14 +7,14 @@ use Rattle.kt_child.specs.declared.polling.ChildProgress.TheVariants.{StillRunni
 use Rattle.kt_os.specs.System.Calls.{Call, Poll, Kill}
 use Rattle.kt_child.specs.Polling.ChildOutcome.{ChildResponse, KillResponse, PollResponse}
 
--- `reaches_timeout limit w`: the next poll that reports a child as running reaches the child's timeout of
--- `limit` seconds. `w` has the poll counts of the child, which was not killed.
+-- `reaches_timeout limit w`: the next poll that reports a child as running reaches the child's
+-- timeout of `limit` seconds. `w` has the poll counts of the child, which was not killed.
 abbrev pub reaches_timeout : ℕ → PollCounts → Bool
 reaches_timeout limit w = not w.killed && (w.before + 1 == 100 * limit)
 
 -- `is_followed_by_kill limit w result`: a kill follows a poll with the result `result`: the poll
--- failed, or the child reached its timeout (`reaches_timeout`). The child has the timeout `limit`, in
--- seconds, and before the poll it had the poll counts `w`.
+-- failed, or the child reached its timeout (`reaches_timeout`). The child has the timeout `limit`,
+-- in seconds, and before the poll it had the poll counts `w`.
 abbrev pub is_followed_by_kill : ℕ → PollCounts → Result ChildState OsFault → Bool
 is_followed_by_kill limit w (Err _) = true
 is_followed_by_kill limit w (Ok Running) = reaches_timeout limit w

@@ -139,7 +139,11 @@ pub(crate) fn new_running_child(limit: u64, case: CaseAttempt) -> RunningChild
         killed: false,
         after: 0,
     };
-    RunningChild { case, limit, counts }
+    RunningChild {
+        case,
+        limit,
+        counts,
+    }
 }
 
 /// Creates the two output files of `plan` and spawns its child.

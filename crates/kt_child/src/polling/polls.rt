@@ -3,7 +3,7 @@ ghost use Rattle.kt_child.specs.Common.{OsFault, ChildState, Running, Chain, Kil
 
 use crate::polling::{ChildProgress, PollCounts, RunningChild};
 use kt_base::Outcome;
-use kt_os::{Child, Os, ChildState};
+use kt_os::{Child, ChildState, Os};
 
 /// The number of polls that count as one second of a child's timeout (this profile).
 const POLLS_PER_SECOND: u64 = 100;
@@ -40,7 +40,9 @@ pub(crate) fn poll_once<O: Os>(
         // After a kill, any end of the child counts as a timeout.
         Ok(_) if counts.killed => ChildProgress::Ended(Outcome::TimedOut),
         Ok(ChildState::Exited(code)) => ChildProgress::Ended(Outcome::Exited(code)),
-        Ok(ChildState::Signaled(signal, core)) => ChildProgress::Ended(Outcome::Signaled(signal, core)),
+        Ok(ChildState::Signaled(signal, core)) => ChildProgress::Ended(Outcome::Signaled(
+            signal, core,
+        )),
     }
 }
 

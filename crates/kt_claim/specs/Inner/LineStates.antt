@@ -54,17 +54,17 @@ facts_of_kind kind.Test reason = test_facts true false
 facts_of_kind kind.Failure reason = test_facts true true
 facts_of_kind (kind.Plan n) reason = plan_facts (Some (plan_for reason n))
 
--- `facts_after_opening o more`: the `Facts` of a TAP line that consists of the opening `o` and the bytes
--- `more`.
+-- `facts_after_opening o more`: the `Facts` of a TAP line that consists of the opening `o` and the
+-- bytes `more`.
 abbrev pub facts_after_opening : Opening → List ℕ → Facts
 facts_after_opening opening.BailOut more = bail_out_facts
 facts_after_opening opening.Ok more = test_facts (is_word_end more) false
 facts_after_opening opening.NotOk more = test_facts (is_word_end more) (is_word_end more && not (is_some (directive_in false more)))
 facts_after_opening opening.Plan more = plan_facts (option_map (plan_for (reason_of_skip (directive_in false more))) (planned_from None more))
 
--- `facts_within_opening o whole more`: the `Facts` of a TAP line that begins with the opening `o`, followed by
--- the bytes `more`. If `whole` is false, the opening is incomplete, and the line doesn't affect the
--- result of the stream.
+-- `facts_within_opening o whole more`: the `Facts` of a TAP line that begins with the opening `o`,
+-- followed by the bytes `more`. If `whole` is false, the opening is incomplete, and the line
+-- doesn't affect the result of the stream.
 abbrev pub facts_within_opening : Opening → Bool → List ℕ → Facts
 facts_within_opening o false more = no_facts
 facts_within_opening o true more = facts_after_opening o more
@@ -142,7 +142,8 @@ IsEmptyUnless false kept = kept ≡ []
 abbrev pub KeepsIfReason : LineProgress → List ℕ → Type 0
 KeepsIfReason begun kept = IsEmptyUnless (is_reason begun) kept
 
--- `with_held_cr held_cr more`: the bytes `more`, with a carriage return before them if `held_cr` is true.
+-- `with_held_cr held_cr more`: the bytes `more`, with a carriage return before them if `held_cr` is
+-- true.
 abbrev pub with_held_cr : Bool → List ℕ → List ℕ
 with_held_cr false more = more
 with_held_cr true more = 13 ∷ more
@@ -154,9 +155,9 @@ pub record LineState : Type 0 where
   pub kept : List ℕ
   pub held_cr : Bool
 
--- `IsStateAfter begun kept held_cr came`: after the bytes `came` of a TAP line, the reader is in the
--- state `begun` and keeps the bytes `kept` of a plan's reason. It holds back a carriage return if
--- `held_cr` is true. These three values give the `Facts` of the line for any bytes that follow.
+-- `IsStateAfter begun kept held_cr came`: after the bytes `came` of a TAP line, the reader is in
+-- the state `begun` and keeps the bytes `kept` of a plan's reason. It holds back a carriage return
+-- if `held_cr` is true. These three values give the `Facts` of the line for any bytes that follow.
 pub record IsStateAfter (begun : LineProgress) (kept : List ℕ) (held_cr : Bool) (came : List ℕ) : Type 0 where
   pub keeps : KeepsIfReason begun kept
   pub facts : (more : List ℕ) → facts_of (without_cr (came ++ more)) ≡ facts_with begun kept (without_cr (with_held_cr held_cr more))

@@ -9,8 +9,8 @@ use Rattle.kt_cli.specs.Courses.{CommandCalls, CallsWorld}
 use Rattle.kt_cli.specs.CommandStates.{World}
 use Rattle.kt_cli.specs.Stores.{CallsStore}
 
--- `world_calls_only world_calls`: the calls of a command that made only the calls `world_calls` of its
--- world, and no store call.
+-- `world_calls_only world_calls`: the calls of a command that made only the calls `world_calls` of
+-- its world, and no store call.
 abbrev pub world_calls_only : List WorldCall → CommandCalls
 world_calls_only world_calls = record { world_calls = world_calls; plan = []; trace = NoEvent; calls = [] }
 
@@ -27,8 +27,8 @@ module _ {W : Type 0} (w : World W) where
     pub printed : Printed was now exit bytes intended_exit
     pub is : Means seen printed.failed c bytes intended_exit
 
--- `store_calls_only calls`: the calls of a command that made only the store calls `calls`, and no call
--- of a world.
+-- `store_calls_only calls`: the calls of a command that made only the store calls `calls`, and no
+-- call of a world.
 abbrev pub store_calls_only : List StoreCall → CommandCalls
 store_calls_only calls = record { world_calls = []; plan = []; trace = NoEvent; calls = calls }
 

@@ -14,9 +14,9 @@ use Rattle.kt_cli.specs.Debugging.{all_debug_bytes, debug_bytes}
 abbrev pub Prints : Bool → Option (List ℕ) → Entry → Result (Unit {0}) SinkFault → Bool → Option (List ℕ) → Type 0
 Prints failed held entry answer failed' held' = (answer ≡ Ok tt) × WritesNext held failed held' failed' (debug_bytes entry)
 
--- `IsDebugResult plan T entries outcome`: if `outcome` is a success, `entries` are those of all cases
--- of `plan` with the trace `T`, and `outcome` has their totals. The only possible error is a failed
--- allocation before a case was started, and then there are no entries.
+-- `IsDebugResult plan T entries outcome`: if `outcome` is a success, `entries` are those of all
+-- cases of `plan` with the trace `T`, and `outcome` has their totals. The only possible error is a
+-- failed allocation before a case was started, and then there are no entries.
 abbrev pub IsDebugResult : List Job → Trace → List Entry → Result Totals RunFault → Type 0
 IsDebugResult plan T entries (Ok totals) = AllRecorded plan 1 T entries × Counts entries totals
 IsDebugResult plan T entries (Err (NoMemory refusal)) = (T ≡ NoEvent) × (entries ≡ [])

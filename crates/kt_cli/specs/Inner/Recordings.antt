@@ -37,20 +37,20 @@ module _ (plan : List Job) (n number : ℕ) (T : Trace) (entries : List Entry) (
     pub one : last ≡ Put number entry (Err refusal) ∷ []
     pub stopped : IsStopped plan n T entries entry
 
-  -- `IsRecordingResult plan n number T entries last outcome`: the execution of `plan` at width `n` with
-  -- the trace `T` had the result `outcome`. It recorded `entries` in run `number`, and `last` is
-  -- the failed put, if any. For a success `RecordedAll` holds, for a failed put `RecordedSome`, and
-  -- for a failed allocation `RecordedNone`.
+  -- `IsRecordingResult plan n number T entries last outcome`: the execution of `plan` at width `n`
+  -- with the trace `T` had the result `outcome`. It recorded `entries` in run `number`, and `last`
+  -- is the failed put, if any. For a success `RecordedAll` holds, for a failed put `RecordedSome`,
+  -- and for a failed allocation `RecordedNone`.
   abbrev pub IsRecordingResult : Result Totals RunFault → Type 0
   IsRecordingResult (Ok totals) = RecordedAll plan n T entries last totals
   IsRecordingResult (Err (SinkFailed fault)) = RecordedSome fault
   IsRecordingResult (Err (NoMemory refusal)) = RecordedNone T entries last
 
 module _ {L R : Type 0} (l : launcher.Ghosts L) (r : keeping.Ghosts R) (plan : List Job) (n number : ℕ) where
-  -- `ExecutesAndRecords l r plan n number old new answer failed`: `plan` was executed at width `n`, from the
-  -- state `old` to `new`, with the result `answer`. The store calls put entries into run `number`,
-  -- and the last put may have failed. The lines of the successful puts were printed in order,
-  -- unless a write failed (`failed`). `l` has the relations of the launcher, and `r` is the
+  -- `ExecutesAndRecords l r plan n number old new answer failed`: `plan` was executed at width `n`,
+  -- from the state `old` to `new`, with the result `answer`. The store calls put entries into run
+  -- `number`, and the last put may have failed. The lines of the successful puts were printed in
+  -- order, unless a write failed (`failed`). `l` has the relations of the launcher, and `r` is the
   -- specification of the store.
   pub record ExecutesAndRecords (old new : CommandState L R) (answer : Result Totals RunFault) (failed : Bool) : Type 0 where
     pub trace : Trace

@@ -10,8 +10,8 @@ module _ {R : Type 0} (r : keeping.Ghosts R) where
     -- `WritesReport r store after was now exit Means`: a report made `calls` of the store, from
     -- state `store` to `after`, and printed `bytes`. From content `was` to content `now` of the
     -- writer, `bytes` were written, or a proper prefix if a write failed. `exit` is the exit
-    -- status: `intended_exit`, or 2 if a write failed. `Means` relates whether a write failed, the calls,
-    -- `bytes` and `intended_exit`. `r` is the specification of the store.
+    -- status: `intended_exit`, or 2 if a write failed. `Means` relates whether a write failed, the
+    -- calls, `bytes` and `intended_exit`. `r` is the specification of the store.
     pub record WritesReport (exit : ℕ) (Means : Bool → List StoreCall → List ℕ → ℕ → Type 0) : Type 0 where
       pub calls : List StoreCall
       pub stored : CallsStore r calls store after

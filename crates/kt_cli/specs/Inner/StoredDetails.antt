@@ -33,19 +33,20 @@ module _ {R : Type 0} (r : keeping.Ghosts R) (reading : Reading) (number : ℕ) 
   IsPartResult e old (Ok full) new = (reading.without full ≡ reading.without e) × CallsStore r (reading.call number full ∷ []) old new
   IsPartResult e old (Err fault) new = CallsStore r (reading.failed number e fault ∷ []) old new
 
-  -- `ReadsEntry r reading number e old answer new`: `IsPartResult` as a record. One part of the entry
-  -- `e` of run `number` was read with the result `answer`, and the call led a store from `old` to
-  -- `new`. `reading` describes the part: properties or outputs. `r` is the specification of the
-  -- store.
+  -- `ReadsEntry r reading number e old answer new`: `IsPartResult` as a record. One part of the
+  -- entry `e` of run `number` was read with the result `answer`, and the call led a store from
+  -- `old` to `new`. `reading` describes the part: properties or outputs. `r` is the specification
+  -- of the store.
   pub record ReadsEntry (e : Entry) (old : R) (answer : Result Entry StoreFault) (new : R) : Type 0 where
     pub ends : IsPartResult e old answer new
 
   module _ {E : Type 0} (layout : Layout) (due : List Entry) (store after : R) (was now : Option (List ℕ)) where
-    -- `IsStoredReportResult r reading number layout due store after was now answer`: the report on the
-    -- entries `due` of run `number` was written by `layout`. `answer` is a success, or the error
-    -- that ended the report. One part of each entry, which `reading` describes, was read before the
-    -- entry was written. The reads led the store from `store` to `after`. `was` and `now` are the
-    -- contents of the writer before and after, and `r` is the specification of the store.
+    -- `IsStoredReportResult r reading number layout due store after was now answer`: the report on
+    -- the entries `due` of run `number` was written by `layout`. `answer` is a success, or the
+    -- error that ended the report. One part of each entry, which `reading` describes, was read
+    -- before the entry was written. The reads led the store from `store` to `after`. `was` and
+    -- `now` are the contents of the writer before and after, and `r` is the specification of the
+    -- store.
     abbrev pub IsStoredReportResult : Result (Unit {0}) (WriteReportError StoreFault E) → Type 0
     IsStoredReportResult (Ok done) =
         (shown : List Entry) × (map reading.without shown ≡ map reading.without due) × CallsStore r (map (reading.call number) shown) store after
@@ -57,10 +58,11 @@ module _ {R : Type 0} (r : keeping.Ghosts R) (reading : Reading) (number : ℕ) 
         (shown rest : List Entry) × (map reading.without (shown ++ rest) ≡ map reading.without due) × CallsStore r (map (reading.call number) shown) store after
         × Emits was now true (bytes_up_to layout shown rest)
 
-    -- `WritesStoredReport r reading number layout due store after was now answer`: `IsStoredReportResult` as a
-    -- record. The report on the entries `due` of run `number` was written by `layout`, with the
-    -- result `answer`. One part of each entry, which `reading` describes, was read before the entry
-    -- was written. The reads led the store from `store` to `after`. `was` and `now` are the
-    -- contents of the writer before and after, and `r` is the specification of the store.
+    -- `WritesStoredReport r reading number layout due store after was now answer`:
+    -- `IsStoredReportResult` as a record. The report on the entries `due` of run `number` was
+    -- written by `layout`, with the result `answer`. One part of each entry, which `reading`
+    -- describes, was read before the entry was written. The reads led the store from `store` to
+    -- `after`. `was` and `now` are the contents of the writer before and after, and `r` is the
+    -- specification of the store.
     pub record WritesStoredReport (answer : Result (Unit {0}) (WriteReportError StoreFault E)) : Type 0 where
       pub ends : IsStoredReportResult answer

@@ -12,8 +12,8 @@ use Rattle.kt_cli.specs.Testing.{PlannedRun}
 module _ {L R : Type 0} (l : launcher.Ghosts L) (r : keeping.Ghosts R) where
   -- `ExecutesPlan l r planned old new exit`: from state `old` to `new`, the run `planned` was begun
   -- and its plan executed, with the exit status `exit`. The store calls and the output are those of
-  -- `RunResult`, by the events of the launcher. `l` has the relations of the launcher, and `r` is the
-  -- specification of the store.
+  -- `RunResult`, by the events of the launcher. `l` has the relations of the launcher, and `r` is
+  -- the specification of the store.
   pub record ExecutesPlan (planned : PlannedRun) (old new : CommandState L R) (exit : ℕ) : Type 0 where
     pub trace : Trace
     pub leads : Leads l.starts l.waits planned.plan trace old.world new.world

@@ -119,7 +119,10 @@ pub fn report<R: ResultStore, O: Write>(
     }
     match write_text(&run, kinds, results, out) {
         Ok(()) => Exit { status: 0 },
-        Err(WriteReportError::Details(fault)) => exit_after_write(write_store_error(fault, out), FAILURE),
+        Err(WriteReportError::Details(fault)) => exit_after_write(
+            write_store_error(fault, out),
+            FAILURE,
+        ),
         Err(WriteReportError::Report(_)) => Exit { status: FAILURE },
     }
 }
@@ -164,7 +167,10 @@ pub fn report_junit<R: ResultStore, O: Write>(
     };
     match write_junit(alloc, &run, results, out) {
         Ok(()) => Exit { status: 0 },
-        Err(WriteReportError::Details(fault)) => exit_after_write(write_store_error(fault, out), FAILURE),
+        Err(WriteReportError::Details(fault)) => exit_after_write(
+            write_store_error(fault, out),
+            FAILURE,
+        ),
         Err(WriteReportError::Report(ReportFault::Output(_))) => Exit { status: FAILURE },
         Err(WriteReportError::Report(ReportFault::NoMemory(refusal))) => {
             exit_after_write(write_memory_error(refusal, out), FAILURE)

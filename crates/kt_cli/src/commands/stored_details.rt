@@ -2,7 +2,8 @@ use kt_base::{Entry, Variables};
 use kt_report::{DetailSource, EntryOutputs};
 use kt_store::{ResultStore, StoreFault};
 
-/// A `DetailSource` that reads the properties and the outputs of a run's entries from a results store.
+/// A `DetailSource` that reads the properties and the outputs of a run's entries from a results
+/// store.
 #[derive(Drop)]
 pub struct StoredDetails<'a, R> {
     /// The results store from which the properties and outputs are read.

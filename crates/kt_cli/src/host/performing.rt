@@ -106,7 +106,11 @@ fn execute_in_file<M: HostFiles + Drop, O: Os + Drop, P: ResultsHost, W: Write>(
 ///
 /// `errors` is standard error. An out-of-memory message is printed to `out`, standard output, like
 /// the messages of commands.
-fn reject_arguments<W: Write, E: Write>(fault: &CommandFault, out: &mut LineOutput<W>, errors: &mut E) -> Exit
+fn reject_arguments<W: Write, E: Write>(
+    fault: &CommandFault,
+    out: &mut LineOutput<W>,
+    errors: &mut E,
+) -> Exit
     ensures { RejectsArguments fault.now
         (record { out = line_state W.contents out.old; errors = E.contents errors.old })
         (record { out = line_state W.contents out.new; errors = E.contents errors.new })

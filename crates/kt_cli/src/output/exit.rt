@@ -15,12 +15,17 @@ pub struct Exit {
     pub status: u8,
 }
 
-/// Returns the exit status `intended_exit`, or 2 if `written`, the result of writing the output, is an error.
+/// Returns the exit status `intended_exit`, or 2 if `written`, the result of writing the output, is
+/// an error.
 pub fn exit_after_write(written: Result<(), OutputFault>, intended_exit: u8) -> Exit
     ensures { result.status ≡ (if is_err written then 2 else intended_exit) }
 {
     Exit {
-        status: if written.is_err() { FAILURE } else { intended_exit },
+        status: if written.is_err() {
+            FAILURE
+        } else {
+            intended_exit
+        },
     }
 }
 

@@ -15,18 +15,19 @@ const MAX_HELD_BYTES: usize = 1_048_576;
 /// A writer that does not wait for its reader.
 ///
 /// Bytes that the reader does not take yet are held in memory, in order. Each later write and step
-/// offers them to the inner writer again. If more than 1 MiB is held and `try_flush` was never called,
-/// the inner writer stores the bytes by `spool_bytes`. A flush writes all held and stored bytes,
-/// and waits for the reader. So does a write whose bytes can't be held because the allocation
-/// fails. After a failed write each later write and flush fails, and nothing more is written.
+/// offers them to the inner writer again. If more than 1 MiB is held and `try_flush` was never
+/// called, the inner writer stores the bytes by `spool_bytes`. A flush writes all held and stored
+/// bytes, and waits for the reader. So does a write whose bytes can't be held because the
+/// allocation fails. After a failed write each later write and flush fails, and nothing more is
+/// written.
 #[derive(Drop)]
 pub struct NonblockingOutput<W> {
     /// The inner writer, to which the bytes are written.
     out: W,
     /// The bytes in memory that the reader did not take yet.
     held: Backlog,
-    /// The maximum number of bytes in `held`: 1 MiB before the first call of `try_flush`, and no limit
-    /// afterwards.
+    /// The maximum number of bytes in `held`: 1 MiB before the first call of `try_flush`, and no
+    /// limit afterwards.
     max_held_bytes: usize,
     /// Whether a write of the inner writer has failed.
     failed: bool,
@@ -168,9 +169,9 @@ impl<W: NonblockingWriter> NonblockingOutput<W> {
         self.write_through(buf)
     }
 
-    /// Offers `buf` to the inner writer, and calls `hold_bytes` if the writer takes none of the bytes. No
-    /// bytes may be held before. Returns the number of bytes that were taken or held. Fails if the
-    /// offer or `hold_bytes` fails.
+    /// Offers `buf` to the inner writer, and calls `hold_bytes` if the writer takes none of the
+    /// bytes. No bytes may be held before. Returns the number of bytes that were taken or held.
+    /// Fails if the offer or `hold_bytes` fails.
     fn offer_or_hold(&mut self, buf: &[u8]) -> io::Result<usize>
         requires { unsent_bytes self.old ≡ [] }
         ensures bound { WritesAtMost result buf.now }

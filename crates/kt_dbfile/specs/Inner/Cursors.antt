@@ -10,9 +10,9 @@ use Rattle.sqlite_value.specs.declared.value.Value.{Value}
 use Rattle.kt_store.specs.Types.{AllByRecursion, Blob, Ghosts, Int, IsClean, IsIndex, IsShaped, KeepsSchema, Row, Trees, View, column, from_key, has_rowid, rowid}
 use Rattle.kt_store.specs.declared.result_store.RunHead.{RunHead}
 
--- `is_possible_last_key last end`: `true` if `end` can be the greatest key of the index of the table
--- `entries`. `last` is the head of the last run. If this run is finished and has cases, `end` must
--- be the key of its last position. Otherwise, `end` must be below the key of the position
+-- `is_possible_last_key last end`: `true` if `end` can be the greatest key of the index of the
+-- table `entries`. `last` is the head of the last run. If this run is finished and has cases, `end`
+-- must be the key of its last position. Otherwise, `end` must be below the key of the position
 -- `last.total`, at which the run can't have an entry.
 abbrev pub is_possible_last_key : RunHead → Row → Bool
 is_possible_last_key last end =
@@ -33,11 +33,11 @@ has_prefix key e = is_eq (prefix_cmp plain e key)
 abbrev pub IsUniqueRow : List Row → Row → Type 0
 IsUniqueRow table row = (id : ℤ) × (rowid row ≡ Int id) × (filter (has_rowid id) table ≡ row ∷ [])
 
--- `IndexesRows columns key matching table index`: `matching` are the rows of `table` whose entries in
--- `index` begin with `key`. The rows have the order of `index` and lack their rowids. Their entries
--- are the first from `key` on, and no later entry begins with `key`. An entry has the values of its
--- row in the key columns, whose indexes are `columns`, and the row's rowid. No other row of `table`
--- has this rowid.
+-- `IndexesRows columns key matching table index`: `matching` are the rows of `table` whose entries
+-- in `index` begin with `key`. The rows have the order of `index` and lack their rowids. Their
+-- entries are the first from `key` on, and no later entry begins with `key`. An entry has the
+-- values of its row in the key columns, whose indexes are `columns`, and the row's rowid. No other
+-- row of `table` has this rowid.
 pub record IndexesRows (columns : List ℕ) (key : Row) (matching table index : List Row) : Type 0 where
   pub rows : List Row
   pub are : map (drop 1) rows ≡ matching
@@ -56,8 +56,8 @@ is_blob _ = false
 abbrev pub selected_columns : List ℕ → Row → Row
 selected_columns columns row = map (column row) columns
 
--- `SelectsColumns columns source shown`: `source` are some rows without their rowids. `shown` has the
--- values in `columns` of these rows, in the same order.
+-- `SelectsColumns columns source shown`: `source` are some rows without their rowids. `shown` has
+-- the values in `columns` of these rows, in the same order.
 abbrev pub SelectsColumns : List ℕ → List Row → List Row → Type 0
 SelectsColumns columns source shown = (rows : List Row) × (map (drop 1) rows ≡ source) × (shown ≡ map (selected_columns columns) rows)
 

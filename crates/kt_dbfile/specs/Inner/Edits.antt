@@ -33,11 +33,12 @@ pub record IsSettledStore (v : View) (schema : Schema) : Type 0 where
   pub sound : IsTrue v.is_open → IsSound schema v.committed
 
 module _ (schema : Schema) where
-  -- `PutsRows schema table_index removed_rowids rowids first_column sources old new`: an edit changed the trees from `old`
-  -- to `new`. It edited the table at the index `table_index` of `schema`: it removed the rows with the
-  -- rowids `removed_rowids`, and added a row for each of `sources`. The columns of a source before the index
-  -- `first_column` are skipped. `rowids` decides whether an added row without a rowid gets one. Foreign
-  -- keys are enforced. Nothing is stated if `schema` has no such table.
+  -- `PutsRows schema table_index removed_rowids rowids first_column sources old new`: an edit
+  -- changed the trees from `old` to `new`. It edited the table at the index `table_index` of
+  -- `schema`: it removed the rows with the rowids `removed_rowids`, and added a row for each of
+  -- `sources`. The columns of a source before the index `first_column` are skipped. `rowids`
+  -- decides whether an added row without a rowid gets one. Foreign keys are enforced. Nothing is
+  -- stated if `schema` has no such table.
   abbrev pub PutsRows : ℕ → List ℤ → Rowids → ℕ → List Row → Trees → Trees → Type 0
   PutsRows table_index removed_rowids rowids first_column sources old new =
       (table : Table) → slice_get schema.tables table_index ≡ Some table → Writes schema Enforced old (edit_of old table removed_rowids rowids first_column sources) (Ok new)

@@ -35,13 +35,13 @@ module _ {S : Type 0} (g : Ghosts S) where
     ordered = λ s runs h sound. h.2 sound;
   }
 
-  -- `read_only_spec g`: the specification of a store that is only read. It represents the runs that its
-  -- trees show. `g` is the specification of its trees.
+  -- `read_only_spec g`: the specification of a store that is only read. It represents the runs that
+  -- its trees show. `g` is the specification of its trees.
   abbrev pub read_only_spec : store.Ghosts S
   read_only_spec = spec_over_trees HasRuns
 
-  -- `runs_file_spec g`: the specification of a store that is read and written. It represents the runs of
-  -- its last commit. `g` is the specification of its trees.
+  -- `runs_file_spec g`: the specification of a store that is read and written. It represents the
+  -- runs of its last commit. `g` is the specification of its trees.
   abbrev pub runs_file_spec : store.Ghosts S
   runs_file_spec = spec_over_trees HasCommitted
 

@@ -30,18 +30,18 @@ IsFaultOf kind (Memory refusal) = kind ≡ OutOfMemory
 abbrev pub queue_path : List ℕ → List ℕ
 queue_path root = root ++ codes "/kyua." ++ decimal 0
 
--- `setting_after_removals names name before`: the setting of the variable `name` in a command, after
--- the variables `names` were removed. `before` is its setting before. A setting is `None` if the
--- command does not change the variable, `Some None` if the variable is removed, and else its new
--- value.
+-- `setting_after_removals names name before`: the setting of the variable `name` in a command,
+-- after the variables `names` were removed. `before` is its setting before. A setting is `None` if
+-- the command does not change the variable, `Some None` if the variable is removed, and else its
+-- new value.
 abbrev pub setting_after_removals : List (List ℕ) → List ℕ → Option (Option (List ℕ)) → Option (Option (List ℕ))
 setting_after_removals [] name before = before
 setting_after_removals (gone ∷ names) name before = setting_after_removals names name (if bytes_eq (utf8 gone) name then Some None else before)
 
--- `setting_after_sets variables name before`: the setting of the variable `name` in a command, after
--- `variables` were set. `before` is its setting before. A setting is `None` if the command does not
--- change the variable, `Some None` if the variable is removed, and else its new value. If a name
--- occurs twice in `variables`, its last value counts.
+-- `setting_after_sets variables name before`: the setting of the variable `name` in a command,
+-- after `variables` were set. `before` is its setting before. A setting is `None` if the command
+-- does not change the variable, `Some None` if the variable is removed, and else its new value. If
+-- a name occurs twice in `variables`, its last value counts.
 abbrev pub setting_after_sets : List Variable → List ℕ → Option (Option (List ℕ)) → Option (Option (List ℕ))
 setting_after_sets [] name before = before
 setting_after_sets (v ∷ variables) name before = setting_after_sets variables name (if bytes_eq (utf8 v.name) name then Some (Some (utf8 v.value)) else before)
@@ -67,9 +67,9 @@ SeeksTo from old new = 0 < from → IfSome old (λ position. new ≡ Some from)
 abbrev pub IsEarly : ℕ → ℕ → ℕ → Type 0
 IsEarly limit responses millis = 1000 * limit + millis < 20 * (responses + 1)
 
--- `IsInFirstHalf limit responses`: after `responses` `Running` responses, the next response is in the
--- first half of those that a timeout of `limit` seconds allows. It allows 100 responses for each
--- second.
+-- `IsInFirstHalf limit responses`: after `responses` `Running` responses, the next response is in
+-- the first half of those that a timeout of `limit` seconds allows. It allows 100 responses for
+-- each second.
 abbrev pub IsInFirstHalf : ℕ → ℕ → Type 0
 IsInFirstHalf limit responses = responses + 1 ≤ 50 * limit
 

@@ -116,8 +116,8 @@ fn set_up_command(command: &mut Command, asked: ProgramStart<'_>) -> Result<(), 
     requires args { command_args command.old ≡ [] }
     requires inherits { clears_env command.old ≡ false }
     requires variables { (name : List ℕ) → command_var command.old name ≡ None }
-    ensures { OnOk result (IsCommandOf asked.entry.program.now asked.entry.words.now
-        asked.entry.env.now asked.entry.dir.now command.new) }
+    ensures { OnOk result (IsCommandOf asked.entry.program.now asked.entry.args.now
+        asked.entry.env.now asked.entry.working_dir.now command.new) }
 {
     push_args(command, asked.args)?;
     remove_variables(command, &asked.env.removed)?;

@@ -7,7 +7,7 @@ use crate::host::host_child::HostChild;
 use crate::host::outputs::{Rights, create_directory, create_output, create_root};
 use crate::host::reads::{open_regular_file, open_unleased_file, read_open_file};
 use crate::host::{children, into_os_result, os_fault_of};
-use crate::{Child, EnvPlan, FileRead, Os, OsFault, ChildState};
+use crate::{Child, ChildState, EnvPlan, FileRead, Os, OsFault};
 use kt_base::{Items, Text};
 use kt_removal::Removals;
 use std::fs::File;

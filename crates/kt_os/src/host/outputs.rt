@@ -53,9 +53,14 @@ fn set_dir_mode<R: Files>(rt: &R, path: &str, mode: u32) -> io::Result<()> {
     given
 }
 
-/// Creates a directory with a mode. Sets the mode again if `umask_removes` is `true`, since the umask may
-/// have removed permissions.
-fn create_dir_of_mode<R: Files>(rt: &R, dir: &str, mode: u32, umask_removes: bool) -> io::Result<()> {
+/// Creates a directory with a mode. Sets the mode again if `umask_removes` is `true`, since the
+/// umask may have removed permissions.
+fn create_dir_of_mode<R: Files>(
+    rt: &R,
+    dir: &str,
+    mode: u32,
+    umask_removes: bool,
+) -> io::Result<()> {
     DirBuilder::new().mode(mode).create(rt, dir)?;
     if umask_removes {
         set_dir_mode(rt, dir, mode)
@@ -111,8 +116,9 @@ fn create_root_dir<R: Files>(rt: &R, path: &str) -> io::Result<Rights> {
 /// 0700.
 ///
 /// `rights` has the facts about the driver's root directory. If the user root does not own that
-/// directory, the result is `rights`. If the user root owns it, `umask_removes` of the result reports the
-/// umask: it is `true` if the umask removes a permission of the mode 0755, or if that is unknown.
+/// directory, the result is `rights`. If the user root owns it, `umask_removes` of the result
+/// reports the umask: it is `true` if the umask removes a permission of the mode 0755, or if that
+/// is unknown.
 fn create_queue_dir<R: Files>(rt: &R, place: &str, rights: Rights) -> io::Result<Rights> {
     if !rights.of_root {
         create_dir_of_mode(rt, place, PRIVATE_MODE, rights.umask_removes)?;
@@ -148,7 +154,7 @@ pub(crate) fn create_root<R: Files + AllocGlobal>(
     path: &Text,
 ) -> Result<(Removals, Rights), OsFault>
     ensures root { IfOk result (λ made. made.0.root ≡ path.now) }
-    ensures place { IfOk result (λ made. made.0.place ≡ queue_path path.now) }
+    ensures place { IfOk result (λ made. made.0.queue_dir ≡ queue_path path.now) }
 {
     let root = path.copy()?;
     let place = queue_path(rt.alloc(), path)?;

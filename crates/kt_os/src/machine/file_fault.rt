@@ -5,7 +5,8 @@ use crate::OsFault;
 use kt_base::NoMemory;
 use thiserror::Error;
 
-/// Errors returned by [`HostFiles::read_start`](crate::HostFiles::read_start). No command prints them.
+/// Errors returned by [`HostFiles::read_start`](crate::HostFiles::read_start). No command prints
+/// them.
 #[derive(Clone, Copy, Debug, Error)]
 pub enum FileFault {
     /// The file does not exist.

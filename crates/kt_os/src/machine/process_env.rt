@@ -86,8 +86,8 @@ fn copy_working_directory(alloc: Global, answer: io::Result<PathBuf>) -> Result<
 impl ProcessEnv {
     ghost use Rattle.kt_os.specs.Around.{is_root};
 
-    /// Reads `PATH` and `USER` from the environment, and stores them with `working_dir`, the absolute path
-    /// of the working directory.
+    /// Reads `PATH` and `USER` from the environment, and stores them with `working_dir`, the
+    /// absolute path of the working directory.
     ///
     /// A variable that is not UTF-8 or has more than 131,072 bytes counts as not set.
     ///
@@ -102,7 +102,11 @@ impl ProcessEnv {
         let mut room = vec![in rt.alloc(); 0u8; MAX_VARIABLE_BYTES]?;
         let path = read_variable(rt, "PATH", &mut room)?;
         let user = read_variable(rt, "USER", &mut room)?;
-        Ok(ProcessEnv { working_dir, path, user })
+        Ok(ProcessEnv {
+            working_dir,
+            path,
+            user,
+        })
     }
 
     /// Reads the working directory and the environment of this process.

@@ -1,4 +1,4 @@
-use crate::{Child, EnvPlan, FileRead, OsFault, ChildState};
+use crate::{Child, ChildState, EnvPlan, FileRead, OsFault};
 use kt_base::{Items, Text};
 
 /// An interface to the system: processes, files and a clock. The relation `leads` describes each

@@ -48,8 +48,8 @@ abbrev pub config_or_error : Values → Option SelectionError → Result Values 
 config_or_error config None = Ok config
 config_or_error config (Some fault) = Err fault
 
--- `filter_index_of fault`: the index of the filter that the error `fault` is about, in the command's
--- list of filters. It is 0 if `fault` has no index.
+-- `filter_index_of fault`: the index of the filter that the error `fault` is about, in the
+-- command's list of filters. It is 0 if `fault` has no index.
 abbrev pub filter_index_of : FilterFault → ℕ
 filter_index_of (Repeated position) = position
 filter_index_of (NotDisjoint position) = position

@@ -15,7 +15,11 @@ use std::alloc::Global;
 /// # Errors
 ///
 /// - `NoMemory`: an allocation fails.
-pub fn copy_suite_variables(alloc: Global, config: &Config, suite: &Text) -> Result<Variables, NoMemory>
+pub fn copy_suite_variables(
+    alloc: Global,
+    config: &Config,
+    suite: &Text,
+) -> Result<Variables, NoMemory>
     ensures { IfOk result (λ variables. variables ≡ variables_for config.now suite.now) }
 {
     match config.suite_vars(suite) {
@@ -28,7 +32,11 @@ pub fn copy_suite_variables(alloc: Global, config: &Config, suite: &Text) -> Res
 ///
 /// Returns `None` on success. If the configuration rejects the variable, returns the error of the
 /// command, with the name. Fails if an allocation fails.
-fn set_config_variable(config: &mut Config, name: Text, value: &Text) -> Result<Option<SelectionError>, NoMemory>
+fn set_config_variable(
+    config: &mut Config,
+    name: Text,
+    value: &Text,
+) -> Result<Option<SelectionError>, NoMemory>
     ensures { IfOk result (λ stop. AppendsDefinition config.old (config_or_error config.new stop)
         (with_selection_error (SelectionError.Variable name) (definition_named name value.now))) }
 {

@@ -128,7 +128,11 @@ fn probe_all_needs<W: World>(
 /// # Errors
 ///
 /// - `NoMemory`: an allocation fails.
-pub fn probe_host<W: World>(alloc: Global, cases: &[Candidate], world: &mut W) -> Result<Host, NoMemory>
+pub fn probe_host<W: World>(
+    alloc: Global,
+    cases: &[Candidate],
+    world: &mut W,
+) -> Result<Host, NoMemory>
     requires { IsIdle (W.running world.old) (W.pending world.old) }
     ensures surveyed { LeadsByCalls W.replies world.old world.new (λ answers. MatchResult result
         (ProbesHost cases.now answers) (λ _. IsProbePrefix cases.now answers)) }

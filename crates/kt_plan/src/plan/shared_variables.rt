@@ -22,7 +22,11 @@ impl SharedVariables {
     /// # Errors
     ///
     /// - `NoMemory`: an allocation fails.
-    pub fn for_suite(alloc: Global, config: &Config, suite: &Text) -> Result<SharedVariables, NoMemory>
+    pub fn for_suite(
+        alloc: Global,
+        config: &Config,
+        suite: &Text,
+    ) -> Result<SharedVariables, NoMemory>
         ensures suite { IfOk result (λ shared. shared.suite ≡ suite.now) }
         ensures variables { IfOk result (λ shared.
             shared.variables ≡ variables_for config.now suite.now) }

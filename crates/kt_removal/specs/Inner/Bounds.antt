@@ -12,8 +12,8 @@ IsSpent micros steps None = micros / 100 ≤ steps
 abbrev pub case_limit_micros : ℕ
 case_limit_micros = 5000
 
--- `root_limit_micros waiting`: the time limit for the removal of the root directory, in microseconds,
--- while `waiting` directories are in the queue.
+-- `root_limit_micros waiting`: the time limit for the removal of the root directory, in
+-- microseconds, while `waiting` directories are in the queue.
 abbrev pub root_limit_micros : ℕ → ℕ
 root_limit_micros waiting = 5000000 + 10000 * waiting
 

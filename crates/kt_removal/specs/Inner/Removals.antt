@@ -20,8 +20,8 @@ IsNumber name = (0 < length name) × (list_all is_digit name ≡ true)
 abbrev pub IsCaseDirectory : List ℕ → List ℕ → Type 0
 IsCaseDirectory root path = (name : List ℕ) × (utf8 path ≡ utf8 root ++ 47 ∷ name) × IsNumber name
 
--- `HasNextDirectory r`: the queue `r` has a next directory. Its number `r.current_number` is less than
--- `r.next_number`, and the move to this number did not fail.
+-- `HasNextDirectory r`: the queue `r` has a next directory. Its number `r.current_number` is less
+-- than `r.next_number`, and the move to this number did not fail.
 abbrev pub HasNextDirectory : Removals → Type 0
 HasNextDirectory r = (r.current_number < r.next_number) × (list_any (λ n. n == r.current_number) r.gaps.items ≡ false)
 
@@ -58,8 +58,9 @@ pub record KeepsQueue (old new : Removals) : Type 0 where
   pub current_number : new.current_number ≡ old.current_number
   pub moved : HasNextDirectory old → HasNextDirectory new
 
--- `waiting next_number current_number`: the number of directories in the queue, at most 2^32 - 1. `next_number` is the
--- number that the next moved directory gets, and `current_number` is the number of the directory that is
--- emptied next. A number that was skipped after a failed move counts, too.
+-- `waiting next_number current_number`: the number of directories in the queue, at most 2^32 - 1.
+-- `next_number` is the number that the next moved directory gets, and `current_number` is the
+-- number of the directory that is emptied next. A number that was skipped after a failed move
+-- counts, too.
 abbrev pub waiting : ℕ → ℕ → ℕ
 waiting next_number current_number = min (next_number - current_number) (2 ^ 32 - 1)

@@ -19,8 +19,8 @@ literal_of (Number n) = Some (literal.Number n)
 literal_of (Truth b) = Some (literal.Truth b)
 literal_of _ = None
 
--- `transition_after_table t`: the transition for the `}` that closes the table `t`. If the table is in parentheses,
--- a `)` must follow. Otherwise, the statement is complete.
+-- `transition_after_table t`: the transition for the `}` that closes the table `t`. If the table is
+-- in parentheses, a `)` must follow. Otherwise, the statement is complete.
 abbrev pub transition_after_table : Table → Transition
 transition_after_table t = if t.in_parens then Advance (AfterArgument (Call t.name (arg.Table t.pairs))) else Accept (Call t.name (arg.Table t.pairs))
 
@@ -101,8 +101,9 @@ abbrev pub completed_statements : Option (ScriptState × Option Stmt) → List S
 completed_statements None = []
 completed_statements (Some to) = option_to_list to.1
 
--- `transition_of_tokens p ts`: the position in the grammar to which the tokens `ts` lead from the position `p`, and
--- the statements that they complete. Nothing if the grammar does not allow one of the tokens.
+-- `transition_of_tokens p ts`: the position in the grammar to which the tokens `ts` lead from the
+-- position `p`, and the statements that they complete. Nothing if the grammar does not allow one of
+-- the tokens.
 abbrev pub transition_of_tokens : ScriptState → List Token → Option (ScriptState × List Stmt)
 transition_of_tokens p [] = Some (p, [])
 transition_of_tokens p (t ∷ ts) = option_and_then (λ to. option_map (λ end. (end.0, option_to_list to.1 ++ end.1)) (transition_of_tokens to.0 ts)) (next p t)

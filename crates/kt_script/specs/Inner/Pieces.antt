@@ -10,7 +10,7 @@ blank n = record { length = n; kind = None }
 abbrev pub token : ℕ → TokenKind → Lexeme
 token n kind = record { length = n; kind = Some kind }
 
--- `invalid_lexeme text flaw`: an invalid token that consists of all bytes of `text`. The reason why it is
--- invalid is `flaw`.
+-- `invalid_lexeme text flaw`: an invalid token that consists of all bytes of `text`. The reason why
+-- it is invalid is `flaw`.
 abbrev pub invalid_lexeme : List ℕ → Flaw → Lexeme
 invalid_lexeme text flaw = token (length text) (Invalid flaw)

@@ -17,9 +17,9 @@ abbrev pub begins_with_name_start : List ℕ → Bool
 begins_with_name_start [] = false
 begins_with_name_start (c ∷ cs) = is_name_start c
 
--- `number_lexeme text n precedes_letter v`: the token of the number `v`, whose digits are the first `n` bytes of
--- `text`. The token is invalid if `v` is absent, since the number is too large. It is invalid, too,
--- if `precedes_letter` is true, since a letter or underscore follows the digits.
+-- `number_lexeme text n precedes_letter v`: the token of the number `v`, whose digits are the first
+-- `n` bytes of `text`. The token is invalid if `v` is absent, since the number is too large. It is
+-- invalid, too, if `precedes_letter` is true, since a letter or underscore follows the digits.
 abbrev pub number_lexeme : List ℕ → ℕ → Bool → Option ℕ → Lexeme
 number_lexeme text n false (Some v) = token n (Number v)
 number_lexeme text n precedes_letter v = invalid_lexeme text Bad

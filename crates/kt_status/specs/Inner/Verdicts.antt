@@ -24,8 +24,8 @@ exits_with n (Exited code) = nat_eq code n
 exits_with n _ = false
 
 -- `exit_claim_verdict due reason outcome`: the verdict on an ATF case whose result file claims an
--- expected exit for `reason`, and whose body has the outcome `outcome`. The claimed status is `due`,
--- or any status if `due` is `None`.
+-- expected exit for `reason`, and whose body has the outcome `outcome`. The claimed status is
+-- `due`, or any status if `due` is `None`.
 abbrev pub exit_claim_verdict : Option ℕ → List ℕ → Outcome → VerdictValue
 exit_claim_verdict None reason (Exited _) = expected_failure reason
 exit_claim_verdict (Some due) reason (Exited code) =
@@ -41,8 +41,8 @@ signal_claim_verdict (Some due) reason (Signaled signal _) =
     if nat_eq due signal then expected_failure reason else failed (codes "Expected signal " ++ decimal due ++ codes " but got " ++ decimal signal)
 signal_claim_verdict _ _ outcome = broken (codes "Expected signal but " ++ outcome_text outcome)
 
--- `atf_exit_verdict claim outcome`: the verdict on an ATF case if its claim is `claim`, and its body
--- exited or received a signal. `outcome` is the outcome of the body.
+-- `atf_exit_verdict claim outcome`: the verdict on an ATF case if its claim is `claim`, and its
+-- body exited or received a signal. `outcome` is the outcome of the body.
 abbrev pub atf_exit_verdict : Claim → Outcome → VerdictValue
 atf_exit_verdict Missing outcome = broken (codes "Premature exit; test case " ++ outcome_text outcome)
 atf_exit_verdict Unreadable outcome = broken (codes "Results file could not be read")
@@ -108,8 +108,8 @@ verdict_of evidence.Plain outcome = plain_verdict outcome
 abbrev pub verdict_of_refusal : Refused → VerdictValue
 verdict_of_refusal r = broken (reason_text (refused_reason r))
 
--- `verdict_after_good_body body end`: the verdict on a case after a cleanup with the result `end`, if
--- `body`, the verdict on the case's body, counts as a success.
+-- `verdict_after_good_body body end`: the verdict on a case after a cleanup with the result `end`,
+-- if `body`, the verdict on the case's body, counts as a success.
 abbrev pub verdict_after_good_body : VerdictValue → CleanupEnd → VerdictValue
 verdict_after_good_body body (cleanup.Ended (Exited code)) = if nat_eq code 0 then body else broken (codes "Test case cleanup did not terminate successfully")
 verdict_after_good_body body (cleanup.Ended TimedOut) = broken (codes "Test case cleanup timed out")

@@ -26,8 +26,8 @@ abbrev pub IsDatabaseFailure : DatabaseError → Type 0
 IsDatabaseFailure (NoMemory shortage) = ⊥
 IsDatabaseFailure (Failed statement) = ⊤
 
--- `MatchesSqlError error trouble`: `trouble` reports that memory ran out if and only if the SQLite error
--- `error` does
+-- `MatchesSqlError error trouble`: `trouble` reports that memory ran out if and only if the SQLite
+-- error `error` does
 abbrev pub MatchesSqlError : Error → DatabaseError → Type 0
 MatchesSqlError error trouble = (IsAllocationFailure trouble × (error ≡ SqliteFailure code.OutOfMemory)) ⊎ (IsDatabaseFailure trouble × (error ≢ SqliteFailure code.OutOfMemory))
 

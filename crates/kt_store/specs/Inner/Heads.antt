@@ -23,7 +23,8 @@ entry_columns e =
 abbrev pub output_columns : Entry → Row
 output_columns e = Blob e.body.out ∷ Blob e.body.err ∷ Blob e.cleanup.out ∷ Blob e.cleanup.err ∷ []
 
--- `full_entry_columns e`: the row of entry `e` in the result of the query for entries, with its outputs
+-- `full_entry_columns e`: the row of entry `e` in the result of the query for entries, with its
+-- outputs
 abbrev pub full_entry_columns : Entry → Row
 full_entry_columns e = entry_columns e ++ output_columns e
 

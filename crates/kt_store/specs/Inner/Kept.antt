@@ -12,9 +12,9 @@ IsNotBlank Blank = ⊥
 IsNotBlank _ = ⊤
 
 module _ {S : Type 0} (g : Ghosts S) (old new : Held S) where
-  -- `WasCleanIfClean g old new`: `old` and `new` are a connection before and after a call. If the disk has
-  -- returned no wrong data up to `new`, it had returned none up to `old`. `g` is the specification
-  -- of connections.
+  -- `WasCleanIfClean g old new`: `old` and `new` are a connection before and after a call. If the
+  -- disk has returned no wrong data up to `new`, it had returned none up to `old`. `g` is the
+  -- specification of connections.
   abbrev pub WasCleanIfClean : Type 0
   WasCleanIfClean = HasCleanDisk (state g new) → HasCleanDisk (state g old)
 

@@ -12,8 +12,8 @@ HasNoReasonIfPassed e = e.verdict.kind ≡ Passed → e.verdict.reason ≡ []
 abbrev pub HasEncodableTexts : Entry → Type 0
 HasEncodableTexts e = IsEncodable e.program × IsEncodable e.case_name × IsEncodable e.verdict.reason × AllByRecursion IsEncodableProperty e.meta
 
--- `IsValidWithEntry run e runs`: `runs` contains the run number `run`. If the texts of entry `e` are
--- representable in UTF-8, each run meets `IsValidRun` after `e` is added to run `run`.
+-- `IsValidWithEntry run e runs`: `runs` contains the run number `run`. If the texts of entry `e`
+-- are representable in UTF-8, each run meets `IsValidRun` after `e` is added to run `run`.
 abbrev pub IsValidWithEntry : ℕ → Entry → List Run → Type 0
 IsValidWithEntry run e runs = (k : ℕ) × (run ≡ suc k) × (k < length runs) × (HasEncodableTexts e → AllByRecursion IsValidRun (with_entry run e runs))
 

@@ -11,8 +11,8 @@ use Rattle.kt_store.specs.Types.{AllByRecursion, Entry, ExecutesInside, Ghosts, 
 abbrev pub Statement : Type 0
 Statement = List ℕ × Row × List (List ℕ)
 
--- `IsSchema2Statement sql`: the statement `sql` creates one of the four tables of schema 2, or SQLite can
--- prepare it over the tables of schema 2
+-- `IsSchema2Statement sql`: the statement `sql` creates one of the four tables of schema 2, or
+-- SQLite can prepare it over the tables of schema 2
 abbrev pub IsSchema2Statement : List ℕ → Type 0
 IsSchema2Statement sql = (sql ≡ create_meta_sql) ⊎ (sql ≡ create_runs_sql) ⊎ (sql ≡ create_entries_sql) ⊎ (sql ≡ create_props_sql) ⊎ IsPlain (understood schema_2 sql)
 

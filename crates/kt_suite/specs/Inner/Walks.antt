@@ -43,16 +43,16 @@ pub data LoadsMarks {S : Type 0} (leads : S → Asked → S → Type 0) (old new
       → Gives (front ++ back) → IsAtMostNextCall back more → Chain leads old (calls_in front ++ more) new → AddsMarks r front mid
       → IsNoMemory fault → LoadsMarks leads old new Gives r (Err fault)
 
--- `HasFileMarks files file marks`: `marks` are the events of reading the file `file` while the files
--- `files` are open. The calls among these events may have any results.
+-- `HasFileMarks files file marks`: `marks` are the events of reading the file `file` while the
+-- files `files` are open. The calls among these events may have any results.
 pub record HasFileMarks (files : List (List ℕ)) (file : List ℕ) (marks : List Mark) : Type 0 where
   pub parts : List Part
   pub says : HasFileParts file parts
   pub unfolds : Unfolds (files ++ file ∷ []) parts marks
 
--- `HasMeaningMarks files at meaning marks`: `marks` are the events of executing a statement with the
--- meaning `meaning` at the site `at` while the files `files` are open. The calls among these events
--- may have any results.
+-- `HasMeaningMarks files at meaning marks`: `marks` are the events of executing a statement with
+-- the meaning `meaning` at the site `at` while the files `files` are open. The calls among these
+-- events may have any results.
 pub record HasMeaningMarks (files : List (List ℕ)) (at : Site) (meaning : Meaning) (marks : List Mark) : Type 0 where
   pub there : Bool
   pub unfolds : Unfolds files (statement_parts at there meaning) marks
@@ -66,9 +66,9 @@ module _ {S : Type 0} (leads : S → Asked → S → Type 0) (old new : S) where
   RegistersProgram at r program result =
       LoadsMarks leads old new (λ marks. (there : Bool) × (marks ≡ CallMark (Exists program.path there) ∷ lookup_mark at program there ∷ [])) r result
 
--- `CountsInclude at r path result`: the statement at the site `at` includes the file at the path `path`.
--- `result` is the registry `r` with this file counted, or the error if the file may not be included
--- or an allocation failed.
+-- `CountsInclude at r path result`: the statement at the site `at` includes the file at the path
+-- `path`. `result` is the registry `r` with this file counted, or the error if the file may not be
+-- included or an allocation failed.
 pub data CountsInclude (at : Site) (r : Registry) (path : List ℕ) : Result Registry SuiteFault → Type 0 where
   refuses : (cause : SuiteCause) → include_cause r.open_kyuafiles path ≡ Some cause → CountsInclude at r path (Err (site_fault at cause))
   exceeds : include_cause r.open_kyuafiles path ≡ None → file_limit ≤ r.files → CountsInclude at r path (Err (site_fault at TooMany))
@@ -76,8 +76,8 @@ pub data CountsInclude (at : Site) (r : Registry) (path : List ℕ) : Result Reg
       → CountsInclude at r path (Ok (record r { files = r.files + 1 }))
   scant : (fault : SuiteFault) → IsNoMemory fault → CountsInclude at r path (Err fault)
 
--- `EntersInclude at r path step`: the step `step` of the statement at the site `at` reads the file at
--- the path `path` next. The step's registry is `r` with this file counted.
+-- `EntersInclude at r path step`: the step `step` of the statement at the site `at` reads the file
+-- at the path `path` next. The step's registry is `r` with this file counted.
 abbrev pub EntersInclude : Site → Registry → List ℕ → LoadStep → Type 0
 EntersInclude at r path step = (next : Registry) × CountsInclude at r path (Ok next) × (step ≡ Enter next path)
 

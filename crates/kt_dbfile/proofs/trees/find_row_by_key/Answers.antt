@@ -5,8 +5,8 @@ use Rattle.kt_dbfile.proofs.trees.find_row_by_key.Given.{Over}
 use Rattle.kt_dbfile.proofs.trees.find_row_by_key.Goals.{In_ok-read_next_row}
 use Rattle.kt_dbfile.proofs.trees.find_row_by_key.Goals as goal
 
--- `IndexesRows` holds once the shapes do, and after the seek the cursor has the index entries from the
--- key on left
+-- `IndexesRows` holds once the shapes do, and after the seek the cursor has the index entries from
+-- the key on left
 sought : (g : Over) (c : In_ok-read_next_row g) → IsClean (g.S.Store.view c.read_next_row.new.store) → let old = g.S.Store.view c.args.store.now in let table = c.args.table.now in
     ((cs : List ℕ) (mine : List Row) → (IsShaped Table (old.trees table.tree) → IsIndex plain (old.trees table.index) → IndexesRows cs c.args.key.now mine (old.trees table.tree) (old.trees table.index)) → IndexesRows cs c.args.key.now mine (old.trees table.tree) (old.trees table.index))
     × (left_of (g.S.Store.view c.seek.new.self) 0 ≡ from_key plain c.args.key.now (old.trees table.index))

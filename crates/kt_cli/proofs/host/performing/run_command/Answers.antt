@@ -6,9 +6,9 @@ use Rattle.kt_cli.proofs.host.performing.run_command.Goals as goal
 
 pub returns : goal.returns
 returns g c = rw c.in-Ok.is (
-  given_bytes g.W.Write.contents c.match-results.out,
-  c.match-results.outside.0.status,
-  elim c.match-results.branch [
+  given_bytes g.W.Write.contents c.match-results_file.out,
+  c.match-results_file.outside.0.status,
+  elim c.match-results_file.branch [
     | in-Some w ↦ rw (← w.in-Some.ensures, w.platform-is, w.out-is, w.outside-is) w.execute_in_file.ensures
     | in-None w ↦ rw (← w.in-None.ensures, w.platform-is, w.out-is, w.outside-is) (no_file w.execute_over_store.ensures)
   ],
