@@ -141,7 +141,7 @@ ParsesCommand words result =
     (fault_of kyua_app words ≡ []) × (result ≡ command_in (matches_of kyua_app words) (subcommand_of kyua_app words))
 
 -- `IsArgsFault out_of_memory fault`: `fault`, an error of a command line, is `Usage` or `NoMemory`.
--- It is `NoMemory` if `out_of_memory`, the condition that memory ran short, is true.
+-- It is `NoMemory` if `out_of_memory`, the condition that memory ran out, is true.
 abbrev pub IsArgsFault : Type 0 → CommandFault → Type 0
 IsArgsFault out_of_memory (fault.NoMemory shortage) = ⊤
 IsArgsFault out_of_memory (fault.Usage message) = out_of_memory → ⊥

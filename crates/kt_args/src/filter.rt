@@ -23,7 +23,7 @@ fn parse_kind(word: &[u8]) -> Option<Kind>
     value_of_keyword_bytes(word, &KIND_NAMES)
 }
 
-/// Splits the results filter `filter` at each comma and returns the elements.
+/// Splits a results filter at each comma, and returns the elements.
 fn split_at_commas(alloc: Global, filter: &[u8]) -> Result<Vec<&[u8]>, NoMemory>
     ensures { IfOk result (λ elements.
         map (λ element. element.now) elements.items ≡ comma_elements filter.now) }

@@ -1,4 +1,4 @@
--- Lemmas on the driver state after a start, a poll, a turn and a wait.
+-- Lemmas on the driver state after a start, a poll, a round and a wait.
 use Rattle.std.proofs.Common.{if◌then◌else◌, ◌≡◌, ℕ, zero, suc, List, [], ◌∷◌, ◌++◌, Bool, true, false, Some, Result, map, slice_get, refl, sym, ◌∙◌, ap, subst, append_assoc, remove}
 use Rattle.kt_child.proofs.Common.{All, All-cons, All-head, All-nil, All-tail, CaseAttempt, Job, Outcome, StartAnswer, Ended, ChildState, OsFault, RunningChild, ChildrenState, Chain, Call, Kill, Pause, Poll, IsRunningChild, responses_so_far, poll_responses, ChildResponse, KillResponse, PollResponse, FinishesChild, PolledChild, AddsResponse, FinishesByPolls, children_after_start, polled_children, driver_state_of, child_timeout_seconds, new_running_child, state_after_start, poll_calls, is_followed_by_kill, child_of, pending_with, PollsAll, PollsUntil, WaitsForEnd, PollsInRounds, child_after_running, children_after_running, last_round, whole_round}
 use Rattle.kt_sched.specs.declared.job.StartAnswer.TheVariants.{Started as StartedAt, Refused as RefusedFor}
@@ -58,7 +58,7 @@ first_heard k ks answer done more calls new goes e h =
     rw (e, goes) (chain_append AddsResponse (polled_children (k ∷ ks)) (after_poll_of k answer done ∷ polled_children ks) (after_poll_of k answer done ∷ new) (asked k answer done) more
     (poll_heard k (polled_children ks) answer done) (all_later (after_poll_of k answer done) (polled_children ks) new more h))
 
--- A turn without a finished child appends one response to each child.
+-- A round without a finished child appends one response to each child.
 turn_heard : (ks : List RunningChild) (calls : List Call) → All IsRunningChild ks → PollsAll ks calls → Chain AddsResponse (polled_children ks) calls (polled_children (map child_after_running ks)) × All IsRunningChild (map child_after_running ks)
 turn_heard [] calls on h = (rw h refl, All-nil IsRunningChild)
 turn_heard (k ∷ ks) calls on (answer, done, more, e, went, turn) =
@@ -74,7 +74,7 @@ OverAt ks calls after place outcome =
     (alive : List PolledChild) × (a : PolledChild) × FinishesByPolls (polled_children ks) calls alive place a outcome
     × (remove alive place ≡ polled_children (remove after place)) × ((k : RunningChild) → slice_get after place ≡ Some k → a.case ≡ k.case)
 
--- A turn up to a finished child gives its outcome by all its responses.
+-- A round up to a finished child gives its outcome by all its responses.
 until_heard : (ks : List RunningChild) (place : ℕ) (calls : List Call) (outcome : Outcome) → All IsRunningChild ks → PollsUntil ks place calls outcome
     → OverAt ks calls (children_after_running place ks) place outcome
 until_heard [] place calls outcome on (before, last, e, none, over) = absurd over

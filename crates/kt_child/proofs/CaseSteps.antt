@@ -5,13 +5,13 @@ use Rattle.std.specs.Option.{option_map}
 use Rattle.std.proofs.lemmas.List.{drop-map, map-append, take-map}
 use Rattle.std.proofs.lemmas.Option.{slice_get-map}
 
--- The first part of a turn doesn't change the cases.
+-- The first part of a round doesn't change the cases.
 pub cases_below : (n : ℕ) (ks : List RunningChild) → cases_of (children_after_running n ks) ≡ cases_of ks
 cases_below zero ks = refl
 cases_below (suc n) [] = refl
 cases_below (suc n) (k ∷ ks) = ap (λ t. k.case ∷ t) (cases_below n ks)
 
--- A turn doesn't change the cases.
+-- A round doesn't change the cases.
 pub cases_turn : (ks : List RunningChild) → cases_of (map child_after_running ks) ≡ cases_of ks
 cases_turn [] = refl
 cases_turn (k ∷ ks) = ap (λ t. k.case ∷ t) (cases_turn ks)

@@ -1,4 +1,4 @@
--- Lemmas on one turn, poll by poll.
+-- Lemmas on one round, poll by poll.
 use Rattle.std.proofs.Common.{◌≡◌, ℕ, zero, suc, ◌+◌, ◌<◌, List, [], ◌∷◌, ◌++◌, length, take, Bool, Result, refl, sym, ◌∙◌, ap, add-one, append_assoc, append-nil}
 use Rattle.kt_child.proofs.Common.{set, take_more, Child, All, All-get_or, slice_get-get_or, Outcome, ChildState, OsFault, PollCounts, ChildProgress, StillRunning, RunningChild, Chain, Call, child_of, poll_calls, progress_after_poll, counts_after_running, IsRunningChild, PollsAll, PollsUntil, child_after_running, children_after_running}
 use Rattle.std.proofs.Math.ListN.{get_or}
@@ -29,7 +29,7 @@ OnePoll leads now new turn name k =
     × Chain leads now (poll_calls name k.limit k.counts answer done) new
     × (turn ≡ progress_after_poll k.limit k.counts answer done)
 
--- A poll of one more child, after which it still runs, extends a turn.
+-- A poll of one more child, after which it still runs, extends a round.
 polled_snoc : (ks : List RunningChild) (k : RunningChild) (xs : List Call) (answer : Result ChildState OsFault) (done : Bool)
     → PollsAll ks xs → StillRunning ≡ progress_after_poll k.limit k.counts answer done
     → PollsAll (ks ++ k ∷ []) (xs ++ poll_calls (child_of k.case) k.limit k.counts answer done)
@@ -46,9 +46,9 @@ polled_snoc (j ∷ ks) k xs answer done (a, d, more, eq, went, rest) e =
       polled_snoc ks k more answer done rest e,
     )
 
--- For a turn over the children of `init`, at the index `i`.
+-- For a round over the children of `init`, at the index `i`.
 module _ (init children : List RunningChild) (i : ℕ) (d : RunningChild) (lt : i < length init) (e : children ≡ children_after_running i init) where
-  -- A poll of the next child, after which it still runs, extends the calls of the turn.
+  -- A poll of the next child, after which it still runs, extends the calls of the round.
   pub step_more : {O : Type 0} (leads : O → Call → O → Type 0) (start now new : O) (name : Child) → name ≡ child_of (get_or children i d).case
       → (calls : List Call) × Chain leads start calls now × PollsAll (take i init) calls
       → OnePoll leads now new StillRunning name (get_or children i d)
@@ -60,7 +60,7 @@ module _ (init children : List RunningChild) (i : ℕ) (d : RunningChild) (lt : 
       let both = chain_append leads start now new calls ys chain o.2 in
       (calls ++ ys, both, rw (take_more init i d lt) (polled_snoc (take i init) k calls o.0 o.1 polled o.3))
 
-  -- A poll of the next child with which it finishes ends the turn.
+  -- A poll of the next child with which it finishes ends the round.
   pub step_over : {O : Type 0} (leads : O → Call → O → Type 0) (start now new : O) (name : Child) → name ≡ child_of (get_or children i d).case
       → (outcome : Outcome) → All IsRunningChild init
       → (calls : List Call) × Chain leads start calls now × PollsAll (take i init) calls

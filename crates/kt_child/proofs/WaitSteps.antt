@@ -1,4 +1,4 @@
--- Lemmas on a sequence of whole turns.
+-- Lemmas on a sequence of whole rounds.
 use Rattle.std.proofs.Common.{◌≡◌, ℕ, ◌+◌, ◌*◌, ◌-◌, List, [], ◌∷◌, ◌++◌, length, map, Bool, refl, ap, append_assoc}
 use Rattle.kt_child.proofs.Common.{Outcome, RunningChild, Chain, Call, Pause, PollsAll, PollsUntil, PollsInRounds, child_after_running, children_after_running, last_round, whole_round}
 use Rattle.kt_child.proofs.Chains.{chain_append}
@@ -13,7 +13,7 @@ abbrev pub first_left : List RunningChild → ℕ
 first_left [] = 0
 first_left (k ∷ s) = polls_left k
 
--- Advancing all children one by one is a whole turn.
+-- Advancing all children one by one is a whole round.
 pub all_advanced : (s : List RunningChild) → children_after_running (length s) s ≡ map child_after_running s
 all_advanced [] = refl
 all_advanced (k ∷ s) = ap (λ t. child_after_running k ∷ t) (all_advanced s)
@@ -26,7 +26,7 @@ Waiting leads start init now children =
     (calls : List Call) × Chain leads start calls now
     × ((more : List Call) (place : ℕ) (outcome : Outcome) (after : List RunningChild) → PollsInRounds children more place outcome after → PollsInRounds init (calls ++ more) place outcome after)
 
--- A turn without a finished child, and a pause, extend the wait.
+-- A round without a finished child, and a pause, extend the wait.
 pub waiting_more : {O : Type 0} (leads : O → Call → O → Type 0) (start now mid new : O) (init children : List RunningChild) (d : Bool)
     → Waiting leads start init now children
     → (calls : List Call) × Chain leads now calls mid × PollsAll children calls
@@ -42,7 +42,7 @@ waiting_more leads start now mid new init children d (calls, chain, on) (ys, cha
       (whole_round children after ys more d place outcome polled (rw (all_advanced children) at waited))),
 )
 
--- A turn with a finished child completes the wait.
+-- A round with a finished child completes the wait.
 pub waiting_over : {O : Type 0} (leads : O → Call → O → Type 0) (start now new : O) (init children last : List RunningChild) (place : ℕ) (outcome : Outcome)
     → Waiting leads start init now children
     → (calls : List Call) × Chain leads now calls new × PollsUntil children place calls outcome

@@ -1,4 +1,4 @@
--- Polls of the running children, in turns.
+-- Polls of the running children, in rounds.
 pub mod ChildOutcome
 pub mod Polls
 pub mod Rounds

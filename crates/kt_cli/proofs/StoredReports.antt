@@ -10,7 +10,7 @@ use Rattle.kt_store.specs.declared.result_store.StoreSpec as keeping
 use Rattle.kt_cli.proofs.StoreChains.{stored_none, stored_both}
 use Rattle.std.proofs.lemmas.List.{map-append}
 
--- the heading does not depend on the outputs of the entries
+-- The start of the report doesn't depend on the outputs of the entries
 pub heading_shown : (run : Run) (shown : List Entry) → AreEqualExceptOutputs shown run.entries → junit_start run ≡ junit_start (record run { entries = shown })
 heading_shown run shown same =
     sym (same_heading false without_outputs (λ e. refl) run) ∙ ap (λ (es : List Entry). junit_start (record run { entries = es })) (sym same)

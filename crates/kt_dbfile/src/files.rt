@@ -14,8 +14,8 @@ use std::marker::PhantomData;
 /// A witness that no file was opened by a failed open of the results file.
 ///
 /// The open has consumed a value of the type `S`, which represents the initial content of the file
-/// in contracts. The method `returned` of `TrustedContents` exchanges the witness for this value,
-/// so that the open can be retried. Only [`open_file_and_log`] creates witnesses.
+/// in contracts. The method `recover_contents` of `TrustedContents` exchanges the witness for this
+/// value, so that the open can be retried. Only [`open_file_and_log`] creates witnesses.
 #[derive(Drop)]
 pub struct FailedOpenWitness<S> {
     marker: PhantomData<S>,

@@ -82,7 +82,7 @@ impl Removals {
         queued_path(alloc, &self.queue_dir, self.next_number)
     }
 
-    /// Returns `true` if no directory has the queue's next number, `current_number`, because the
+    /// Returns `true` if no directory of the queue has the number `current_number`, because the
     /// move to this number failed.
     fn is_gap(&self) -> bool
         ensures { result ≡ list_any (λ n. n == self.now.current_number) self.now.gaps.items }

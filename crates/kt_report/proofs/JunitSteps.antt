@@ -13,7 +13,7 @@ use Rattle.kt_report.specs.declared.write_report_error.WriteReportError.{WriteRe
 use Rattle.kt_report.specs.declared.write_report_error.WriteReportError.TheVariants.{Details, Report}
 
 module _ {S F : Type 0} (reads : S → Entry → Result Entry F → S → Type 0) (run : Run) (old : S) (was : Option (List ℕ)) where
-  -- `Written due now new`: the heading and the cases of `due` were written.
+  -- `Written due now new`: the start of the report and the cases of `due` were written.
   abbrev pub Written : List Entry → Option (List ℕ) → S → Type 0
   Written due now new = WritesFirst reads old was now new (junit_layout run) due
 
@@ -21,11 +21,11 @@ module _ {S F : Type 0} (reads : S → Entry → Result Entry F → S → Type 0
   abbrev pub Ends : Option (List ℕ) → S → Result (Unit {0}) (WriteReportError F ReportFault) → Type 0
   Ends now new answer = WritesLayout reads (junit_layout run) run.entries old was now new answer
 
-  -- After the heading, no case is written.
+  -- After the start of the report, no case is written.
   pub writes_none : (now : Option (List ℕ)) → Emits was now false (junit_start run) → Written [] now old
   writes_none now s = ([], none old, shows_as (sym (append-nil (junit_start run))) s)
 
-  -- The report ends early if the heading can't be written.
+  -- The report ends early if the start of the report can't be written.
   pub heading_cut : (now : Option (List ℕ)) (fault : ReportFault) → Emits was now true (junit_start run) → Ends now old (Err (Report fault))
   heading_cut now fault s = record { ends = ([], run.entries, [], refl, none old, cut_later (junit_layout run) [] run.entries (shows_more [] s)) }
 

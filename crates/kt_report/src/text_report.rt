@@ -70,7 +70,7 @@ pub fn text<W: Write>(
 
 /// Theorem: a report doesn't depend on the parts of entries that it doesn't contain.
 ///
-/// The text report and the heading of the JUnit report don't depend on the outputs of entries. A
+/// The text report and the start of the JUnit report don't depend on the outputs of entries. A
 /// case of the JUnit report that is written with given outputs doesn't depend on those in its
 /// entry. The JUnit report, and the text report without `verbose`, don't depend on the properties
 /// that cases declare.

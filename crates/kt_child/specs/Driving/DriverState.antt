@@ -62,8 +62,8 @@ TakesCase root old job Cleanup c new =
     × (new.next ≡ old.next) × (new.pending_cleanups ≡ remove old.pending_cleanups place) × (c ≡ case_of job Cleanup pending.attempt pending.paths)
 
 -- `children_after_start alive job c result`: the running children after a start of a child of `job`
--- with the case `c` and the result `result`. They were `alive` before. If `result` is `Started`,
--- the child is appended, without responses.
+-- with the case `c` and the result `result`. `alive` are the running children before the start. If
+-- `result` is `Started`, the child is appended, without responses.
 abbrev pub children_after_start : List PolledChild → Job → CaseAttempt → StartAnswer → List PolledChild
 children_after_start alive job c (StartedAt moment) = alive ++ record { case = c; limit = child_timeout_seconds job c.role; responses = [] } ∷ []
 children_after_start alive job c (RefusedFor cause) = alive

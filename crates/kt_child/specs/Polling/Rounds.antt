@@ -1,4 +1,4 @@
--- Turns of polls over the running children.
+-- Rounds of polls over the running children.
 use Rattle.std.specs.Prelude.{◌≡◌, ℕ, zero, suc, List, [], ◌∷◌, ◌++◌, Bool, Option, Some, None, Result, take, slice_get, map}
 use Rattle.kt_child.specs.Types.{OsFault, Outcome, ChildState, RunningChild}
 use Rattle.kt_child.specs.declared.polling.ChildProgress.TheVariants.{StillRunning, Ended}
@@ -48,8 +48,8 @@ PollsUntil children i calls outcome =
     × PollsAll (take i children) before × EndsAtPoll (slice_get children i) last outcome
 
 -- `PollsInRounds children calls place outcome after`: `calls` poll the running children `children`
--- in turns until a child has finished. A pause follows each turn without a finished child. In the
--- last turn, the child at the index `place` finishes with `outcome`. `after` are the children with
+-- in rounds until a child has finished. A pause follows each round without a finished child. In the
+-- last round, the child at the index `place` finishes with `outcome`. `after` are the children with
 -- their poll counts after these polls.
 pub data PollsInRounds : List RunningChild → List Call → ℕ → Outcome → List RunningChild → Type 0 where
   last_round : (children : List RunningChild) (calls : List Call) (place : ℕ) (outcome : Outcome)

@@ -114,7 +114,7 @@ impl<O: Os + Drop> Launcher for Driver<O> {
 
     /// Waits until a child has finished, and returns its outcome, evidence and outputs.
     ///
-    /// The children are polled in turns, in the order of their starts. A pause follows each turn
+    /// The children are polled in rounds, in the order of their starts. A pause follows each round
     /// without a finished child. A child has finished if it has ended, or if a poll or the kill at
     /// its timeout fails. A child that is still running at the 500th poll after the kill counts as
     /// finished, too. If a read or an allocation fails, the evidence is unreadable or the output is

@@ -1,4 +1,4 @@
-//! Polls of the running children, in turns.
+//! Polls of the running children, in rounds.
 
 pub(crate) mod polls;
 

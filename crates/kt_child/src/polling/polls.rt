@@ -46,7 +46,7 @@ pub(crate) fn poll_once<O: Os>(
     }
 }
 
-/// Counts in `counts` a poll that reported a child as running, and returns the child's new state.
+/// Adds a poll that reported a child as running to `counts`, and returns the child's new state.
 ///
 /// Kills the child if its timeout is reached. `limit` is the timeout in seconds.
 fn count_running_poll<O: Os>(
@@ -117,8 +117,8 @@ fn poll_each_once<O: Os>(os: &mut O, children: &mut [RunningChild]) -> Option<Fi
     None
 }
 
-/// Polls the children in turns until a child has finished, and returns that child. After each turn
-/// without a finished child, the system pauses.
+/// Polls the children in rounds until a child has finished, and returns that child. After each
+/// round without a finished child, the system pauses.
 pub(crate) fn poll_until_finished<O: Os>(os: &mut O, children: &mut [RunningChild]) -> FinishedChild
     requires some { 0 < length children.old }
     requires on { All IsRunningChild children.old }

@@ -31,17 +31,17 @@ abbrev pub queue_path : List ℕ → List ℕ
 queue_path root = root ++ codes "/kyua." ++ decimal 0
 
 -- `setting_after_removals names name before`: the setting of the variable `name` in a command,
--- after the variables `names` were removed. `before` is its setting before. A setting is `None` if
--- the command does not change the variable, `Some None` if the variable is removed, and else its
--- new value.
+-- after the variables `names` were removed. `before` is the setting before the removals. A setting
+-- is `None` if the command does not change the variable, `Some None` if the variable is removed,
+-- and else its new value.
 abbrev pub setting_after_removals : List (List ℕ) → List ℕ → Option (Option (List ℕ)) → Option (Option (List ℕ))
 setting_after_removals [] name before = before
 setting_after_removals (gone ∷ names) name before = setting_after_removals names name (if bytes_eq (utf8 gone) name then Some None else before)
 
 -- `setting_after_sets variables name before`: the setting of the variable `name` in a command,
--- after `variables` were set. `before` is its setting before. A setting is `None` if the command
--- does not change the variable, `Some None` if the variable is removed, and else its new value. If
--- a name occurs twice in `variables`, its last value counts.
+-- after `variables` were set. `before` is the setting before these changes. A setting is `None` if
+-- the command does not change the variable, `Some None` if the variable is removed, and else its
+-- new value. If a name occurs twice in `variables`, its last value counts.
 abbrev pub setting_after_sets : List Variable → List ℕ → Option (Option (List ℕ)) → Option (Option (List ℕ))
 setting_after_sets [] name before = before
 setting_after_sets (v ∷ variables) name before = setting_after_sets variables name (if bytes_eq (utf8 v.name) name then Some (Some (utf8 v.value)) else before)

@@ -7,8 +7,8 @@ ghost use Rattle.kt_os.specs.Inner.Host.{IsEarly, IsInFirstHalf, next_slice, che
 use std::rt::Clock;
 use std::time::Instant;
 
-/// The greatest length of a pause between two turns, in microseconds. In a turn, each running child
-/// is polled once.
+/// The greatest length of a pause between two rounds, in microseconds. In a round, each running
+/// child is polled once.
 pub(crate) const PAUSE_MICROS: u64 = 10_000;
 
 /// Returns the interval at which `children` children are checked for an end, in microseconds.
