@@ -260,7 +260,7 @@ let head = head_from_row(row)?;
 BODY
 
 # Only these calls report damage.
-rule 'fails a check' lines '(^|[^a-z_])(ensure_sound|present)[(]' <<'PLACES'
+rule 'fails a check' lines '(^|[^a-z_])(ensure_sound|require_present)[(]' <<'PLACES'
 # The two functions.
 kt_store/src/store_fault.rt: pub fn ensure_sound(is_sound: bool) -> Result<(), DatabaseError>
 # The path, the value and the random number that an open needs, and the sizes of its files.
@@ -591,7 +591,7 @@ BODY
 rule 'calls the system in the crate kyua' lines_of_program \
   '(^|[^A-Za-z_])(fs|env|process|os|thread|net|rt|time|Files|Clock|Env|Processes)::|std::[{]|rt[.]' <<'PLACES'
 # The arguments of the process, and its exit status.
-kyua/src/main.rt: let (status, _outside) = run_process_args(outside, host, env::args(rt), &mut out, &mut rt.stderr());
+kyua/src/main.rt: env::args(rt),
 kyua/src/main.rt: use std::process::ExitCode;
 # The value that represents the first contents of the results, which the open consumes.
 kyua/src/host.rt: match RunsFile::open(self.rt, file, access, self.start.take()) {

@@ -2,7 +2,7 @@
 use Rattle.std.proofs.Common.{Option, Result, Ok, Err, false, ◌≡◌, ℕ, List, [], ◌∷◌, ◌++◌, map, refl, ap, ap₂, ◌∙◌, sym, subst}
 use Rattle.kt_cli.proofs.Common.{Entry, Run, StoreFault, junit_start, without_outputs, AreEqualExceptOutputs, Reading, ReadsEntry, WritesStoredReport, CallsStore}
 use Rattle.kt_report.proofs.HiddenParts.{same_heading}
-use Rattle.kt_report.specs.Details.{ReadsDetails, WritesLayout, none, more}
+use Rattle.kt_report.specs.Details.{ReadsDetails, WritesWithDetails, none, more}
 use Rattle.kt_report.specs.Layouts.{Layout}
 use Rattle.kt_report.specs.declared.write_report_error.WriteReportError.{WriteReportError}
 use Rattle.kt_report.specs.declared.write_report_error.WriteReportError.TheVariants.{Details, Report}
@@ -45,7 +45,7 @@ module _ {S R : Type 0} (keep : keeping.Ghosts R) (reading : Reading) (reads : S
   differ_before read shown rest d = map-append reading.without shown rest ∙ ap (λ (es : List Entry). es ++ map reading.without rest) d ∙ sym (map-append reading.without read rest)
 
   -- a report over details that are read from a store makes the calls for them
-  pub report_stored : {E : Type 0} {layout : Layout} {due : List Entry} {s t : S} {was now : Option (List ℕ)} (answer : Result (Unit {0}) (WriteReportError StoreFault E)) → WritesLayout reads layout due s was now t answer
+  pub report_stored : {E : Type 0} {layout : Layout} {due : List Entry} {s t : S} {was now : Option (List ℕ)} (answer : Result (Unit {0}) (WriteReportError StoreFault E)) → WritesWithDetails reads layout due s was now t answer
       → (name t ≡ name s) × WritesStoredReport keep reading (number s) layout due (store s) (store t) was now answer
   report_stored (Ok done) w = let a = all_read w.ends.1 in (a.same_store, record { ends = (w.ends.0, a.differ, a.stored, w.ends.2) })
   report_stored {s = s} {t = t} (Err (Details fault)) w =

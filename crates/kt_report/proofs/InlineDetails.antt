@@ -5,7 +5,7 @@ use Rattle.kt_report.proofs.Layouts.{Extends, cut_whole}
 use Rattle.kt_report.proofs.TitledLines.{by_section_is, titled_lines-append}
 use Rattle.kt_base.specs.declared.entry.Entry.{Entry}
 use Rattle.kt_base.specs.declared.entry.Run.{Run}
-use Rattle.kt_report.specs.Details.{ReadsDetails, WritesLayout, reads_if_verbose, reads_nothing}
+use Rattle.kt_report.specs.Details.{ReadsDetails, WritesWithDetails, reads_if_verbose, reads_nothing}
 use Rattle.kt_report.specs.Details.{none, more}
 use Rattle.kt_report.specs.declared.write_report_error.WriteReportError.{WriteReportError}
 use Rattle.kt_report.specs.declared.write_report_error.WriteReportError.TheVariants.{Details, Report}
@@ -26,17 +26,17 @@ module _ {S F : Type 0} where
 
   module _ {E : Type 0} {old new : S} {was now : Option (List ℕ)} (layout : Layout) (due : List Entry) where
     -- The whole report is written.
-    pub all_written : WritesLayout (reads_nothing {S = S} {F = F}) {E = E} layout due old was now new (Ok tt) → Emits was now false (bytes_up_to layout due [])
+    pub all_written : WritesWithDetails (reads_nothing {S = S} {F = F}) {E = E} layout due old was now new (Ok tt) → Emits was now false (bytes_up_to layout due [])
     all_written w = shows_as (ap (λ (es : List Entry). bytes_up_to layout es []) (shown_is w.ends.1)) w.ends.2
 
     -- A proper prefix of the report is written.
-    pub some_written : (fault : E) → Extends layout → WritesLayout (reads_nothing {S = S} {F = F}) layout due old was now new (Err (Report fault)) → Emits was now true (bytes_up_to layout due [])
+    pub some_written : (fault : E) → Extends layout → WritesWithDetails (reads_nothing {S = S} {F = F}) layout due old was now new (Err (Report fault)) → Emits was now true (bytes_up_to layout due [])
     some_written fault x w =
         let rest = w.ends.1 in
         shows_as (ap (λ (es : List Entry). bytes_up_to layout es []) (ap (λ (es : List Entry). es ++ rest) (shown_is w.ends.4) ∙ sym w.ends.3)) (cut_whole layout x w.ends.2 rest w.ends.5)
 
     -- No read fails.
-    pub none_fails : {P : Type 0} (fault : F) → WritesLayout (reads_nothing {S = S} {F = F}) {E = E} layout due old was now new (Err (Details fault)) → P
+    pub none_fails : {P : Type 0} (fault : F) → WritesWithDetails (reads_nothing {S = S} {F = F}) {E = E} layout due old was now new (Err (Details fault)) → P
     none_fails fault w = absurd (false≢true (ap is_read w.ends.7.0))
 
 -- A JUnit report has the cases of its entries in order.
@@ -60,8 +60,8 @@ text_extends date v run = record {
 
 module _ {S F : Type 0} {E : Type 0} {old new : S} {was now : Option (List ℕ)} (layout : Layout) (due : List Entry) where
   -- A report that reads nothing reads nothing with pairs, too.
-  pub own_pairs : (v : Bool) (answer : Result (Unit {0}) (WriteReportError F E)) → WritesLayout (reads_if_verbose v (reads_nothing {S = S} {F = F})) layout due old was now new answer
-      → WritesLayout (reads_nothing {S = S} {F = F}) layout due old was now new answer
+  pub own_pairs : (v : Bool) (answer : Result (Unit {0}) (WriteReportError F E)) → WritesWithDetails (reads_if_verbose v (reads_nothing {S = S} {F = F})) layout due old was now new answer
+      → WritesWithDetails (reads_nothing {S = S} {F = F}) layout due old was now new answer
   own_pairs true answer w = w
   own_pairs false answer w = w
 

@@ -5,7 +5,7 @@ use Rattle.kt_base.specs.declared.entry.Entry.{Entry}
 use Rattle.kt_base.specs.declared.entry.Run.{Run}
 use Rattle.kt_report.proofs.Fillings.{filled_both, filled_one}
 use Rattle.kt_report.proofs.Layouts.{cut_later}
-use Rattle.kt_report.specs.Details.{ReadsDetails, WritesLayout}
+use Rattle.kt_report.specs.Details.{ReadsDetails, WritesWithDetails}
 use Rattle.kt_report.specs.Details.{none}
 use Rattle.kt_report.specs.Inner.Steps.{WritesEntry, WritesFirst}
 use Rattle.kt_report.specs.declared.report_fault.ReportFault.{ReportFault}
@@ -19,7 +19,7 @@ module _ {S F : Type 0} (reads : S → Entry → Result Entry F → S → Type 0
 
   -- `Ends now new answer`: the report was written, or `answer` is the error that ended it.
   abbrev pub Ends : Option (List ℕ) → S → Result (Unit {0}) (WriteReportError F ReportFault) → Type 0
-  Ends now new answer = WritesLayout reads (junit_layout run) run.entries old was now new answer
+  Ends now new answer = WritesWithDetails reads (junit_layout run) run.entries old was now new answer
 
   -- After the start of the report, no case is written.
   pub writes_none : (now : Option (List ℕ)) → Emits was now false (junit_start run) → Written [] now old

@@ -8,7 +8,7 @@ use Rattle.kt_report.proofs.InTurn.{in_turn_more, in_turn_all}
 use Rattle.kt_report.proofs.Layouts.{cut_later}
 use Rattle.kt_report.proofs.LineSteps.{if_of, if_of_all}
 use Rattle.kt_report.proofs.TitledLines.{last_kind-append, titled_lines-append}
-use Rattle.kt_report.specs.Details.{ReadsDetails, WritesLayout, none, reads_if_verbose}
+use Rattle.kt_report.specs.Details.{ReadsDetails, WritesWithDetails, none, reads_if_verbose}
 use Rattle.kt_report.specs.Inner.Steps.{IsEntriesResult, WritesEntries, WritesEntry}
 use Rattle.kt_report.specs.declared.write_report_error.WriteReportError.{WriteReportError}
 use Rattle.kt_report.specs.declared.write_report_error.WriteReportError.TheVariants.{Details, Report}
@@ -164,7 +164,7 @@ module _ {S F : Type 0} (reads : S → Entry → Result Entry F → S → Type 0
     -- `Ends old was now new answer`: the report was written, or `answer` is the error that ended
     -- it.
     abbrev pub Ends : S → Option (List ℕ) → Option (List ℕ) → S → Result (Unit {0}) (WriteReportError F OutputFault) → Type 0
-    Ends old was now new answer = WritesLayout reads (text_layout date v run) due old was now new answer
+    Ends old was now new answer = WritesWithDetails reads (text_layout date v run) due old was now new answer
 
     -- The report ends early if a section can't be written.
     pub sections_cut : {old new : S} {was now : Option (List ℕ)} (stop : WriteReportError F OutputFault) → WritesEntries reads old was now new v None due (Err stop) → Ends old was now new (Err stop)

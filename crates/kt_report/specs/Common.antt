@@ -11,7 +11,7 @@ pub use Rattle.kt_base.specs.declared.entry.Output.{Output}
 pub use Rattle.kt_base.specs.declared.verdict.Kind.{Kind}
 pub use Rattle.kt_base.specs.declared.entry.Run.{Run}
 pub use Rattle.kt_report.specs.Cases.{case_texts, with_outputs}
-pub use Rattle.kt_report.specs.Details.{WritesLayout, reads_if_verbose}
+pub use Rattle.kt_report.specs.Details.{WritesWithDetails, reads_if_verbose}
 pub use Rattle.kt_report.specs.Digits.{last_digit, four_digits, seconds_bytes, three_digits, two_digits}
 pub use Rattle.kt_report.specs.Escapes.{escaped, escaped_text}
 pub use Rattle.kt_report.specs.Inner.Steps.{WritesEntries, WritesEntry}

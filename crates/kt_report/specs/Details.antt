@@ -60,8 +60,8 @@ module _ {S F : Type 0} (reads : S → Entry → Result Entry F → S → Type 0
         × Emits was now false (bytes_up_to layout shown (e ∷ rest))
     IsReportResult (Err (Report fault)) = (read rest shown : List Entry) × (due ≡ read ++ rest) × ReadsDetails old read shown new × Emits was now true (bytes_up_to layout shown rest)
 
-    -- `WritesLayout answer`: a record of the fact `IsReportResult answer`: a report was written
-    -- with the properties or outputs of its entries, or `answer` is the error that ended the
-    -- report.
-    pub record WritesLayout (answer : Result (Unit {0}) (WriteReportError F E)) : Type 0 where
+    -- `WritesWithDetails answer`: a record of the fact `IsReportResult answer`: a report was
+    -- written with the properties or outputs of its entries, or `answer` is the error that ended
+    -- the report.
+    pub record WritesWithDetails (answer : Result (Unit {0}) (WriteReportError F E)) : Type 0 where
       pub ends : IsReportResult answer

@@ -1,5 +1,5 @@
 ghost use Rattle.std.specs.Prelude.{◌≡◌, ◌++◌, false, is_err, flat_map, codes};
-ghost use Rattle.kt_report.specs.Common.{utf8, Emits, with_outputs, result_element, output_element, case_element, case_bytes, junit_start, junit_end, junit_bytes, junit_layout, WritesEntry, WritesLayout};
+ghost use Rattle.kt_report.specs.Common.{utf8, Emits, with_outputs, result_element, output_element, case_element, case_bytes, junit_start, junit_end, junit_bytes, junit_layout, WritesEntry, WritesWithDetails};
 
 use crate::case_texts::CaseTexts;
 use crate::details::InlineDetails;
@@ -160,7 +160,7 @@ pub fn write_junit_report<D: DetailSource, W: Write>(
     details: &mut D,
     out: &mut W,
 ) -> Result<(), WriteReportError<D::Fault, ReportFault>>
-    ensures { WritesLayout D.reads_outputs (junit_layout run.now) run.now.entries details.old
+    ensures { WritesWithDetails D.reads_outputs (junit_layout run.now) run.now.entries details.old
         (W.contents out.old) (W.contents out.new) details.new result }
 {
     write_heading(run, out)?;

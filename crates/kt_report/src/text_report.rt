@@ -1,5 +1,5 @@
 ghost use Rattle.std.specs.Prelude.{is_err, ◌≡◌, Bool, false, List};
-ghost use Rattle.kt_report.specs.Common.{Date, Emits, IsDateOf, text_bytes, text_layout, entries_by_section, reads_if_verbose, WritesLayout, Entry, Output, Kind, Run, junit_start, case_bytes, with_outputs, ChangesHiddenParts, with_entries};
+ghost use Rattle.kt_report.specs.Common.{Date, Emits, IsDateOf, text_bytes, text_layout, entries_by_section, reads_if_verbose, WritesWithDetails, Entry, Output, Kind, Run, junit_start, case_bytes, with_outputs, ChangesHiddenParts, with_entries};
 
 use crate::details::InlineDetails;
 use crate::moments::civil_date;
@@ -32,7 +32,7 @@ pub fn write_text_report<D: DetailSource, W: Write>(
     out: &mut W,
 ) -> Result<(), WriteReportError<D::Fault, OutputFault>>
     ensures { (date : Date) × IsDateOf run.now.started date
-        × WritesLayout (reads_if_verbose verbose D.reads_pairs) (text_layout date verbose
+        × WritesWithDetails (reads_if_verbose verbose D.reads_pairs) (text_layout date verbose
         run.now)
         (entries_by_section kinds.now run.now.entries) details.old (W.contents out.old)
         (W.contents out.new) details.new result }

@@ -47,7 +47,7 @@ impl Model for RunningChildren {
 
 /// Reserves capacity for one more child in `children`, and for the cases of all these children in
 /// `pending`.
-fn reserve_capacity(
+fn ensure_capacity(
     children: &mut Vec<RunningChild>,
     pending: &mut Vec<CaseAttempt>,
 ) -> Result<(), NoMemory>
@@ -168,7 +168,7 @@ impl RunningChildren {
         ensures state { self.new
             ≡ state_after_start self.old (new_running_child plan.now.limit case) result }
     {
-        if let Err(refusal) = reserve_capacity(&mut self.children, &mut self.pending) {
+        if let Err(refusal) = ensure_capacity(&mut self.children, &mut self.pending) {
             return refuse_start(os, plan.child.role, &plan.dir, refusal);
         }
         match start_child(os, plan) {

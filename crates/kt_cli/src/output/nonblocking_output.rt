@@ -77,7 +77,7 @@ impl<W: NonblockingWriter> NonblockingOutput<W> {
 
     /// Offers the held bytes to the inner writer, in order, at most 16 times and as long as the
     /// writer takes some of them.
-    fn offer_repeatedly(&mut self)
+    fn offer_while_accepted(&mut self)
         ensures bytes { Keeps (accepted_bytes W.contents self.old) (accepted_bytes W.contents
             self.new) }
         ensures few { length (unsent_bytes self.new) ≤ length (unsent_bytes self.old) }
@@ -100,7 +100,7 @@ impl<W: NonblockingWriter> NonblockingOutput<W> {
         ensures few { length (unsent_bytes self.new) ≤ length (unsent_bytes self.old) }
     {
         self.max_held_bytes = usize::MAX;
-        self.offer_repeatedly();
+        self.offer_while_accepted();
     }
 
     /// Moves all held bytes to the spool of the inner writer if they are more than the limit
@@ -205,7 +205,7 @@ impl<W: NonblockingWriter> Write for NonblockingOutput<W> {
         ensures few { length (unsent_bytes self.new)
             ≤ length (unsent_bytes self.old) + length buf.now }
     {
-        self.offer_repeatedly();
+        self.offer_while_accepted();
         if self.failed {
             return Err(broken_pipe_error());
         }
