@@ -49,8 +49,8 @@ pub data IsParsedList (text : List ℕ) : Result (List CaseDef) Reason → Type 
   no_list : (fault : ListFault) (phrase : Phrase) → HasFault text fault → fault_phrase fault.cause ≡ Ok phrase → IsParsedList text (Err (Counted phrase fault.line 0))
   listed : (cases : List CaseDef) → IsListText text cases → IsParsedList text (Ok cases)
 
--- `IsListingResult listing found`: `found` has the test cases in `listing`, the result of running a
--- program to list its cases, or is the reason why the listing can't be used.
+-- `IsListingResult listing found`: `listing` is the result of running a program to list its cases.
+-- `found` has these cases, or is the reason why `listing` can't be used.
 pub data IsListingResult : Listing → Result (List CaseDef) Reason → Type 0 where
   unstarted : (refused : Refused) → IsListingResult (listing.Refused refused) (Err (refused_reason refused))
   unlisted : (outcome : Outcome) (bytes : ListBytes) (reason : Reason) → list_failure_reason outcome ≡ Some reason → IsListingResult (listing.Ended outcome bytes) (Err reason)

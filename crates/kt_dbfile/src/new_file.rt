@@ -138,7 +138,7 @@ fn complete_first_page(made: &mut File) -> Option<bool> {
 
 /// Creates the results file `results` as a hard link to the complete file `name`, and returns
 /// `true` on success. A rename would replace a file that another process created.
-fn link_results<R: Files>(rt: &R, results: &Text, name: &Text) -> bool
+fn link_results_file<R: Files>(rt: &R, results: &Text, name: &Text) -> bool
     requires { IsNewNameOf results.now name.now }
 {
     fs::hard_link(rt, name.as_str(), results.as_str()).is_ok()
@@ -165,7 +165,7 @@ fn create_database<R: Files<File = File>>(rt: &R, file: &Text) -> Result<bool, N
     let Some(is_complete) = complete_first_page(&mut made) else {
         return Ok(false);
     };
-    let is_named = is_complete && link_results(rt, file, &new);
+    let is_named = is_complete && link_results_file(rt, file, &new);
     remove_new_file(rt, file, &new);
     Ok(is_named)
 }
@@ -265,14 +265,14 @@ fn remove_new_paths<R: Files + AllocGlobal + Clone + Drop>(
     Some(())
 }
 
-/// Creates the results file at the path `file` if it doesn't exist. If it exists, removes its other
-/// paths in the same directory that end in `-new`.
+/// Creates the results file at the path `file` if it doesn't exist. If it exists, removes the other
+/// hard links to it in its directory whose names end in `-new`.
 ///
 /// The new file is a database without tables. If this database can't be created, the new file has
 /// no bytes. For example, the file system may have no hard links, or an older log may be present.
-/// The later open turns an empty file into a database with larger pages. The content of an existing
-/// file isn't changed. A failure is reported by the later open, which also creates the log, with
-/// the file's permissions.
+/// The later open of the results turns an empty file into a database with larger pages. The content
+/// of an existing file isn't changed. A failure is reported by the later open, which also creates
+/// the log, with the file's permissions.
 pub(crate) fn create_missing_file<R: Files<File = File> + AllocGlobal + Clone + Drop>(
     rt: &R,
     file: &Text,

@@ -56,8 +56,8 @@ impl<S: Alter> Model for RunsFile<S> {
     ghost invariant = { λ r. IsSettledStore (S.Store.view r.store) r.schema };
 }
 
-/// Returns the schema that SQLite's schema list in `store` describes, or `None` if the list doesn't
-/// describe a schema.
+/// Reads the tables and indexes of `store` from SQLite's table `sqlite_schema`. Returns `None` if a
+/// row of this table doesn't describe a table or an index.
 fn load_schema<S: Alter>(store: &S, alloc: Global) -> Result<Option<Schema>, NoMemory>
     requires { IsClean (S.Store.view store.now) → (S.Store.view store.now).is_broken ≡ false }
     ensures { IsClean (S.Store.view store.now) → IfOk result (λ found. IfSome found
@@ -443,11 +443,13 @@ impl<S: TrustedContents> RunsFile<FileStore<FileFrom<S>>> {
     ///
     /// - `NoMemory`: memory ran out.
     /// - `Store`: another process uses the file for 5 seconds, or the file can't be created, read
-    ///   or written, is damaged or has other tables. Also returned if `file` is `:memory:` or a
-    ///   URI, or is mounted as a single file. Also returned if `start` is `None`, or if the system
-    ///   provides no random number.
-    /// - `UnknownSchema`: the file lists the tables of schema 2, but the schema number isn't 2. For
-    ///   other tables: the schema number is missing or neither 1 nor 2.
+    ///   or written, or is damaged. Also returned if the tables are not those of the schema number,
+    ///   1 or 2, except in the second case of `UnknownSchema`. Also returned if `file` is
+    ///   `:memory:` or a URI, or is mounted as a single file. Also returned if `start` is `None`,
+    ///   or if the system provides no random number.
+    /// - `UnknownSchema`: the schema number is neither 1 nor 2, or is missing in a file without the
+    ///   tables of schema 2. Also returned if the tables are those of schema 2, but the schema
+    ///   number is 1.
     pub fn open(
         rt: &HostRuntime,
         file: &Text,

@@ -3,8 +3,8 @@ use Rattle.std.specs.Prelude.{◌≡◌, ℕ, Bool, true, false, not, List, [], 
 use Rattle.std.specs.List.{list_any}
 use Rattle.kt_base.specs.Characters.{is_space}
 
--- `is_element word`: the text `word` can be an element: it has at least one character and no white
--- space.
+-- `is_element word`: the text `word` can be an element of a property that is a list. It has at
+-- least one character and no white space.
 abbrev pub is_element : List ℕ → Bool
 is_element [] = false
 is_element (c ∷ cs) = not (list_any is_space (c ∷ cs))

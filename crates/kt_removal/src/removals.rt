@@ -98,8 +98,8 @@ impl Removals {
         u32::try_from(self.next_number.saturating_sub(self.current_number)).unwrap_or(u32::MAX)
     }
 
-    /// Returns `true` if the queue is not empty. A number that was skipped after a failed move
-    /// counts as a directory.
+    /// Returns `true` if a number of the queue was not handled yet: its directory is still to be
+    /// removed, or the number has no directory, because the move to it failed.
     fn is_pending(&self) -> bool
         ensures { IsTrue result ↔ (self.now.current_number < self.now.next_number) }
     {

@@ -77,7 +77,7 @@ impl Sched {
     ghost use Rattle.std.specs.Prelude.{◌≡◌, ℕ, length, ◌^◌, Some, slice_get, IfOk, ◌<◌, ◌+◌, true, false};
     ghost use Rattle.kt_sched.specs.Common.{Next, Start, End, Case, Role, IsPlan, IsWidth, responses_after_put, responses_after, no_responses, IsNext, HasStepFacts, IsEntryOf, IsChosen, IsStartableCase, stage_runs, HoldsForEachRun, SchedState, RepresentsRun, IsAnswer, IsSettled, HasRecord, IsNotTaken, RecordsEvent, changes_left, ReducesChangesLeft};
 
-    /// Creates a scheduler of `plan` that has no response yet.
+    /// Creates a scheduler that selects the steps of a run of `plan`, from the first step on.
     ///
     /// `width` is the greatest number of active cases, 1 to 256.
     ///

@@ -99,9 +99,9 @@ module _ {D : Type 0} {g : disk.Ghosts D} where
     pub whose : ListsSchema2 image store ⊎ ((results : Held (FileStore D g)) × AreResultsOf image results × IsConvertedStore results store)
     pub numbered : IsClean (view store) → MustBeChecked image → IsTrue (view store).is_numbered
 
-  -- `ClosesCleanly store`: the close of `store` succeeded and left the log and the database file.
-  -- Unless the disk has returned wrong data, the files contain the last commit of `store`, also
-  -- without the log. This also holds after a crash.
+  -- `ClosesCleanly store`: the close of `store` succeeded. Unless the disk has returned wrong data,
+  -- the database file then contains the last commit of `store`, with its log and without it. This
+  -- also holds after a crash.
   pub record ClosesCleanly (store : FileStore D g) : Type 0 where
     pub last : FileStore D g
     pub quiet : IsQuiet view faults recovers is_shielded store last

@@ -30,7 +30,7 @@ pub(crate) struct ChildPurpose<'a> {
     pub variables: &'a Variables,
     /// The name of the test case. It is empty if the program lists its cases.
     pub case_name: &'a Text,
-    /// The timeout of the child, in seconds.
+    /// The timeout of the child, in seconds. A second has 100 polls.
     pub limit: u64,
 }
 
@@ -75,7 +75,7 @@ impl CaseAttempt {
 pub(crate) struct SpawnPlan {
     /// The name of the child: its attempt number and its role.
     pub child: Child,
-    /// The timeout of the child, in seconds.
+    /// The timeout of the child, in seconds. A second has 100 polls.
     pub limit: u64,
     /// The absolute path of the program.
     pub program: Text,
