@@ -8,7 +8,7 @@ pub use Rattle.std.proofs.lemmas.List.{append_assoc, length-map, map-append, map
 pub use Rattle.std.proofs.lemmas.List.Elements.{filter_passes, recursion_from_All}
 pub use Rattle.std.proofs.lemmas.List.Sorted.{IsPermutation-map, IsPermutation-sym, IsPermutation-trans}
 pub use Rattle.std.proofs.lemmas.Option.{none-some, same_Some, slice_get_read}
-pub use Rattle.std.proofs.lemmas.Result.{IfErr-weaker, IfOk-weaker}
+pub use Rattle.std.proofs.lemmas.Result.{IfErr-weaker, IfOk-weaker, on_ok_weaker}
 pub use Rattle.std.specs.Ordering.{is_eq, is_gt, is_lt, ordering_then}
 pub use Rattle.sqlite.proofs.Callers.{one_step}
 pub use Rattle.sqlite.proofs.FileLemmas.{probe_size, same_image}

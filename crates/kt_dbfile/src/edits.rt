@@ -16,7 +16,8 @@ use kt_base::{Entry, NoMemory, Text, Variable};
 use kt_store::StoreFault;
 use kt_store::heads::push_item;
 use kt_store::lookup::{MAX_RUNS, run_key};
-use kt_store::put::copy_reason_text;
+use kt_store::put::{check_put, copy_reason_text};
+use kt_store::run_rows::check_finish;
 use kt_store::store_fault::DatabaseError;
 use kt_store::value::{blob_value, int_value, kind_code, text_value};
 use sqlite_rules::error::Rowids;
@@ -210,16 +211,8 @@ fn check_can_put<S: Alter>(
     ensures looks { ReadsUnbrokenStore S.Store store.old store.new result }
 {
     let head = find_run_head(store, alloc, run)?;
-    if head.finished {
-        return Err(StoreFault::RunClosed);
-    }
-    if entry.position >= head.total {
-        return Err(StoreFault::BadPosition);
-    }
-    if has_entry_at(store, alloc, run_key(run), entry.position)? {
-        return Err(StoreFault::RepeatedPosition);
-    }
-    Ok(())
+    let is_taken = has_entry_at(store, alloc, run_key(run), entry.position)?;
+    check_put(head.finished, head.total, entry.position, is_taken)
 }
 
 /// Writes `entry` and its properties to the run with the number `run`, without a commit, after a
@@ -304,12 +297,8 @@ fn check_can_finish<S: Alter>(store: &mut S, alloc: Global, run: u64) -> Result<
 {
     let row = find_run_row(store, alloc, run)?;
     let head = head_from_stored_row(alloc, &row)?;
-    if head.finished {
-        return Err(StoreFault::RunClosed);
-    }
-    if count_run_entries(store, alloc, run_key(run))? < u64::from(head.total) {
-        return Err(StoreFault::Incomplete);
-    }
+    let count = count_run_entries(store, alloc, run_key(run))?;
+    check_finish(head.finished, head.total, count)?;
     Ok(row)
 }
 

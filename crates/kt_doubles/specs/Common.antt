@@ -5,4 +5,4 @@ pub use Rattle.kt_store.specs.Ask.{IsDatabaseFault}
 pub use Rattle.kt_store.specs.Heads.{IsNumbered, head_of, outline_entry, outputs_of}
 pub use Rattle.kt_store.specs.Runs.{AreNumbered, AreOrdered, has_position, insert_by_position}
 pub use Rattle.kt_store.specs.StoreCalls.{Began, Finished, Outline, Outputs, Pairs, Put, map_success}
-pub use Rattle.kt_doubles.specs.MemoryRuns.{FindsRunIndex, ServesInMemory, finish_error, put_error, insert_index}
+pub use Rattle.kt_doubles.specs.MemoryRuns.{FindsRunIndex, ServesInMemory, insert_index}

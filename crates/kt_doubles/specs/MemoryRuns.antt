@@ -1,13 +1,13 @@
 -- `MemRuns`, a store of runs in memory: the relations that specify it, and its calls.
-use Rattle.std.specs.Prelude.{ℕ, suc, nat_lt, nat_le, if◌then◌else◌, Option, List, [], ◌∷◌, ◌≡◌, ◌<◌, Some, None, Result, Ok, Err, length, ⊤}
+use Rattle.std.specs.Prelude.{ℕ, suc, nat_lt, if◌then◌else◌, List, [], ◌∷◌, ◌≡◌, ◌<◌, None, Result, Ok, Err, length, ⊤}
 use Rattle.kt_base.specs.declared.entry.Entry.{Entry}
 use Rattle.kt_base.specs.declared.entry.Run.{Run}
-use Rattle.kt_store.specs.Runs.{AreNumbered, AreOrdered, has_position, run_at}
+use Rattle.kt_store.specs.Runs.{AreNumbered, AreOrdered, run_at}
 use Rattle.kt_store.specs.Serving.{Agrees, runs_after}
 use Rattle.kt_store.specs.StoreCalls.{StoreCall}
 use Rattle.kt_store.specs.declared.result_store.StoreSpec as keeping
 use Rattle.kt_store.specs.declared.store_fault.StoreFault.{StoreFault}
-use Rattle.kt_store.specs.declared.store_fault.StoreFault.TheVariants.{NoRun, RunClosed, BadPosition, RepeatedPosition, Incomplete}
+use Rattle.kt_store.specs.declared.store_fault.StoreFault.TheVariants.{NoRun}
 
 -- `AllowsAnyCallInMemory m call n`: the call `call` may lead a store from the runs `m` to `n`. The
 -- relation always holds, because each call has its own contract.
@@ -51,17 +51,3 @@ FindsRunIndex runs number (Err fault) = (fault ≡ NoRun) × (run_at runs number
 abbrev pub insert_index : ℕ → List Entry → ℕ
 insert_index position [] = 0
 insert_index position (x ∷ es) = if nat_lt position x.position then 0 else suc (insert_index position es)
-
--- `put_error run position`: the first of `RunClosed`, `BadPosition` and `RepeatedPosition` that
--- applies to a put at `position` into `run`, or `None` if `run` accepts the entry.
-abbrev pub put_error : Run → ℕ → Option StoreFault
-put_error run position =
-    if run.finished then Some RunClosed
-    else if nat_le run.total position then Some BadPosition
-    else if has_position position run.entries then Some RepeatedPosition
-    else None
-
--- `finish_error run`: the first of `RunClosed` and `Incomplete` that applies to finishing `run`, or
--- `None` if `run` can be finished.
-abbrev pub finish_error : Run → Option StoreFault
-finish_error run = if run.finished then Some RunClosed else if nat_lt (length run.entries) run.total then Some Incomplete else None

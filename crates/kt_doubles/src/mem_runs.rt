@@ -1,5 +1,7 @@
 use crate::entry_copies::{copy_entry_outlines, copy_full_entry, copy_outputs};
 use kt_base::{Entry, Items, NoMemory, Run, Variables};
+use kt_store::put::check_put;
+use kt_store::run_rows::check_finish;
 use kt_store::{CaseOutputs, ResultStore, RunHead, StoreFault, StoreSpec};
 use std::alloc::Global;
 use std::marker::Model;
@@ -82,7 +84,7 @@ impl MemRuns {
 
     /// Inserts a copy of an entry into run `number`, in the order of positions.
     ///
-    /// Fails with `NoRun` if there is no such run, and with the error of [`find_put_fault`] if the
+    /// Fails with `NoRun` if there is no such run, and with the error of [`check_put`] if the
     /// run rejects the entry. Fails with `NoMemory` if an allocation fails.
     fn put_entry(&mut self, number: u64, entry: &Entry) -> Result<(), StoreFault>
         ensures { ServesInMemory self.old (Put number entry.now result) self.new }
@@ -90,9 +92,8 @@ impl MemRuns {
         let place = self.run_index(number)?;
         let alloc = self.alloc;
         let run = &mut self.runs[place];
-        if let Some(fault) = find_put_fault(run, entry.position) {
-            return Err(fault);
-        }
+        let is_taken = has_position(run.entries.as_slice(), entry.position);
+        check_put(run.finished, run.total, entry.position, is_taken)?;
         if let Err(refusal) = insert_entry_copy(alloc, &mut run.entries, entry) {
             return Err(convert_no_memory(refusal));
         }
@@ -101,16 +102,15 @@ impl MemRuns {
 
     /// Marks run `number` as finished.
     ///
-    /// Fails with `NoRun` if there is no such run, and with the error of [`find_finish_fault`] if
+    /// Fails with `NoRun` if there is no such run, and with the error of [`check_finish`] if
     /// the run can't be finished.
     fn finish_run(&mut self, number: u64) -> Result<(), StoreFault>
         ensures { ServesInMemory self.old (Finished number result) self.new }
     {
         let place = self.run_index(number)?;
         let run = &mut self.runs[place];
-        if let Some(fault) = find_finish_fault(run) {
-            return Err(fault);
-        }
+        let count = run.entries.len() as u64;
+        check_finish(run.finished, run.total, count)?;
         run.finished = true;
         Ok(())
     }
@@ -224,7 +224,7 @@ impl ResultStore for MemRuns {
 }
 
 ghost use Rattle.std.specs.Prelude.{◌≡◌, ◌≤◌, ◌==◌, IfSome, length, insert, OnOk, OnErr};
-ghost use Rattle.kt_doubles.specs.Common.{find, option_copied, IsDatabaseFault, head_of, has_position, insert_by_position, put_error, finish_error, insert_index};
+ghost use Rattle.kt_doubles.specs.Common.{find, option_copied, IsDatabaseFault, head_of, has_position, insert_by_position, insert_index};
 ghost use Rattle.kt_base.specs.declared.entry.Entry.{Entry as Recorded};
 ghost use Rattle.kt_base.specs.declared.entry.Run.{Run as RunValue};
 
@@ -314,35 +314,4 @@ fn has_position(entries: &[Entry], position: u32) -> bool
     ensures { result ≡ has_position position entries.now }
 {
     entries.iter().any(|x| x.position == position)
-}
-
-/// Returns the first of `RunClosed`, `BadPosition` and `RepeatedPosition` that applies to a put of
-/// an entry with `position` into a run. Returns `None` if the run accepts the entry.
-fn find_put_fault(run: &Run, position: u32) -> Option<StoreFault>
-    ensures { result ≡ put_error run.now position }
-{
-    if run.finished {
-        return Some(StoreFault::RunClosed);
-    }
-    if run.total <= position {
-        return Some(StoreFault::BadPosition);
-    }
-    if has_position(run.entries.as_slice(), position) {
-        return Some(StoreFault::RepeatedPosition);
-    }
-    None
-}
-
-/// Returns the first of `RunClosed` and `Incomplete` that applies to finishing a run. Returns
-/// `None` if the run can be finished.
-fn find_finish_fault(run: &Run) -> Option<StoreFault>
-    ensures { result ≡ finish_error run.now }
-{
-    if run.finished {
-        return Some(StoreFault::RunClosed);
-    }
-    if run.entries.len() < run.total as usize {
-        return Some(StoreFault::Incomplete);
-    }
-    None
 }

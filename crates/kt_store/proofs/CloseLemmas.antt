@@ -1,5 +1,5 @@
 -- The effect of finishing a run on the tables.
-use Rattle.kt_store.proofs.Common.{AllByRecursion, Applies, AreValidRuns, Database, Does, Enforced, Entry, Ghosts, Given, HasCleanDisk, Held, Incomplete, Int, IsAscending, IsComplete, IsDatabase, IsPermutation, IsValidRun, IsSettledWithRuns, IsTrue, IsSchema2Of, List, StatementMayCommit, Mode, None, Ok, Option, Run, RunClosed, Some, StandsFor, IsSchema2Database, Tally, RunsStatement, Trees, Update, [], all_from, all_weaker, ap, arith, finished_run_row, drop, edit_of, entries_of, entry_row, entry_rows, false, finish, finish_refusal, finish_refusal_of, finish_run_sql, flat_map, ids_of, length, map, nat_lt, nat_tests, pair_rows, pos, prop_rows, refl, run_at, runs_table, schema_2, state, subst, suc, sym, true, zero, ℕ, ◌++◌, ◌+◌, ◌<◌, ◌∙◌, ◌∷◌, ◌≡◌, ◌≤◌}
+use Rattle.kt_store.proofs.Common.{AllByRecursion, Applies, AreValidRuns, Bool, Database, Does, Enforced, Entry, Ghosts, Given, HasCleanDisk, Held, Incomplete, Int, IsAscending, IsComplete, IsDatabase, IsPermutation, IsValidRun, IsSettledWithRuns, IsTrue, IsSchema2Of, List, StatementMayCommit, Mode, None, Ok, Option, Run, RunClosed, Some, StandsFor, IsSchema2Database, Tally, RunsStatement, Trees, Update, [], all_from, all_weaker, ap, arith, finished_run_row, drop, edit_of, entries_of, entry_row, entry_rows, false, finish, finish_fault, finish_refusal, finish_refusal_of, finish_run_sql, flat_map, ids_of, if◌then◌else◌, length, map, nat_lt, nat_tests, pair_rows, pos, prop_rows, refl, run_at, runs_table, schema_2, state, subst, suc, sym, true, zero, ℕ, ◌++◌, ◌+◌, ◌<◌, ◌∙◌, ◌∷◌, ◌≡◌, ◌≤◌}
 use Rattle.std.specs.List.{slice_index_or}
 use Rattle.kt_store.proofs.RunsByNumber.{finish_each, finish_unseen, run_of}
 use Rattle.kt_store.proofs.SqlFacts.{finish_is}
@@ -81,25 +81,29 @@ at_places es i e up below low is = at_place 0 i es e (all_from (λ (d : Entry). 
 pub at_most : (r : Run) → IsValidRun r → length r.entries ≤ r.total
 at_most r is = omega (arith, no_more 0 r.total r.entries (omega arith) (all_from (λ (e : Entry). 0 ≤ e.position) r.entries (λ e _. omega arith)) is.ordered is.below)
 
-module _ (runs : List Run) (run : ℕ) (r : Run) (there : run_at runs run ≡ Some r) where
-  pub closed_already : r.finished ≡ true → finish_refusal runs run ≡ Some RunClosed
-  closed_already done = ap finish_refusal_of there ∙ rw done refl
+-- a run that can be finished is unfinished and has as many entries as cases
+complete : (closed : Bool) (total count : ℕ) → finish_fault closed total count ≡ None → (closed ≡ false) × (total ≤ count)
+complete closed total count = by closed (nat_lt count total) refl
+  where
+    by : (closed few : Bool) → nat_lt count total ≡ few → (if closed then Some RunClosed else if few then Some Incomplete else None) ≡ None → (closed ≡ false) × (total ≤ count)
+    by false false all h = (refl, grind (arith, nat_tests, all))
+    by _ _ all h = absurd cc
 
-  module _ (unclosed : r.finished ≡ false) (valid : AreValidRuns runs) (n : ℕ) (is : n ≡ length (entries_of (run_at runs run))) where
-    counted : n ≡ length r.entries
-    counted = is ∙ ap (λ o. length (entries_of o)) there
+module _ (runs : List Run) (run : ℕ) (r : Run) (there : run_at runs run ≡ Some r) (closed : Bool) (total n : ℕ) (same : closed ≡ r.finished) (many : total ≡ r.total)
+    (is : n ≡ length (entries_of (run_at runs run))) where
+  counted : n ≡ length r.entries
+  counted = is ∙ ap (λ o. length (entries_of o)) there
 
-    pub lacks_some : n < r.total → finish_refusal runs run ≡ Some Incomplete
-    lacks_some low =
-        let few : nat_lt (length r.entries) r.total ≡ true = grind (arith, nat_tests, low, counted) in
-        ap finish_refusal_of there ∙ rw (unclosed, few) refl
+  -- the error of a finish follows from the run's state
+  pub finish_refusal_is : finish_refusal runs run ≡ finish_fault closed total n
+  finish_refusal_is = ap finish_refusal_of there ∙ sym (rw (same, many, counted) refl)
 
-    pub lacks_none : r.total ≤ n → (finish_refusal runs run ≡ None) × IsComplete run runs
-    lacks_none high =
-        let all : nat_lt (length r.entries) r.total ≡ false = grind (arith, nat_tests, high, counted) in
-        let f = place run there in
-        (ap finish_refusal_of there ∙ rw (unclosed, all) refl, (f.0, r, f.1, there, omega (arith, high, counted, at_most r (run_of run runs r valid there))))
-      where
-        place : (run : ℕ) → run_at runs run ≡ Some r → (k : ℕ) × (run ≡ suc k)
-        place zero there = absurd cc
-        place (suc k) there = (k, refl)
+  pub finishes : finish_fault closed total n ≡ None → AreValidRuns runs → (finish_refusal runs run ≡ None) × IsComplete run runs
+  finishes accepted valid =
+      let it = complete closed total n accepted in
+      let f = place run there in
+      (finish_refusal_is ∙ accepted, (f.0, r, f.1, there, omega (arith, it.1, many, counted, at_most r (run_of run runs r valid there))))
+    where
+      place : (run : ℕ) → run_at runs run ≡ Some r → (k : ℕ) × (run ≡ suc k)
+      place zero there = absurd cc
+      place (suc k) there = (k, refl)

@@ -72,5 +72,5 @@ pub use Rattle.kt_store.specs.Serving.{Agrees, SurvivesCrash, runs_after}
 pub use Rattle.kt_store.specs.Stands.{HasTables, IsSettledWhileOpen, HasNoTables, IsSettled, IsSettledWithRuns, ListsSchemaNumber, RepresentsInSchema1}
 pub use Rattle.kt_store.specs.StoreCalls.{StoreCall}
 pub use Rattle.kt_store.specs.Tables.{insert_run_sql, schema_with_meta, create_entries_sql, create_meta_sql, create_props_sql, create_runs_sql, entries, entries_table, finish_run_sql, index_of, insert_schema_sql, meta, meta_table, select_schema_sql, no_schema, props, props_table, insert_entry_sql, update_schema_sql, select_run_sql, runs, runs_table, schema_1, select_entry_sql}
-pub use Rattle.kt_store.specs.Common.{AreValidRuns, AreWide, RunsQuery, ReadsSchemaNumber, Began, Blank, IsValidWithEntry, Changes, Commits, CommitsNothingYet, CommitsNothing, RunsStatement, Finished, HasColumns, IsNotBlank, Head, HasNoReasonIfPassed, IsComplete, IsValidEntry, IsNoMemory, IsNumbered, Describes, IsSchema2Statement, IsEncodableProperty, IsDatabaseFault, IsPreparable, IsSchema2Of, IsSchema2OfOne, KeepsRuns, Leaves, OnlyReadsRuns, MayChange, MayCommit, StatementMayCommit, QueryMayCommit, Schema1, Put, AttachFails, IsUnchangedOrRolledBack, Reads, ExecutesOne, StoresSchemaNumber, Serves, QueriesRuns, StandsFor, Statement, AttachSucceeds, RollsBack, bound, entries_of, select_entries_sql, entry_at, entry_columns, entry_statements, finish, finish_refusal, flag, has_position, head_at, head_columns, head_of, kind_code, new_run, outline_entry, pair_columns, pair_statement, pair_statements, pairs_of, select_props_sql, plain_statements, put_refusal, results_spec, run_at, select_runs_sql, schema_2, full_entry_columns, with_entry}
+pub use Rattle.kt_store.specs.Common.{AreValidRuns, AreWide, RunsQuery, ReadsSchemaNumber, Began, Blank, IsValidWithEntry, Changes, Commits, CommitsNothingYet, CommitsNothing, RunsStatement, Finished, HasColumns, IsNotBlank, Head, HasNoReasonIfPassed, IsComplete, IsValidEntry, IsNoMemory, IsNumbered, Describes, IsSchema2Statement, IsEncodableProperty, IsDatabaseFault, IsPreparable, IsSchema2Of, IsSchema2OfOne, KeepsRuns, Leaves, OnlyReadsRuns, MayChange, MayCommit, StatementMayCommit, QueryMayCommit, Schema1, Put, AttachFails, IsUnchangedOrRolledBack, Reads, ExecutesOne, StoresSchemaNumber, Serves, QueriesRuns, StandsFor, Statement, AttachSucceeds, RollsBack, bound, entries_of, select_entries_sql, entry_at, entry_columns, entry_statements, finish, finish_fault, finish_refusal, flag, has_position, head_at, head_columns, head_of, kind_code, new_run, outline_entry, pair_columns, pair_statement, pair_statements, pairs_of, select_props_sql, plain_statements, put_fault, put_refusal, results_spec, run_at, select_runs_sql, schema_2, full_entry_columns, with_entry}
 pub use Rattle.kt_store.specs.Types.{AllByRecursion, BadPosition, CommitsShowing, Database, Entry, Executes, ExecutesInside, Ghosts, HasCleanDisk, Held, Incomplete, Int, IsAscending, IsDatabase, IsLive, IsRolledBack, IsUnchanged, KeepsCommit, NoMemory, Null, RepeatedPosition, Row, Run, RunClosed, RunHead, State, StoreFault, Survives, Text, Trees, Variable, column, find, has_rowid, greatest_run_number, rowid, state}

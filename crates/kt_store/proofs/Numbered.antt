@@ -1,6 +1,6 @@
 -- The condition under which a run accepts an entry. Each call keeps runs numbered from 1, and their
 -- entries ordered by position.
-use Rattle.kt_store.proofs.Common.{Agrees, AllByRecursion, AreNumbered, AreOrdered, AreValidRuns, BadPosition, Began, Bool, IsValidWithEntry, Entry, Finished, IsAscending, HasNoReasonIfPassed, IsValidEntry, IsValidRun, List, None, Ok, Option, Put, RepeatedPosition, Run, RunClosed, Some, StoreCall, [], all-append, all-slice_get, all_weaker, ap, arith, cases_Bool, runs_after, cond, entries_of, false, finish, has_position, if◌then◌else◌, inl, inr, insert_by_position, length, nat_le, nat_lt, nat_tests, new_run, or_parts, put_refusal, put_refusal_of, refl, run_at, slice_get, slice_get_within, suc, sym, true, with_entry, zero, ℕ, ◌++◌, ◌+◌, ◌<◌, ◌==◌, ◌∙◌, ◌∷◌, ◌≡◌, ◌≤◌}
+use Rattle.kt_store.proofs.Common.{Agrees, AllByRecursion, AreNumbered, AreOrdered, AreValidRuns, BadPosition, Began, Bool, IsValidWithEntry, Entry, Finished, IsAscending, HasNoReasonIfPassed, IsValidEntry, IsValidRun, List, None, Ok, Option, Put, RepeatedPosition, Run, RunClosed, Some, StoreCall, [], all-append, all-slice_get, all_weaker, ap, arith, cases_Bool, runs_after, cond, entries_of, false, finish, has_position, if◌then◌else◌, inl, inr, insert_by_position, length, nat_le, nat_lt, nat_tests, new_run, or_parts, put_fault, put_refusal, put_refusal_of, refl, run_at, slice_get, slice_get_within, suc, sym, true, with_entry, zero, ℕ, ◌++◌, ◌+◌, ◌<◌, ◌==◌, ◌∙◌, ◌∷◌, ◌≡◌}
 use Rattle.kt_store.proofs.RunsByNumber.{entry_each, run_of}
 
 abbrev pub lower : Entry → Entry → Type 0
@@ -33,41 +33,40 @@ run_takes e r sound is unclosed low free = record {
   whole = λ done. absurd (let e : true ≡ false = sym done ∙ unclosed in cc);
 }
 
-module _ (runs : List Run) (run : ℕ) (e : Entry) (r : Run) (there : run_at runs run ≡ Some r) where
-  pub refused_closed : r.finished ≡ true → put_refusal runs run e ≡ Some RunClosed
-  refused_closed done = ap (λ o. put_refusal_of o e) there ∙ rw done refl
+-- a run that accepts an entry is unfinished, and the entry's position is valid and free
+accepts : (closed : Bool) (total position : ℕ) (here : Bool) → put_fault closed total position here ≡ None → (closed ≡ false) × (position < total) × (here ≡ false)
+accepts closed total position here = by closed (nat_le total position) here refl
+  where
+    by : (closed past here : Bool) → nat_le total position ≡ past → (if closed then Some RunClosed else if past then Some BadPosition else if here then Some RepeatedPosition else None) ≡ None
+        → (closed ≡ false) × (position < total) × (here ≡ false)
+    by false false false under h = (refl, grind (arith, nat_tests, under), refl)
+    by _ _ _ under h = absurd cc
 
-  module _ (unclosed : r.finished ≡ false) where
-    pub refused_past : r.total ≤ e.position → put_refusal runs run e ≡ Some BadPosition
-    refused_past high =
-        let past : nat_le r.total e.position ≡ true = grind (arith, nat_tests, high) in
-        ap (λ o. put_refusal_of o e) there ∙ rw (unclosed, past) refl
+module _ (runs : List Run) (run : ℕ) (e : Entry) (r : Run) (there : run_at runs run ≡ Some r) (closed : Bool) (total : ℕ) (here : Bool) (same : closed ≡ r.finished) (many : total ≡ r.total)
+    (is : here ≡ has_position e.position (entries_of (run_at runs run))) where
+  -- the position is taken if the run has an entry there
+  here_is : here ≡ has_position e.position r.entries
+  here_is = is ∙ ap (λ o. has_position e.position (entries_of o)) there
 
-    module _ (low : e.position < r.total) where
-      under : nat_le r.total e.position ≡ false
-      under = grind (arith, nat_tests, low)
+  -- the error of a put follows from the run's state
+  pub put_refusal_is : put_refusal runs run e ≡ put_fault closed total e.position here
+  put_refusal_is = ap (λ o. put_refusal_of o e) there ∙ sym (rw (same, many, here_is) refl)
 
-      pub refused_repeated : has_position e.position (entries_of (run_at runs run)) ≡ true → put_refusal runs run e ≡ Some RepeatedPosition
-      refused_repeated here =
-          let is : has_position e.position r.entries ≡ true = ap (λ o. has_position e.position (entries_of o)) (sym there) ∙ here in
-          ap (λ o. put_refusal_of o e) there ∙ rw (unclosed, under, is) refl
-
-      pub taken : HasNoReasonIfPassed e → AreValidRuns runs → has_position e.position (entries_of (run_at runs run)) ≡ false
-          → (put_refusal runs run e ≡ None) × IsValidWithEntry run e runs
-      taken passed valid free =
-          let is : has_position e.position r.entries ≡ false = ap (λ o. has_position e.position (entries_of o)) (sym there) ∙ free in
-          (ap (λ o. put_refusal_of o e) there ∙ rw (unclosed, under, is) refl, fits run there valid is)
-        where
-          fits : (run : ℕ) → run_at runs run ≡ Some r → AreValidRuns runs → has_position e.position r.entries ≡ false → IsValidWithEntry run e runs
-          fits zero there valid is = absurd cc
-          fits (suc k) there valid is = (
-            k,
-            refl,
-            slice_get_within runs k r there,
-            λ has.
-                let sound : IsValidEntry e = record { program = has.0; case_name = has.1; reason = has.2; passed = passed; meta = has.3 } in
-                entry_each IsValidRun k runs r valid.numbered valid.each there e (run_takes e r sound (run_of (suc k) runs r valid there) unclosed low is),
-          )
+  pub taken : put_fault closed total e.position here ≡ None → HasNoReasonIfPassed e → AreValidRuns runs → (put_refusal runs run e ≡ None) × IsValidWithEntry run e runs
+  taken accepted passed valid =
+      let it = accepts closed total e.position here accepted in
+      (put_refusal_is ∙ accepted, fits run there valid (sym same ∙ it.0) (omega (arith, it.1, many)) (sym here_is ∙ it.2))
+    where
+      fits : (run : ℕ) → run_at runs run ≡ Some r → AreValidRuns runs → r.finished ≡ false → e.position < r.total → has_position e.position r.entries ≡ false → IsValidWithEntry run e runs
+      fits zero there valid unclosed low free = absurd cc
+      fits (suc k) there valid unclosed low free = (
+        k,
+        refl,
+        slice_get_within runs k r there,
+        λ has.
+            let sound : IsValidEntry e = record { program = has.0; case_name = has.1; reason = has.2; passed = passed; meta = has.3 } in
+            entry_each IsValidRun k runs r valid.numbered valid.each there e (run_takes e r sound (run_of (suc k) runs r valid there) unclosed low free),
+      )
 
 -- ---- each call keeps runs numbered from 1, and their entries ordered by position
 
@@ -99,11 +98,7 @@ numbers_changed _ runs h = h
 
 -- a run that accepts an entry has no entry at this position
 free_of : (r : Run) (e : Entry) → put_refusal_of (Some r) e ≡ None → has_position e.position r.entries ≡ false
-free_of r e = by r.finished (nat_le r.total e.position) (has_position e.position r.entries)
-  where
-    by : (closed past here : Bool) → (if closed then Some RunClosed else if past then Some BadPosition else if here then Some RepeatedPosition else None) ≡ None → here ≡ false
-    by false false false h = refl
-    by _ _ _ h = absurd cc
+free_of r e accepted = (accepts r.finished r.total e.position (has_position e.position r.entries) accepted).2
 
 abbrev IsOrdered : Run → Type 0
 IsOrdered r = IsAscending (λ (a b : Entry). a.position < b.position) r.entries

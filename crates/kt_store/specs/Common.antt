@@ -12,7 +12,7 @@ pub use Rattle.kt_store.specs.Inner.Heads.{AreNumberedFrom, entry_columns, head_
 pub use Rattle.kt_store.specs.Inner.Kept.{ReadsSchemaNumber, Changes, CommitsNothing, ChecksTables, IsNotBlank, KeepsRuns, KeepsDatabase, OnlyReadsRuns, MayChange, WasCleanIfClean}
 pub use Rattle.kt_store.specs.Inner.Runs.{IsValidWithEntry, HasNoReasonIfPassed, IsComplete, entries_of}
 pub use Rattle.kt_store.specs.Inner.Transactions.{Commits, CommitsNothingYet, IsSchema2Statement, MayCommit, ExecutesAll, ExecutesOne, Statement, RollsBack, entry_statements, pair_statement, pair_statements, plain_statements}
-pub use Rattle.kt_store.specs.Runs.{AreValidRuns, IsValidEntry, IsEncodableProperty, IsEncodable, IsSchema2Of, IsSchema2OfOne, finish, finish_refusal, flag, has_position, kind_code, new_run, put_refusal, run_at, with_entry}
+pub use Rattle.kt_store.specs.Runs.{AreValidRuns, IsValidEntry, IsEncodableProperty, IsEncodable, IsSchema2Of, IsSchema2OfOne, finish, finish_fault, finish_refusal, flag, has_position, kind_code, new_run, put_fault, put_refusal, run_at, with_entry}
 pub use Rattle.kt_store.specs.Serving.{Reads, Serves, results_spec}
 pub use Rattle.kt_store.specs.Stands.{IsPreparable, Leaves, HoldsForRuns, StoresSchemaNumber, StandsFor}
 pub use Rattle.kt_store.specs.StoreCalls.{Began, Finished, Head, Outline, Outputs, Pairs, Put, map_success}

@@ -174,22 +174,33 @@ finish run (r ∷ runs) = if r.number == run then record r { finished = true } �
 abbrev pub has_position : ℕ → List Entry → Bool
 has_position position es = list_any (λ (e : Entry). e.position == position) es
 
+-- `put_fault closed total position taken`: the first error that applies to a put at `position` into
+-- a run of `total` cases, or `None` if the run accepts the entry. `closed`: the run is finished.
+-- `taken`: the run has an entry at `position`.
+abbrev pub put_fault : Bool → ℕ → ℕ → Bool → Option StoreFault
+put_fault closed total position taken = if closed then Some RunClosed else if nat_le total position then Some BadPosition else if taken then Some RepeatedPosition else None
+
 -- `put_refusal_of r e`: the first error that applies to a put of entry `e` into run `r`, or `None`
 -- if the run accepts the entry. `r` is `None` if there is no such run; the error is then `NoRun`.
 abbrev pub put_refusal_of : Option Run → Entry → Option StoreFault
 put_refusal_of None e = Some NoRun
-put_refusal_of (Some r) e = if r.finished then Some RunClosed else if nat_le r.total e.position then Some BadPosition else if has_position e.position r.entries then Some RepeatedPosition else None
+put_refusal_of (Some r) e = put_fault r.finished r.total e.position (has_position e.position r.entries)
 
 -- `put_refusal runs run e`: the first error that applies to a put of entry `e` into run `run` of
 -- `runs`, or `None` if the run accepts the entry
 abbrev pub put_refusal : List Run → ℕ → Entry → Option StoreFault
 put_refusal runs run e = put_refusal_of (run_at runs run) e
 
+-- `finish_fault closed total count`: the first error that keeps a run of `total` cases with `count`
+-- entries from being finished, or `None` if it can be finished. `closed`: the run is finished.
+abbrev pub finish_fault : Bool → ℕ → ℕ → Option StoreFault
+finish_fault closed total count = if closed then Some RunClosed else if nat_lt count total then Some Incomplete else None
+
 -- `finish_refusal_of r`: the first error that keeps run `r` from being finished, or `None` if it
 -- can be finished. `r` is `None` if there is no such run; the error is then `NoRun`.
 abbrev pub finish_refusal_of : Option Run → Option StoreFault
 finish_refusal_of None = Some NoRun
-finish_refusal_of (Some r) = if r.finished then Some RunClosed else if nat_lt (length r.entries) r.total then Some Incomplete else None
+finish_refusal_of (Some r) = finish_fault r.finished r.total (length r.entries)
 
 -- `finish_refusal runs run`: the first error that keeps run `run` of `runs` from being finished, or
 -- `None` if it can be finished

@@ -12,7 +12,7 @@ pub mod outlines;
 pub mod put;
 mod result_store;
 mod results;
-mod run_rows;
+pub mod run_rows;
 mod statements;
 pub mod store_fault;
 pub mod value;

@@ -16,7 +16,7 @@ pub const MAX_RUNS: u32 = 1_000_000;
 pub(crate) fn find_run_state<S: Alter>(
     conn: &mut Connection<S>,
     run: u32,
-) -> Result<Option<(u64, u64)>, DatabaseError>
+) -> Result<Option<(u32, u64)>, DatabaseError>
     ensures looked { OnlyReadsRuns S.Store conn.old conn.new }
     ensures valid { HoldsForRuns S.Store conn.old conn.new (λ runs. OnOk result (AreValidRuns
         runs)) }
@@ -33,7 +33,7 @@ pub(crate) fn find_run_state<S: Alter>(
     let Some(row) = rows.first() else {
         return Ok(None);
     };
-    let total = get_column::<u64>(row, 0)?;
+    let total = get_column::<u32>(row, 0)?;
     let finished = get_column::<u64>(row, 1)?;
     Ok(Some((total, finished)))
 }
@@ -57,7 +57,7 @@ pub fn run_key(run: u64) -> u32
 pub(crate) fn look_up_run<S: Alter>(
     conn: &mut Connection<S>,
     run: u64,
-) -> Result<(u64, bool), StoreFault>
+) -> Result<(u32, bool), StoreFault>
     ensures small { OnOk result (run ≤ greatest_run_number) }
     ensures looked { OnlyReadsRuns S.Store conn.old conn.new }
     ensures found { HoldsForRuns S.Store conn.old conn.new (λ runs.

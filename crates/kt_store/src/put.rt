@@ -1,5 +1,5 @@
 ghost use Rattle.std.specs.Prelude.{◌≡◌, ◌⊎◌, Some, None, IfOk, ◌<◌, ◌≤◌, ◌^◌, OnOk, OnErr, IfErr};
-ghost use Rattle.kt_store.specs.Common.{HoldsForRuns, greatest_run_number, IsStorable, IsDatabaseFault, KeepsRuns, OnlyReadsRuns, Changes, MayChange, CommitsNothingYet, ExecutesAll, ExecutesOne, IsValidWithEntry, HasNoReasonIfPassed, with_entry, put_refusal, entry_statements, pair_statement, pair_statements};
+ghost use Rattle.kt_store.specs.Common.{HoldsForRuns, greatest_run_number, IsStorable, IsDatabaseFault, KeepsRuns, OnlyReadsRuns, Changes, MayChange, CommitsNothingYet, ExecutesAll, ExecutesOne, IsValidWithEntry, HasNoReasonIfPassed, with_entry, put_fault, put_refusal, entry_statements, pair_statement, pair_statements};
 
 use crate::StoreFault;
 use crate::batch::{Batch, commit};
@@ -157,6 +157,37 @@ pub(crate) fn add_entry<S: Alter>(
     commit(conn, &EntryInsert { run, entry, reason })
 }
 
+/// Checks that a run of `total` cases accepts an entry at `position`. `finished` is `true` if the
+/// run is finished, and `is_taken` if it has an entry at `position`.
+///
+/// # Errors
+///
+/// The first of these that applies:
+///
+/// - `RunClosed`: the run is finished.
+/// - `BadPosition`: `position` is not below `total`.
+/// - `RepeatedPosition`: the run has an entry at `position`.
+pub fn check_put(
+    finished: bool,
+    total: u32,
+    position: u32,
+    is_taken: bool,
+) -> Result<(), StoreFault>
+    ensures refused { IfErr result (λ e. put_fault finished total position is_taken ≡ Some e) }
+    ensures accepted { OnOk result (put_fault finished total position is_taken ≡ None) }
+{
+    if finished {
+        return Err(StoreFault::RunClosed);
+    }
+    if position >= total {
+        return Err(StoreFault::BadPosition);
+    }
+    if is_taken {
+        return Err(StoreFault::RepeatedPosition);
+    }
+    Ok(())
+}
+
 /// Checks that the run with the number `run` accepts `entry`: the run exists, it isn't finished,
 /// and the entry's position is valid and free. Fails with the first of `NoRun`, `RunClosed`,
 /// `BadPosition` and `RepeatedPosition` that applies.
@@ -174,14 +205,6 @@ pub(crate) fn check_can_put<S: Alter>(
         × IsValidWithEntry run entry.now runs)) }
 {
     let (total, finished) = look_up_run(conn, run)?;
-    if finished {
-        return Err(StoreFault::RunClosed);
-    }
-    if u64::from(entry.position) >= total {
-        return Err(StoreFault::BadPosition);
-    }
-    if has_entry_at(conn, run_key(run), entry.position)? {
-        return Err(StoreFault::RepeatedPosition);
-    }
-    Ok(())
+    let is_taken = has_entry_at(conn, run_key(run), entry.position)?;
+    check_put(finished, total, entry.position, is_taken)
 }

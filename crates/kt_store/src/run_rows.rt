@@ -1,5 +1,5 @@
 ghost use Rattle.std.specs.Prelude.{◌≡◌, ◌<◌, ◌≤◌, ◌++◌, suc, [], ◌∷◌, length, true, false, IfOk, OnOk, OnErr, IfErr, ◌⊎◌, ◌^◌, Some, None};
-ghost use Rattle.kt_store.specs.Common.{HoldsForRuns, greatest_run_number, IsMoment, HasCleanDisk, state, IsDatabaseFault, KeepsRuns, OnlyReadsRuns, Changes, MayChange, new_run, StandsFor, IsComplete, finish, finish_refusal};
+ghost use Rattle.kt_store.specs.Common.{HoldsForRuns, greatest_run_number, IsMoment, HasCleanDisk, state, IsDatabaseFault, KeepsRuns, OnlyReadsRuns, Changes, MayChange, new_run, StandsFor, IsComplete, finish, finish_fault, finish_refusal};
 
 use crate::StoreFault;
 use crate::entries::read_entry_rows;
@@ -47,6 +47,28 @@ pub(crate) fn add_run<S: Alter>(
     Ok(conn.last_insert_rowid().unsigned_abs())
 }
 
+/// Checks that a run of `total` cases with `count` entries can be finished. `finished` is `true` if
+/// it is finished already.
+///
+/// # Errors
+///
+/// The first of these that applies:
+///
+/// - `RunClosed`: the run is finished already.
+/// - `Incomplete`: `count` is below `total`.
+pub fn check_finish(finished: bool, total: u32, count: u64) -> Result<(), StoreFault>
+    ensures refused { IfErr result (λ e. finish_fault finished total count ≡ Some e) }
+    ensures accepted { OnOk result (finish_fault finished total count ≡ None) }
+{
+    if finished {
+        return Err(StoreFault::RunClosed);
+    }
+    if count < u64::from(total) {
+        return Err(StoreFault::Incomplete);
+    }
+    Ok(())
+}
+
 /// Checks that the run with the number `run` can be finished: it exists, is unfinished, and has an
 /// entry for each selected case. Fails with the first of `NoRun`, `RunClosed` and `Incomplete` that
 /// applies.
@@ -62,15 +84,8 @@ pub(crate) fn check_can_finish<S: Alter>(
         OnOk result ((finish_refusal runs run ≡ None) × IsComplete run runs)) }
 {
     let (total, finished) = look_up_run(conn, run)?;
-    if finished {
-        return Err(StoreFault::RunClosed);
-    }
     let rows = read_entry_rows(conn, run_key(run))?;
-    let count = rows.as_slice().len() as u64;
-    if count < total {
-        return Err(StoreFault::Incomplete);
-    }
-    Ok(())
+    check_finish(finished, total, rows.as_slice().len() as u64)
 }
 
 /// Marks the run with the key `run` as finished in the table `runs`, in one commit. The caller has

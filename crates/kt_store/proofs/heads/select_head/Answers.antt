@@ -1,4 +1,4 @@
-use Rattle.kt_store.proofs.Common.{ap, find, length, subst, sym, IfSome, IsNumbered, Option, RunHead, unwrap_or, ℕ, ◌==◌, ◌∙◌, ◌≡◌}
+use Rattle.kt_store.proofs.Common.{ap, find, subst, sym, IfSome, IsNumbered, Option, RunHead, ℕ, ◌==◌, ◌∙◌}
 use Rattle.kt_store.proofs.HeadLemmas.{all_asked_for}
 use Rattle.kt_store.proofs.heads.select_head.Goals as goal
 
