@@ -272,30 +272,30 @@ kt_dbfile/src/opening.rt: let size = require_present(files.db.len().ok())?;
 kt_dbfile/src/opening.rt: let log = require_present(files.log.len().ok())?;
 # The schema of a file: its number, its list of objects, its tables.
 kt_dbfile/src/opening.rt: require_present(schema_number_from_rows(settings.as_slice()))
-kt_dbfile/src/runs_file.rt: ensure_sound(!store.is_broken())?;
-kt_dbfile/src/runs_file.rt: let schema = require_present(load_schema(store, alloc)?)?;
+kt_dbfile/src/runs_file.rt: ensure_sound(!self.store.is_broken())?;
+kt_dbfile/src/runs_file.rt: let schema = require_present(self.load_schema()?)?;
 kt_dbfile/src/runs_file.rt: ensure_sound(has_tables(&schema))?;
-kt_dbfile/src/tables.rt: ensure_sound(store.shape(tree) == Shape::Table)?;
-kt_dbfile/src/seeks.rt: ensure_sound(store.shape(RUNS_TREE) == Shape::Table)?;
-kt_dbfile/src/ends.rt: ensure_sound(store.shape(RUNS_TREE) == Shape::Table)?;
-kt_dbfile/src/ends.rt: ensure_sound(has_expected_shapes(store, table))?;
-kt_dbfile/src/trees.rt: ensure_sound(has_expected_shapes(store, table))?;
-kt_dbfile/src/trees.rt: ensure_sound(has_expected_shapes(store, table))?;
-kt_dbfile/src/trees.rt: ensure_sound(has_expected_shapes(store, table))?;
-kt_dbfile/src/trees.rt: ensure_sound(has_expected_shapes(store, table))?;
+kt_dbfile/src/tables.rt: ensure_sound(self.store.shape(tree) == Shape::Table)?;
+kt_dbfile/src/seeks.rt: ensure_sound(self.store.shape(RUNS_TREE) == Shape::Table)?;
+kt_dbfile/src/ends.rt: ensure_sound(self.store.shape(RUNS_TREE) == Shape::Table)?;
+kt_dbfile/src/ends.rt: ensure_sound(self.has_expected_shapes(table))?;
+kt_dbfile/src/trees.rt: ensure_sound(self.has_expected_shapes(table))?;
+kt_dbfile/src/trees.rt: ensure_sound(self.has_expected_shapes(table))?;
+kt_dbfile/src/trees.rt: ensure_sound(self.has_expected_shapes(table))?;
+kt_dbfile/src/trees.rt: ensure_sound(self.has_expected_shapes(table))?;
 # Rows: their numbers, their kinds, and the index entries that point to them.
 kt_store/src/heads.rt: ensure_sound(head.number == heads.len() as u64 + 1)?;
 kt_store/src/outlines.rt: let kind = require_present(kind_from_code(code))?;
 kt_dbfile/src/trees.rt: let id = require_present(index_entry_rowid(place))?;
-kt_dbfile/src/trees.rt: ensure_sound(store.get(table.tree, id, row)?)?;
+kt_dbfile/src/trees.rt: ensure_sound(self.store.get(table.tree, id, row)?)?;
 # The ends of the tables and of their indexes, and the entries of a run.
-kt_dbfile/src/ends.rt: ensure_sound(is_last_row_indexed(store, alloc, table)?)?;
-kt_dbfile/src/ends.rt: ensure_sound(is_possible_last_key(alloc, &end, last)?)
-kt_dbfile/src/ends.rt: ensure_sound(has_entry(store, alloc, &pair)?)
-kt_dbfile/src/ends.rt: ensure_sound(store.get(RUNS_TREE, key as i64, &mut row)?)?;
+kt_dbfile/src/ends.rt: ensure_sound(self.is_last_row_indexed(table)?)?;
+kt_dbfile/src/ends.rt: ensure_sound(is_possible_last_key(self.alloc, &end, last)?)
+kt_dbfile/src/ends.rt: ensure_sound(self.has_entry(&pair)?)
+kt_dbfile/src/ends.rt: ensure_sound(self.store.get(RUNS_TREE, key as i64, &mut row)?)?;
 kt_dbfile/src/ends.rt: ensure_sound(head.number == number)?;
 kt_dbfile/src/ends.rt: ensure_sound(is_possible_entry_list(head, entries))?;
-kt_dbfile/src/ends.rt: ensure_sound(properties_have_entries(store, alloc, head, entries)?)
+kt_dbfile/src/ends.rt: ensure_sound(self.properties_have_entries(head, entries)?)
 # A written row must obey the rules of its table.
 kt_dbfile/src/rules.rt: ensure_sound(is_kept)?;
 PLACES

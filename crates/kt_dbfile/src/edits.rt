@@ -5,13 +5,12 @@ ghost use Rattle.kt_dbfile.specs.Common.{AllByRecursion, Began, IsValidWithEntry
 ghost use Rattle.sqlite_trees.specs.View.{IsClean};
 ghost use Rattle.sqlite_catalog.specs.Listing.{IsSound};
 
-use crate::ends::check_last_run;
-use crate::rules::{TableEdit, put_rows};
-use crate::seeks::{find_run_head, find_run_row, read_last_number};
+use crate::result_trees::ResultTrees;
+use crate::rules::TableEdit;
 use crate::tables::{
     ENTRIES_AT, PROPS_AT, RUNS_AT, create_entry_key, entry_table, head_from_stored_row,
 };
-use crate::trees::{count_rows_by_key, create_number_key};
+use crate::trees::create_number_key;
 use kt_base::{Entry, NoMemory, Text, Variable};
 use kt_store::StoreFault;
 use kt_store::heads::push_item;
@@ -27,6 +26,187 @@ use sqlite_value::row::Row;
 use sqlite_value::value::ValueRef;
 use std::alloc::Global;
 use std::slice;
+
+impl<S: Alter> ResultTrees<S> {
+    /// Returns the number of the next run. Fails with `StoreFull` if there are 1,000,000 runs. Also
+    /// fails if the last entry or the last property is damaged, as [`ResultTrees::check_last_run`]
+    /// checks.
+    fn find_next_number(&mut self) -> Result<u64, StoreFault>
+        ensures number { HoldsForTrees S.Store self.old.store self.new.store (λ runs.
+            IfOk result (λ n. (n ≡ suc (length runs)) × (length runs < greatest_run_number))) }
+        ensures refused { HoldsForTrees S.Store self.old.store self.new.store (λ runs.
+            IfErr result (λ e. IsDatabaseFault e ⊎ ((e ≡ StoreFault.StoreFull)
+            × (greatest_run_number ≤ length runs)))) }
+        ensures looks { ReadsUnbrokenStore S.Store self.old.store self.new.store result }
+    {
+        let last = self.read_last_number()?;
+        self.check_last_run(last)?;
+        if last >= u64::from(MAX_RUNS) {
+            return Err(StoreFault::StoreFull);
+        }
+        Ok(last + 1)
+    }
+
+    /// Writes an unfinished run after the last run, without a commit, and returns its number. The
+    /// run has `total` selected cases, and starts at `moment`, in milliseconds since 1970-01-01
+    /// UTC, up to the end of the year 9999. Fails with `StoreFull` if there are 1,000,000 runs.
+    pub(crate) fn write_run(
+        &mut self,
+        schema: &Schema,
+        total: u32,
+        moment: u64,
+    ) -> Result<u64, StoreFault>
+        requires moment { IsMoment moment }
+        requires sound { IsClean (S.Store.view self.old.store)
+            → (S.Store.view self.old.store).is_broken ≡ false
+            → IsSound schema.now (S.Store.view self.old.store).trees }
+        ensures { WritesRows S.Store schema.now (λ r. Began total moment r) self.old.store
+            self.new.store result }
+    {
+        let number = self.find_next_number()?;
+        let row = create_row(
+            self.alloc,
+            &[
+                ValueRef::Null,
+                ValueRef::Null,
+                int_value(moment),
+                int_value(u64::from(total)),
+                int_value(0),
+            ],
+        )?;
+        let edit = TableEdit {
+            table_index: RUNS_AT,
+            removed_rowids: &[],
+            rowids: Rowids::Chosen,
+            first_column: 0,
+            sources: slice::from_ref(&row),
+        };
+        self.put_rows(schema, edit)?;
+        Ok(number)
+    }
+
+    /// Returns `true` if run `run` has an entry at `position`.
+    fn has_entry_at(&mut self, run: u32, position: u32) -> Result<bool, DatabaseError>
+        ensures found { HoldsForTrees S.Store self.old.store self.new.store (λ runs.
+            IfOk result (λ b. b ≡ has_position position (entries_of (run_at runs run)))) }
+        ensures looks { ReadsUnbrokenStore S.Store self.old.store self.new.store result }
+    {
+        let place = create_entry_key(self.alloc, run, position)?;
+        let count = self.count_rows_by_key(&entry_table(), &place)?;
+        Ok(count > 0)
+    }
+
+    /// Checks that `entry` can be added to the run with the number `run`. The run must exist and be
+    /// unfinished, and the entry's position must be valid and free. Fails with the first of
+    /// `NoRun`, `RunClosed`, `BadPosition` and `RepeatedPosition` that applies.
+    fn check_can_put(&mut self, run: u64, entry: &Entry) -> Result<(), StoreFault>
+        ensures small { OnOk result (run ≤ greatest_run_number) }
+        ensures refused { HoldsForTrees S.Store self.old.store self.new.store (λ runs.
+            IfErr result (λ e. IsDatabaseFault e ⊎ (put_refusal runs run entry.now ≡ Some e))) }
+        ensures accepted { HoldsForTrees S.Store self.old.store self.new.store (λ runs.
+            OnOk result (HasNoReasonIfPassed entry.now → (put_refusal runs run entry.now ≡ None)
+            × IsValidWithEntry run entry.now runs)) }
+        ensures looks { ReadsUnbrokenStore S.Store self.old.store self.new.store result }
+    {
+        let head = self.find_run_head(run)?;
+        let is_taken = self.has_entry_at(run_key(run), entry.position)?;
+        check_put(head.finished, head.total, entry.position, is_taken)
+    }
+
+    /// Writes `entry` and its properties to the run with the number `run`, without a commit, after
+    /// a check that the run accepts `entry`. Fails with the first of `NoRun`, `RunClosed`,
+    /// `BadPosition` and `RepeatedPosition` that applies.
+    pub(crate) fn write_entry(
+        &mut self,
+        schema: &Schema,
+        run: u64,
+        entry: &Entry,
+    ) -> Result<(), StoreFault>
+        requires moments { IsStorable entry.now }
+        requires sound { IsClean (S.Store.view self.old.store)
+            → (S.Store.view self.old.store).is_broken ≡ false
+            → IsSound schema.now (S.Store.view self.old.store).trees }
+        ensures { WritesRows S.Store schema.now (λ r. Put run entry.now r) self.old.store
+            self.new.store result }
+    {
+        let reason = copy_reason_text(self.alloc, entry)?;
+        self.check_can_put(run, entry)?;
+        let number = run_key(run);
+        let row = create_entry_row(self.alloc, number, entry, &reason)?;
+        let edit = TableEdit {
+            table_index: ENTRIES_AT,
+            removed_rowids: &[],
+            rowids: Rowids::Chosen,
+            first_column: 0,
+            sources: slice::from_ref(&row),
+        };
+        self.put_rows(schema, edit)?;
+        let meta = entry.meta.as_slice();
+        let pairs = create_property_rows(self.alloc, number, entry.position, meta)?;
+        let edit = TableEdit {
+            table_index: PROPS_AT,
+            removed_rowids: &[],
+            rowids: Rowids::Chosen,
+            first_column: 0,
+            sources: pairs.as_slice(),
+        };
+        self.put_rows(schema, edit)?;
+        Ok(())
+    }
+
+    /// Returns the number of entries of run `run`.
+    fn count_run_entries(&mut self, run: u32) -> Result<u64, DatabaseError>
+        ensures count { HoldsForTrees S.Store self.old.store self.new.store (λ runs.
+            IfOk result (λ n. n ≡ length (entries_of (run_at runs run)))) }
+        ensures looks { ReadsUnbrokenStore S.Store self.old.store self.new.store result }
+    {
+        let place = create_number_key(self.alloc, run)?;
+        let count = self.count_rows_by_key(&entry_table(), &place)?;
+        Ok(count)
+    }
+
+    /// Checks that the run with the number `run` can be finished, and returns its row in the table
+    /// `runs`. A run can be finished once if it has an entry for each selected case. Fails with the
+    /// first of `NoRun`, `RunClosed` and `Incomplete` that applies.
+    fn check_can_finish(&mut self, run: u64) -> Result<Row, StoreFault>
+        ensures small { OnOk result (run ≤ greatest_run_number) }
+        ensures refused { HoldsForTrees S.Store self.old.store self.new.store (λ runs.
+            IfErr result (λ e. IsDatabaseFault e ⊎ (finish_refusal runs run ≡ Some e))) }
+        ensures accepted { HoldsForTrees S.Store self.old.store self.new.store (λ runs.
+            IfOk result (λ row. (r : Run) × (run_at runs run ≡ Some r) × (row ≡ run_row r)
+            × (finish_refusal runs run ≡ None) × IsComplete run runs)) }
+        ensures looks { ReadsUnbrokenStore S.Store self.old.store self.new.store result }
+    {
+        let row = self.find_run_row(run)?;
+        let head = head_from_stored_row(self.alloc, &row)?;
+        let count = self.count_run_entries(run_key(run))?;
+        check_finish(head.finished, head.total, count)?;
+        Ok(row)
+    }
+
+    /// Marks the run with the number `run` as finished, in its row of the table `runs`, without a
+    /// commit. Fails with the first of `NoRun`, `RunClosed` and `Incomplete` that applies.
+    pub(crate) fn mark_run_finished(&mut self, schema: &Schema, run: u64) -> Result<(), StoreFault>
+        requires sound { IsClean (S.Store.view self.old.store)
+            → (S.Store.view self.old.store).is_broken ≡ false
+            → IsSound schema.now (S.Store.view self.old.store).trees }
+        ensures { WritesRows S.Store schema.now (λ r. Finished run r) self.old.store
+            self.new.store result }
+    {
+        let row = self.check_can_finish(run)?;
+        let done = create_finished_row(self.alloc, &row)?;
+        let removed_rowids = [run_key(run) as i64];
+        let edit = TableEdit {
+            table_index: RUNS_AT,
+            removed_rowids: &removed_rowids,
+            rowids: Rowids::Given,
+            first_column: 1,
+            sources: slice::from_ref(&done),
+        };
+        self.put_rows(schema, edit)?;
+        Ok(())
+    }
+}
 
 /// Creates a row with the values `values`, in the same order.
 fn create_row(alloc: Global, values: &[ValueRef<'_>]) -> Result<Row, NoMemory>
@@ -122,138 +302,6 @@ fn create_entry_row<'a>(
     )
 }
 
-/// Returns the number of the next run. Fails with `StoreFull` if there are 1,000,000 runs. Also
-/// fails if the last entry or the last property is damaged, as [`check_last_run`] checks.
-fn find_next_number<S: Alter>(store: &mut S, alloc: Global) -> Result<u64, StoreFault>
-    ensures number { HoldsForTrees S.Store store.old store.new (λ runs.
-        IfOk result (λ n. (n ≡ suc (length runs)) × (length runs < greatest_run_number))) }
-    ensures refused { HoldsForTrees S.Store store.old store.new (λ runs.
-        IfErr result (λ e. IsDatabaseFault e ⊎ ((e ≡ StoreFault.StoreFull)
-        × (greatest_run_number ≤ length runs)))) }
-    ensures looks { ReadsUnbrokenStore S.Store store.old store.new result }
-{
-    let last = read_last_number(store, alloc)?;
-    check_last_run(store, alloc, last)?;
-    if last >= u64::from(MAX_RUNS) {
-        return Err(StoreFault::StoreFull);
-    }
-    Ok(last + 1)
-}
-
-/// Writes an unfinished run after the last run, without a commit, and returns its number. The run
-/// has `total` selected cases, and starts at `moment`, in milliseconds since 1970-01-01 UTC, up to
-/// the end of the year 9999. Fails with `StoreFull` if there are 1,000,000 runs.
-pub(crate) fn write_run<S: Alter>(
-    store: &mut S,
-    alloc: Global,
-    schema: &Schema,
-    total: u32,
-    moment: u64,
-) -> Result<u64, StoreFault>
-    requires moment { IsMoment moment }
-    requires sound { IsClean (S.Store.view store.old) → (S.Store.view store.old).is_broken ≡ false
-        → IsSound schema.now (S.Store.view store.old).trees }
-    ensures { WritesRows S.Store schema.now (λ r. Began total moment r) store.old store.new result }
-{
-    let number = find_next_number(store, alloc)?;
-    let row = create_row(
-        alloc,
-        &[
-            ValueRef::Null,
-            ValueRef::Null,
-            int_value(moment),
-            int_value(u64::from(total)),
-            int_value(0),
-        ],
-    )?;
-    let edit = TableEdit {
-        table_index: RUNS_AT,
-        removed_rowids: &[],
-        rowids: Rowids::Chosen,
-        first_column: 0,
-        sources: slice::from_ref(&row),
-    };
-    put_rows(store, alloc, schema, edit)?;
-    Ok(number)
-}
-
-/// Returns `true` if run `run` has an entry at `position`.
-fn has_entry_at<S: Store>(
-    store: &mut S,
-    alloc: Global,
-    run: u32,
-    position: u32,
-) -> Result<bool, DatabaseError>
-    ensures found { HoldsForTrees S.Store store.old store.new (λ runs.
-        IfOk result (λ b. b ≡ has_position position (entries_of (run_at runs run)))) }
-    ensures looks { ReadsUnbrokenStore S.Store store.old store.new result }
-{
-    let place = create_entry_key(alloc, run, position)?;
-    let count = count_rows_by_key(store, alloc, &entry_table(), &place)?;
-    Ok(count > 0)
-}
-
-/// Checks that `entry` can be added to the run with the number `run`. The run must exist and be
-/// unfinished, and the entry's position must be valid and free. Fails with the first of `NoRun`,
-/// `RunClosed`, `BadPosition` and `RepeatedPosition` that applies.
-fn check_can_put<S: Alter>(
-    store: &mut S,
-    alloc: Global,
-    run: u64,
-    entry: &Entry,
-) -> Result<(), StoreFault>
-    ensures small { OnOk result (run ≤ greatest_run_number) }
-    ensures refused { HoldsForTrees S.Store store.old store.new (λ runs.
-        IfErr result (λ e. IsDatabaseFault e ⊎ (put_refusal runs run entry.now ≡ Some e))) }
-    ensures accepted { HoldsForTrees S.Store store.old store.new (λ runs.
-        OnOk result (HasNoReasonIfPassed entry.now → (put_refusal runs run entry.now ≡ None)
-        × IsValidWithEntry run entry.now runs)) }
-    ensures looks { ReadsUnbrokenStore S.Store store.old store.new result }
-{
-    let head = find_run_head(store, alloc, run)?;
-    let is_taken = has_entry_at(store, alloc, run_key(run), entry.position)?;
-    check_put(head.finished, head.total, entry.position, is_taken)
-}
-
-/// Writes `entry` and its properties to the run with the number `run`, without a commit, after a
-/// check that the run accepts `entry`. Fails with the first of `NoRun`, `RunClosed`, `BadPosition`
-/// and `RepeatedPosition` that applies.
-pub(crate) fn write_entry<S: Alter>(
-    store: &mut S,
-    alloc: Global,
-    schema: &Schema,
-    run: u64,
-    entry: &Entry,
-) -> Result<(), StoreFault>
-    requires moments { IsStorable entry.now }
-    requires sound { IsClean (S.Store.view store.old) → (S.Store.view store.old).is_broken ≡ false
-        → IsSound schema.now (S.Store.view store.old).trees }
-    ensures { WritesRows S.Store schema.now (λ r. Put run entry.now r) store.old store.new result }
-{
-    let reason = copy_reason_text(alloc, entry)?;
-    check_can_put(store, alloc, run, entry)?;
-    let number = run_key(run);
-    let row = create_entry_row(alloc, number, entry, &reason)?;
-    let edit = TableEdit {
-        table_index: ENTRIES_AT,
-        removed_rowids: &[],
-        rowids: Rowids::Chosen,
-        first_column: 0,
-        sources: slice::from_ref(&row),
-    };
-    put_rows(store, alloc, schema, edit)?;
-    let pairs = create_property_rows(alloc, number, entry.position, entry.meta.as_slice())?;
-    let edit = TableEdit {
-        table_index: PROPS_AT,
-        removed_rowids: &[],
-        rowids: Rowids::Chosen,
-        first_column: 0,
-        sources: pairs.as_slice(),
-    };
-    put_rows(store, alloc, schema, edit)?;
-    Ok(())
-}
-
 /// Creates the row of a finished run from `row`, the row of the run while it is unfinished. The
 /// created row has the rowid as an extra first column, which the edit of the table skips.
 fn create_finished_row(alloc: Global, row: &Row) -> Result<Row, NoMemory>
@@ -270,60 +318,4 @@ fn create_finished_row(alloc: Global, row: &Row) -> Result<Row, NoMemory>
             int_value(1),
         ],
     )
-}
-
-/// Returns the number of entries of run `run`.
-fn count_run_entries<S: Store>(store: &mut S, alloc: Global, run: u32) -> Result<u64, DatabaseError>
-    ensures count { HoldsForTrees S.Store store.old store.new (λ runs.
-        IfOk result (λ n. n ≡ length (entries_of (run_at runs run)))) }
-    ensures looks { ReadsUnbrokenStore S.Store store.old store.new result }
-{
-    let place = create_number_key(alloc, run)?;
-    let count = count_rows_by_key(store, alloc, &entry_table(), &place)?;
-    Ok(count)
-}
-
-/// Checks that the run with the number `run` can be finished, and returns its row in the table
-/// `runs`. A run can be finished once if it has an entry for each selected case. Fails with the
-/// first of `NoRun`, `RunClosed` and `Incomplete` that applies.
-fn check_can_finish<S: Alter>(store: &mut S, alloc: Global, run: u64) -> Result<Row, StoreFault>
-    ensures small { OnOk result (run ≤ greatest_run_number) }
-    ensures refused { HoldsForTrees S.Store store.old store.new (λ runs.
-        IfErr result (λ e. IsDatabaseFault e ⊎ (finish_refusal runs run ≡ Some e))) }
-    ensures accepted { HoldsForTrees S.Store store.old store.new (λ runs.
-        IfOk result (λ row. (r : Run) × (run_at runs run ≡ Some r) × (row ≡ run_row r)
-        × (finish_refusal runs run ≡ None) × IsComplete run runs)) }
-    ensures looks { ReadsUnbrokenStore S.Store store.old store.new result }
-{
-    let row = find_run_row(store, alloc, run)?;
-    let head = head_from_stored_row(alloc, &row)?;
-    let count = count_run_entries(store, alloc, run_key(run))?;
-    check_finish(head.finished, head.total, count)?;
-    Ok(row)
-}
-
-/// Marks the run with the number `run` as finished, in its row of the table `runs`, without a
-/// commit. Fails with the first of `NoRun`, `RunClosed` and `Incomplete` that applies.
-pub(crate) fn mark_run_finished<S: Alter>(
-    store: &mut S,
-    alloc: Global,
-    schema: &Schema,
-    run: u64,
-) -> Result<(), StoreFault>
-    requires sound { IsClean (S.Store.view store.old) → (S.Store.view store.old).is_broken ≡ false
-        → IsSound schema.now (S.Store.view store.old).trees }
-    ensures { WritesRows S.Store schema.now (λ r. Finished run r) store.old store.new result }
-{
-    let row = check_can_finish(store, alloc, run)?;
-    let done = create_finished_row(alloc, &row)?;
-    let removed_rowids = [run_key(run) as i64];
-    let edit = TableEdit {
-        table_index: RUNS_AT,
-        removed_rowids: &removed_rowids,
-        rowids: Rowids::Given,
-        first_column: 1,
-        sources: slice::from_ref(&done),
-    };
-    put_rows(store, alloc, schema, edit)?;
-    Ok(())
 }

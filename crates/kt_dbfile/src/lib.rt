@@ -9,6 +9,7 @@ mod mounts;
 mod new_file;
 mod opening;
 mod reopening;
+mod result_trees;
 mod rules;
 mod runs_file;
 mod seeks;

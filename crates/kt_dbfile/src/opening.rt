@@ -18,6 +18,7 @@ ghost use Rattle.sqlite.specs.Closing.{files_left};
 ghost use Rattle.sqlite.specs.Files.{HoldsDatabase, image_of};
 
 use crate::new_file::MIN_LOG_BYTES;
+use crate::result_trees::ResultTrees;
 use crate::trees::copy_all_columns;
 use kt_base::NoMemory;
 use kt_store::StoreFault;
@@ -38,6 +39,10 @@ use sqlite_wal::{PageSize, probe_first_page, probe_page_size};
 use std::alloc::Global;
 use std::hash::{BuildHasher, RandomState};
 
+/// The size of the largest database file whose pages and trees are all checked during an open, in
+/// bytes.
+const MAX_CHECKED_BYTES: usize = 16 * 1_048_576;
+
 /// Bytes 20 to 23 of a database whose pages end in checksums, as a big-endian number.
 const CHECKSUM_MARK: u32 = 0x0840_2020;
 
@@ -55,6 +60,38 @@ const KEY: (Shape, u64) = (Shape::Index(Order::PLAIN), 0);
 /// The layouts of the B-trees of schema 2, in the order of their numbers. A layout is a shape and a
 /// bit mask of the columns of the type REAL.
 const LAYOUTS: [(Shape, u64); 7] = [TABLE, KEY, TABLE, TABLE, KEY, TABLE, KEY];
+
+impl<S: Store> ResultTrees<S> {
+    /// Checks that the schema number in the table `meta` is 2. Fails with `UnknownSchema` if it is
+    /// another number, and with `Store` if the table doesn't have exactly one schema number.
+    pub(crate) fn check_schema_number(&mut self) -> Result<(), StoreFault>
+        ensures ours { OnOk result (IsClean (S.Store.view self.new.store)
+            → HasSchemaNumber (pos 2) (S.Store.view self.old.store).trees) }
+        // The error is `UnknownSchema` only if the schema number is another than 2.
+        ensures unknown { IfErr result (λ e. IsDatabaseFault e ⊎ ((e ≡ StoreFault.UnknownSchema)
+            × (IsClean (S.Store.view self.new.store)
+            → HasOtherSchema (S.Store.view self.old.store).trees))) }
+        ensures looks { OnlyReadsStore S.Store self.old.store self.new.store }
+    {
+        let number = self.stored_schema_number()?;
+        if number == 2 {
+            Ok(())
+        } else {
+            Err(StoreFault::UnknownSchema)
+        }
+    }
+
+    /// Returns the schema number in the table `meta`. Fails unless the table has one row, with the
+    /// name `schema` and an integer.
+    fn stored_schema_number(&mut self) -> Result<i64, DatabaseError>
+        ensures says { IfOk result (λ n. IsClean (S.Store.view self.new.store)
+            → HasSchemaNumber n (S.Store.view self.old.store).trees) }
+        ensures looks { OnlyReadsStore S.Store self.old.store self.new.store }
+    {
+        let settings = all_rows(&mut self.store, &mut Workspace::new(self.alloc), META)?;
+        require_present(schema_number_from_rows(settings.as_slice()))
+    }
+}
 
 /// Returns store options that limit the cache of read pages to `pages` pages. Returns `None` if the
 /// system provides no random number.
@@ -315,24 +352,6 @@ pub(crate) fn open_known_files<D: Disk + Drop>(
     }
 }
 
-/// Checks that the schema number in the table `meta` is 2. Fails with `UnknownSchema` if it is
-/// another number, and with `Store` if the table doesn't have exactly one schema number.
-pub(crate) fn check_schema_number<S: Store>(store: &mut S, alloc: Global) -> Result<(), StoreFault>
-    ensures ours { OnOk result (IsClean (S.Store.view store.new)
-        → HasSchemaNumber (pos 2) (S.Store.view store.old).trees) }
-    // The error is `UnknownSchema` only if the schema number is another than 2.
-    ensures unknown { IfErr result (λ e. IsDatabaseFault e ⊎ ((e ≡ StoreFault.UnknownSchema)
-        × (IsClean (S.Store.view store.new) → HasOtherSchema (S.Store.view store.old).trees))) }
-    ensures looks { OnlyReadsStore S.Store store.old store.new }
-{
-    let number = stored_schema_number(store, alloc)?;
-    if number == 2 {
-        Ok(())
-    } else {
-        Err(StoreFault::UnknownSchema)
-    }
-}
-
 /// Copies the log of `store` into the database file, and closes both files. Uncommitted changes are
 /// lost. On failure, returns the error with the store.
 pub(crate) fn close_store<D: Disk + Drop>(
@@ -351,18 +370,3 @@ pub(crate) fn close_store<D: Disk + Drop>(
         Err(error) => Err((DatabaseError::from(error), store)),
     }
 }
-
-/// Returns the schema number in the table `meta`. Fails unless the table has one row, with the name
-/// `schema` and an integer.
-fn stored_schema_number<S: Store>(store: &mut S, alloc: Global) -> Result<i64, DatabaseError>
-    ensures says { IfOk result (λ n. IsClean (S.Store.view store.new)
-        → HasSchemaNumber n (S.Store.view store.old).trees) }
-    ensures looks { OnlyReadsStore S.Store store.old store.new }
-{
-    let settings = all_rows(store, &mut Workspace::new(alloc), META)?;
-    require_present(schema_number_from_rows(settings.as_slice()))
-}
-
-/// The size of the largest database file whose pages and trees are all checked during an open, in
-/// bytes.
-const MAX_CHECKED_BYTES: usize = 16 * 1_048_576;

@@ -10,13 +10,12 @@ ghost use Rattle.sqlite_std_file.specs.File.{file_is_usable, IsFresh};
 ghost use Rattle.sqlite_trees.specs.View.{IsClean, IsRolledBack};
 ghost use Rattle.sqlite_wal.specs.Files.{outcomes};
 
-use crate::edits::{mark_run_finished, write_entry, write_run};
 use crate::files::{FailedOpenWitness, connect, open_file_and_log};
 use crate::layout::has_tables;
 use crate::mounts::is_mounted_alone;
 use crate::new_file::create_missing_file;
-use crate::opening::{check_schema_number, close_store, open_known_files, store_options};
-use crate::seeks::{find_outputs, find_properties, read_head, read_run_outline};
+use crate::opening::{close_store, open_known_files, store_options};
+use crate::result_trees::ResultTrees;
 use crate::trusted_contents::TrustedContents;
 use kt_base::{Entry, NoMemory, Text, Variables};
 use kt_store::attach::theorem_of_valid_contents;
@@ -39,9 +38,8 @@ use std::time::Duration;
 /// the disk returns the data that was written and no other process writes the database.
 #[derive(Drop)]
 pub struct RunsFile<S: Alter> {
-    store: S,
+    trees: ResultTrees<S>,
     schema: Schema,
-    alloc: Global,
 }
 
 impl<S: Alter> Model for RunsFile<S> {
@@ -51,53 +49,70 @@ impl<S: Alter> Model for RunsFile<S> {
 
     ghost coded = { S.code };
 
-    ghost view = { λ r. r.store };
+    ghost view = { λ r. r.trees.store };
 
-    ghost invariant = { λ r. IsSettledStore (S.Store.view r.store) r.schema };
+    ghost invariant = { λ r. IsSettledStore (S.Store.view r.trees.store) r.schema };
 }
 
-/// Reads the tables and indexes of `store` from SQLite's table `sqlite_schema`. Returns `None` if a
-/// row of this table doesn't describe a table or an index.
-fn load_schema<S: Alter>(store: &S, alloc: Global) -> Result<Option<Schema>, NoMemory>
-    requires { IsClean (S.Store.view store.now) → (S.Store.view store.now).is_broken ≡ false }
-    ensures { IsClean (S.Store.view store.now) → IfOk result (λ found. IfSome found
-        (Lists ((S.Store.view store.now).trees catalog_tree))) }
-{
-    let found = load(store, alloc)?;
-    Ok(found)
+impl<S: Alter> ResultTrees<S> {
+    /// Reads the tables and indexes from SQLite's table `sqlite_schema`. Returns `None` if a row of
+    /// this table doesn't describe a table or an index.
+    fn load_schema(&self) -> Result<Option<Schema>, NoMemory>
+        requires { IsClean (S.Store.view self.now.store)
+            → (S.Store.view self.now.store).is_broken ≡ false }
+        ensures { IsClean (S.Store.view self.now.store) → IfOk result (λ found. IfSome found
+            (Lists ((S.Store.view self.now.store).trees catalog_tree))) }
+    {
+        let found = load(&self.store, self.alloc)?;
+        Ok(found)
+    }
+
+    /// Returns the schema. Fails if the store is broken by an earlier failed call, or if its schema
+    /// lacks the tables of a results file.
+    fn load_results_schema(&self) -> Result<Schema, DatabaseError>
+        ensures { IsClean (S.Store.view self.now.store) → IfOk result (λ schema.
+            ((S.Store.view self.now.store).is_broken ≡ false)
+            × Lists ((S.Store.view self.now.store).trees catalog_tree) schema) }
+    {
+        ensure_sound(!self.store.is_broken())?;
+        let schema = require_present(self.load_schema()?)?;
+        ensure_sound(has_tables(&schema))?;
+        Ok(schema)
+    }
+
+    /// Commits the rows that were written, and returns the value of `written`, the result of the
+    /// writes. If `written` is an error, rolls the transaction back. A failed commit rolls the
+    /// transaction back itself.
+    fn end_transaction<T: Drop>(&mut self, written: Result<T, StoreFault>) -> Result<T, StoreFault>
+        ensures { EndsTransaction S.Store self.old.store self.new.store written result }
+    {
+        let value = match written {
+            Ok(value) => value,
+            Err(fault) => {
+                self.store.rollback();
+                return Err(fault);
+            }
+        };
+        self.store.commit()?;
+        Ok(value)
+    }
 }
 
-/// Returns the schema of `store`. Fails if the store is broken by an earlier failed call, or if its
-/// schema lacks the tables of a results file.
-fn schema_of_results<S: Alter>(store: &S, alloc: Global) -> Result<Schema, DatabaseError>
-    ensures { IsClean (S.Store.view store.now) → IfOk result (λ schema.
-        ((S.Store.view store.now).is_broken ≡ false)
-        × Lists ((S.Store.view store.now).trees catalog_tree) schema) }
-{
-    ensure_sound(!store.is_broken())?;
-    let schema = require_present(load_schema(store, alloc)?)?;
-    ensure_sound(has_tables(&schema))?;
-    Ok(schema)
-}
-
-/// Creates a `RunsFile` over `store`, which has no uncommitted changes. Fails if the store is
+/// Creates a `RunsFile` over `trees`, which have no uncommitted changes. Fails if their store is
 /// broken by an earlier failed call, or lacks the tables of a results file. The store is returned
 /// with the error. The caller guarantees that the store obeys its schema.
-fn wrap_store<S: Alter>(alloc: Global, store: S) -> Result<RunsFile<S>, (DatabaseError, S)>
-    requires settled { IsClean (S.Store.view store) → (S.Store.view store).is_broken ≡ false
-        → (S.Store.view store).trees ≡ (S.Store.view store).committed }
-    requires sound { IsTrue (S.Store.view store).is_open
-        → (schema : Tables) × IsSound schema (S.Store.view store).committed }
-    ensures same { IfOk result (λ r. r ≡ store) }
-    ensures back { IfErr result (λ e. e.1 ≡ store) }
+fn wrap_trees<S: Alter>(trees: ResultTrees<S>) -> Result<RunsFile<S>, (DatabaseError, S)>
+    requires settled { IsClean (S.Store.view trees.store)
+        → (S.Store.view trees.store).is_broken ≡ false
+        → (S.Store.view trees.store).trees ≡ (S.Store.view trees.store).committed }
+    requires sound { IsTrue (S.Store.view trees.store).is_open
+        → (schema : Tables) × IsSound schema (S.Store.view trees.store).committed }
+    ensures same { IfOk result (λ r. r ≡ trees.store) }
+    ensures back { IfErr result (λ e. e.1 ≡ trees.store) }
 {
-    match schema_of_results(&store, alloc) {
-        Ok(schema) => Ok(RunsFile {
-            store,
-            schema,
-            alloc,
-        }),
-        Err(failure) => Err((failure, store)),
+    match trees.load_results_schema() {
+        Ok(schema) => Ok(RunsFile { trees, schema }),
+        Err(failure) => Err((failure, trees.store)),
     }
 }
 
@@ -122,7 +137,8 @@ fn convert_connection<S: Alter + Drop>(
     ensures failed { IfErr result (λ e. IsDatabaseFault e.0) }
 {
     theorem_of_valid_contents(&connection);
-    match wrap_store(alloc, detach_store(connection)) {
+    let store = detach_store(connection);
+    match wrap_trees(ResultTrees { store, alloc }) {
         Ok(it) => Ok(it),
         Err((failure, store)) => Err((StoreFault::from(failure), store)),
     }
@@ -164,12 +180,8 @@ impl<S: Alter + Drop> RunsFile<S> {
     pub fn into_store(self) -> S
         ensures { result ≡ self }
     {
-        let RunsFile {
-            store,
-            schema: _,
-            alloc: _,
-        } = self;
-        store
+        let RunsFile { trees, schema: _ } = self;
+        trees.store
     }
 }
 
@@ -195,12 +207,8 @@ impl<D: Disk + Drop> RunsFile<FileStore<D>> {
         ensures numbered { IfErr result (λ e. StaysNumbered (view self) (view e.1)) }
     {
         // Separate for the prover: over a disk, a call of `into_store` takes 30 seconds to prove.
-        let RunsFile {
-            store,
-            schema: _,
-            alloc: _,
-        } = self;
-        match close_store(store) {
+        let RunsFile { trees, schema: _ } = self;
+        match close_store(trees.store) {
             Ok(()) => Ok(()),
             Err((failure, left)) => Err((StoreFault::from(failure), left)),
         }
@@ -252,7 +260,7 @@ fn attach_files_and_convert<D: Disk + Drop>(
 ///
 /// Separate for the prover: functions that depend on how a store over files is read are slow to
 /// prove.
-fn wrap_schema_2<S: Alter>(alloc: Global, mut store: S) -> Result<RunsFile<S>, (StoreFault, S)>
+fn wrap_schema_2<S: Alter>(alloc: Global, store: S) -> Result<RunsFile<S>, (StoreFault, S)>
     requires settled { (S.Store.view store).trees ≡ (S.Store.view store).committed }
     requires sound { IsTrue (S.Store.view store).is_open
         → IsSound schema_2 (S.Store.view store).committed }
@@ -263,11 +271,11 @@ fn wrap_schema_2<S: Alter>(alloc: Global, mut store: S) -> Result<RunsFile<S>, (
     ensures unknown { IfErr result (λ e. IsDatabaseFault e.0 ⊎ ((e.0 ≡ StoreFault.UnknownSchema)
         × (IsClean (S.Store.view e.1) → HasOtherSchema (S.Store.view store).trees))) }
 {
-    let checked = check_schema_number(&mut store, alloc);
-    if let Err(fault) = checked {
-        return Err((fault, store));
+    let mut trees = ResultTrees { store, alloc };
+    if let Err(fault) = trees.check_schema_number() {
+        return Err((fault, trees.store));
     }
-    match wrap_store(alloc, store) {
+    match wrap_trees(trees) {
         Ok(it) => Ok(it),
         Err((failure, store)) => Err((StoreFault::from(failure), store)),
     }
@@ -503,55 +511,35 @@ impl<S: Alter> StoreSpec for RunsFile<S> {
     ghost ordered = { λ s runs h sound. h.2 sound };
 }
 
-/// Commits the rows that were written to `store`, and returns the value of `written`, the result of
-/// the writes. If `written` is an error, rolls the transaction back. A failed commit rolls the
-/// transaction back itself.
-fn end_transaction<S: Alter, T: Drop>(
-    store: &mut S,
-    written: Result<T, StoreFault>,
-) -> Result<T, StoreFault>
-    ensures { EndsTransaction S.Store store.old store.new written result }
-{
-    let value = match written {
-        Ok(value) => value,
-        Err(fault) => {
-            store.rollback();
-            return Err(fault);
-        }
-    };
-    store.commit()?;
-    Ok(value)
-}
-
 impl<S: Alter> ResultStore for RunsFile<S> {
     fn begin(&mut self, total: u32, moment: u64) -> Result<u64, StoreFault> {
-        let written = write_run(&mut self.store, self.alloc, &self.schema, total, moment);
-        end_transaction(&mut self.store, written)
+        let written = self.trees.write_run(&self.schema, total, moment);
+        self.trees.end_transaction(written)
     }
 
     fn put(&mut self, run: u64, entry: &Entry) -> Result<(), StoreFault> {
-        let written = write_entry(&mut self.store, self.alloc, &self.schema, run, entry);
-        end_transaction(&mut self.store, written)
+        let written = self.trees.write_entry(&self.schema, run, entry);
+        self.trees.end_transaction(written)
     }
 
     fn finish(&mut self, run: u64) -> Result<(), StoreFault> {
-        let written = mark_run_finished(&mut self.store, self.alloc, &self.schema, run);
-        end_transaction(&mut self.store, written)
+        let written = self.trees.mark_run_finished(&self.schema, run);
+        self.trees.end_transaction(written)
     }
 
     fn head(&mut self, number: Option<u64>) -> Result<Option<RunHead>, StoreFault> {
-        read_head(&mut self.store, self.alloc, number)
+        self.trees.read_head(number)
     }
 
     fn outline(&mut self, run: u64) -> Result<Vec<Entry>, StoreFault> {
-        read_run_outline(&mut self.store, self.alloc, run)
+        self.trees.read_run_outline(run)
     }
 
     fn properties(&mut self, run: u64, position: u32) -> Result<Variables, StoreFault> {
-        find_properties(&mut self.store, self.alloc, run, position)
+        self.trees.find_properties(run, position)
     }
 
     fn outputs(&mut self, run: u64, position: u32) -> Result<CaseOutputs, StoreFault> {
-        find_outputs(&mut self.store, self.alloc, run, position)
+        self.trees.find_outputs(run, position)
     }
 }

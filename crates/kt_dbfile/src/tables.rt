@@ -2,6 +2,7 @@ ghost use Rattle.std.specs.Prelude.{◌≡◌, [], ◌∷◌, pos, IfOk};
 ghost use Rattle.kt_dbfile.specs.Common.{Int, IsLast, ReadsUnbrokenStore, Run, head_of, run_row};
 ghost use Rattle.sqlite_trees.specs.View.{IsClean};
 
+use crate::result_trees::ResultTrees;
 use crate::trees::{TreeTable, create_number_key, select_columns};
 use kt_base::NoMemory;
 use kt_store::RunHead;
@@ -24,6 +25,24 @@ pub(crate) const PROPS_AT: usize = 3;
 
 /// The number of the B-tree of the table `runs`.
 pub(crate) const RUNS_TREE: u32 = 2;
+
+impl<S: Store> ResultTrees<S> {
+    /// Returns the row with the highest rowid in the table whose B-tree has the number `tree`, or
+    /// `None` if the table is empty. Fails if the B-tree isn't that of a table.
+    pub(crate) fn read_last_row(&mut self, tree: u32) -> Result<Option<Row>, DatabaseError>
+        ensures last { IfOk result (λ found. IsClean (S.Store.view self.new.store)
+            → IsLast ((S.Store.view self.old.store).trees tree) found) }
+        ensures looks { ReadsUnbrokenStore S.Store self.old.store self.new.store result }
+    {
+        ensure_sound(self.store.shape(tree) == Shape::Table)?;
+        let mut row = Row::new(self.alloc);
+        self.store.seek(0, tree, &row, Direction::Backward)?;
+        if !self.store.next(0, &mut row)? {
+            return Ok(None);
+        }
+        Ok(Some(row))
+    }
+}
 
 /// Returns the description of the table `entries` and of the index of its key.
 pub(crate) fn entry_table() -> TreeTable<'static>
@@ -60,26 +79,6 @@ pub(crate) fn create_entry_key(alloc: Global, run: u32, position: u32) -> Result
     let mut place = create_number_key(alloc, run)?;
     place.push(int_value(u64::from(position)))?;
     Ok(place)
-}
-
-/// Returns the row with the highest rowid in the table whose B-tree has the number `tree`, or
-/// `None` if the table is empty. Fails if the B-tree isn't that of a table.
-pub(crate) fn read_last_row<S: Store>(
-    store: &mut S,
-    alloc: Global,
-    tree: u32,
-) -> Result<Option<Row>, DatabaseError>
-    ensures last { IfOk result (λ found. IsClean (S.Store.view store.new)
-        → IsLast ((S.Store.view store.old).trees tree) found) }
-    ensures looks { ReadsUnbrokenStore S.Store store.old store.new result }
-{
-    ensure_sound(store.shape(tree) == Shape::Table)?;
-    let mut row = Row::new(alloc);
-    store.seek(0, tree, &row, Direction::Backward)?;
-    if !store.next(0, &mut row)? {
-        return Ok(None);
-    }
-    Ok(Some(row))
 }
 
 /// Returns the head of the run that `row`, a stored row of the table `runs`, represents. A head is

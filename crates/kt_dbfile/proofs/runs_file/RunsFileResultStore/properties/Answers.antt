@@ -4,8 +4,8 @@ use Rattle.kt_dbfile.proofs.runs_file.RunsFileResultStore.properties.Goals as go
 
 pub returns : goal.returns
 returns g c =
-    subst (λ o. Serves (runs_file_spec g.S.Store) (Pairs c.args.run c.args.position c.find_properties.result) o c.find_properties.new.store) c.self.view_is
-    (read_served g.S.Store g.met.S.Store.shut_if_dirty g.met.S.Store.broken_if_shut g.met.S.Store.settled c.self.inside.schema c.self.inside.store c.find_properties.new.store c.find_properties.ensures.looks c.self.invariant (Pairs _ _ _) (λ runs. refl) (λ runs may left. left) c.find_properties.ensures.served)
+    subst (λ o. Serves (runs_file_spec g.S.Store) (Pairs c.args.run c.args.position c.find_properties.result) o c.find_properties.new.self.store) c.self.view_is
+    (read_served g.S.Store g.met.S.Store.shut_if_dirty g.met.S.Store.broken_if_shut g.met.S.Store.settled c.self.inside.schema c.self.inside.trees.store c.find_properties.new.self.store c.find_properties.ensures.looks c.self.invariant (Pairs _ _ _) (λ runs. refl) (λ runs may left. left) c.find_properties.ensures.served)
 
 pub invariant_of-self : goal.invariant_of-self
-invariant_of-self g c = looked_settled g.S.Store c.self.inside.store c.find_properties.new.store c.self.inside.schema (g.met.S.Store.shut_if_dirty c.find_properties.new.store) c.find_properties.ensures.looks c.self.invariant
+invariant_of-self g c = looked_settled g.S.Store c.self.inside.trees.store c.find_properties.new.self.store c.self.inside.schema (g.met.S.Store.shut_if_dirty c.find_properties.new.self.store) c.find_properties.ensures.looks c.self.invariant
