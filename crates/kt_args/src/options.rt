@@ -1,4 +1,5 @@
 use kt_base::{Items, Text};
+use kt_suite::Kyuafile;
 
 /// The values of the options and arguments that `list`, `test` and `debug` share (kyua(1)).
 pub struct CaseOptions {
@@ -8,7 +9,7 @@ pub struct CaseOptions {
     pub variables: Items<Text>,
     /// The path of the root Kyuafile (`-k`). Its directory is the root of the tree of test
     /// programs.
-    pub kyuafile: Text,
+    pub kyuafile: Kyuafile,
     /// The path of the directory in which the runner creates its work directories (`--work`).
     pub work: Text,
     /// The arguments `FILTER` in order, or the argument `PROGRAM:CASE` of `debug`. They are copied

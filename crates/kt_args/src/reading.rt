@@ -8,6 +8,7 @@ use crate::{CaseOptions, Command, CommandFault, ReportOptions};
 use clap::ArgMatches;
 use clap::error::ErrorKind;
 use kt_base::{Items, Kind, NoMemory, Text};
+use kt_suite::Kyuafile;
 use std::alloc::Global;
 use std::env::Args;
 use std::io;
@@ -37,25 +38,17 @@ fn option_values<'b, 'a>(matches: &'b ArgMatches<'a>, name: &str) -> Option<&'b 
     matches.get_strs(name)
 }
 
-/// Returns a copy of the first value of the option `name` in `matches`, or of the default `instead`
-/// if the option has no value.
+/// Returns the first value of the option `name` in `matches`, or the default `instead` if the option
+/// has no value.
 ///
 /// `matches` has the values that `clap` found. `clap` has the same default: it prints the default
 /// in its help, and uses it as the value of a missing option. That `clap` uses it for each option
 /// is not proved, so this function applies the default, too.
-fn option_text_or_default<'a>(
-    alloc: Global,
-    matches: &ArgMatches<'a>,
-    name: &str,
-    instead: &str,
-) -> Result<Text, NoMemory>
-    ensures { IfOk result (λ text.
-        text ≡ option_text_or_default instead.now name.now (rows_of (found_of matches.now))) }
+fn option_or_default<'a>(matches: &ArgMatches<'a>, name: &str, instead: &'a str) -> &'a str
+    ensures { chars result.now
+        ≡ option_text_or_default instead.now name.now (rows_of (found_of matches.now)) }
 {
-    match option_value(matches, name) {
-        None => Text::from_str(alloc, instead),
-        Some(word) => Text::from_str(alloc, word),
-    }
+    option_value(matches, name).unwrap_or(instead)
 }
 
 /// Returns a copy of the first value of the option `name` in `matches`, or `None` if the option has
@@ -164,8 +157,8 @@ fn parse_case_options<'a>(
 {
     let config = option_text(alloc, before, "config")?;
     let variables = option_texts(alloc, before, "variables")?;
-    let kyuafile = option_text_or_default(alloc, own, "kyuafile", DEFAULT_KYUAFILE)?;
-    let work = option_text_or_default(alloc, own, "work", DEFAULT_WORK_DIR)?;
+    let kyuafile = Kyuafile::new(alloc, option_or_default(own, "kyuafile", DEFAULT_KYUAFILE))?;
+    let work = Text::from_str(alloc, option_or_default(own, "work", DEFAULT_WORK_DIR))?;
     let filters = option_texts(alloc, own, "filters")?;
     Ok(CaseOptions {
         config,
@@ -181,7 +174,10 @@ fn parse_case_options<'a>(
 fn parse_results_path<'a>(alloc: Global, own: &ArgMatches<'a>) -> Result<Text, NoMemory>
     ensures { IfOk result (λ text. text ≡ results_path (rows_of (found_of own.now))) }
 {
-    option_text_or_default(alloc, own, "results", DEFAULT_RESULTS_FILE)
+    Text::from_str(
+        alloc,
+        option_or_default(own, "results", DEFAULT_RESULTS_FILE),
+    )
 }
 
 /// Returns the values of the options that `report` and `report-junit` share.

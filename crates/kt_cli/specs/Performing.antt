@@ -57,14 +57,14 @@ abbrev pub state : {M O P : Type 0} → P → HostHandles M O → ProgramState M
 state platform outside = record { platform = platform; outside = outside }
 
 module _ {O : Type 0} (o : system.Ghosts O) (os : O) where
-  -- `IsNewDriver o os here base kyuafile d`: `d` is a new driver for the programs of `kyuafile`,
-  -- made from the system `os` with a new root directory in `base`. `here` is the working directory,
-  -- and no child runs. `o` has the relations of the system.
-  pub record IsNewDriver (here base kyuafile : List ℕ) (d : Driver O) : Type 0 where
+  -- `IsNewDriver o os here base directory d`: `d` is a new driver for the programs of the Kyuafile
+  -- in `directory`, made from the system `os` with a new root directory in `base`. `here` is the
+  -- working directory, and no child runs. `o` has the relations of the system.
+  pub record IsNewDriver (here base directory : List ℕ) (d : Driver O) : Type 0 where
     pub calls : List Call
     pub asked : Chain o.leads os calls d.os
     pub found : CreatesRoot base calls (Ok d.root)
-    pub source : d.source ≡ source_directory here kyuafile
+    pub source : d.source ≡ source_directory here directory
     pub first : d.next ≡ 0
     pub none_runs : d.running ≡ idle_state
 
@@ -89,7 +89,7 @@ module _ {M O : Type 0} (o : system.Ghosts O) (before : HostHandles M O) (around
   -- the system.
   pub record IsFirstWorld (world : HostWorld M O) : Type 0 where
     pub machine : world.machine ≡ before.machine
-    pub made : IsNewDriver o before.os around.working_dir options.work options.kyuafile world.driver
+    pub made : IsNewDriver o before.os around.working_dir options.work world.directory world.driver
     pub directory : world.directory ≡ directory_of options.kyuafile
     pub around_it : world.around ≡ around
 

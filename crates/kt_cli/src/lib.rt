@@ -9,7 +9,7 @@ mod output;
 
 pub use commands::execution::{execute, execute_all, theorem_of_sound_stores};
 pub use host::command_line::run_process_args;
-pub use host::host_execution::kyuafile_directory;
+pub use host::host_execution::absolute_directory;
 pub use host::host_handles::HostHandles;
 pub use host::host_world::HostWorld;
 pub use host::performing::run_command;

@@ -5,8 +5,7 @@ use crate::disk_tests;
 use crate::failing_store::FailingStore;
 use crate::printing::push_pieces;
 use crate::scripted_results_host::ScriptedResultsHost;
-use kt_base::Text;
-use kt_cli::kyuafile_directory;
+use kt_cli::absolute_directory;
 use kt_doubles::{
     Scene, SplitReadStore, parse_scene, provoke_no_memory, provoke_store_error, push_call,
     push_calls, push_runs,
@@ -17,6 +16,7 @@ use kt_examples::{
 };
 use kt_os::OsFault;
 use kt_store::StoreFault;
+use kt_suite::Kyuafile;
 use std::alloc::Global;
 
 /// The maximum number of writes that the line `writes each` of an example makes fail in turn, plus
@@ -224,8 +224,8 @@ fn execute_commands(
 /// HERE is the working directory.
 fn push_kyuafile_directory(out: &mut ExampleOutput, text: &str) -> Result<()> {
     let (here, kyuafile) = split_once_or_fail(text, " ", "a directory and a Kyuafile are due")?;
-    let kyuafile = Text::from_str(out.alloc, kyuafile)?;
-    out.push_text(kyuafile_directory(out.alloc, here, &kyuafile));
+    let kyuafile = Kyuafile::new(out.alloc, kyuafile)?;
+    out.push_text(absolute_directory(out.alloc, here, kyuafile.directory()));
     Ok(())
 }
 

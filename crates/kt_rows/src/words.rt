@@ -45,8 +45,9 @@ fn push_values(out: &mut ExampleOutput, name: &str, values: &[Text]) {
 /// Appends the command `name`, which is `list`, `test` or `debug`, and its options: Kyuafile, work
 /// directory, results file, configuration, variables and filters.
 fn push_case_command(out: &mut ExampleOutput, name: &str, options: &CaseOptions, results: &[Text]) {
-    let (kyuafile, work) = (options.kyuafile.as_str(), options.work.as_str());
-    write!(out, "{name} {kyuafile}, work {work}");
+    let (directory, file) = (options.kyuafile.directory(), options.kyuafile.name());
+    write!(out, "{name} {}{}", directory.as_str(), file.as_str());
+    write!(out, ", work {}", options.work.as_str());
     push_values(out, ", results ", results);
     push_values(out, ", config ", options.config.as_slice());
     push_values(out, ", variable ", options.variables.as_slice());

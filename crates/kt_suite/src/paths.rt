@@ -7,7 +7,7 @@ use std::alloc::Global;
 /// Splits `path` after its last slash.
 ///
 /// The first part ends with the slash. If `path` has no slash, the first part is empty.
-fn split_after_slash(path: &str) -> (&str, &str)
+pub(crate) fn split_after_slash(path: &str) -> (&str, &str)
     ensures directory { chars result.0.now ≡ directory_of (chars path.now) }
     ensures name { chars result.1.now ≡ name_in (chars path.now) }
 {
@@ -15,24 +15,6 @@ fn split_after_slash(path: &str) -> (&str, &str)
         None => ("", path),
         Some((_, name)) => path.split_at(path.len() - name.len()),
     }
-}
-
-/// Returns the part of `path` up to its last slash, with the slash, and the name after the slash.
-///
-/// If `path` has no slash, the first part is empty, and the name is all of `path`.
-///
-/// # Errors
-///
-/// - `NoMemory`: an allocation fails.
-pub fn split_path(alloc: Global, path: &Text) -> Result<(Text, Text), NoMemory>
-    ensures directory { IfOk result (λ parts. parts.0 ≡ directory_of path.now) }
-    ensures name { IfOk result (λ parts. parts.1 ≡ name_in path.now) }
-{
-    let (directory, name) = split_after_slash(path.as_str());
-    Ok((
-        Text::from_str(alloc, directory)?,
-        Text::from_str(alloc, name)?,
-    ))
 }
 
 /// Returns the part of `path` before its last slash.

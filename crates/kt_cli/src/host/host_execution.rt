@@ -6,31 +6,32 @@ use kt_args::CaseOptions;
 use kt_base::{NoMemory, Text, is_absolute};
 use kt_child::{Driver, DriverFault};
 use kt_os::{HostFiles, Os, ProcessEnv};
-use kt_suite::{parent_path, split_path};
+use kt_suite::parent_path;
 use std::alloc::Global;
 
-/// Returns the absolute path of the directory of `kyuafile`, without a slash at its end, so that it
-/// is empty for `/`.
+/// Returns the absolute path of the directory `directory`, without a slash at its end, so that it is
+/// empty for `/`.
 ///
-/// `here` is the absolute working directory.
+/// `directory` ends with a slash, or is empty for the working directory. `here` is the absolute
+/// path of the working directory.
 ///
 /// # Errors
 ///
 /// - `NoMemory`: an allocation fails.
-pub fn kyuafile_directory(alloc: Global, here: &str, kyuafile: &Text) -> Result<Text, NoMemory>
-    ensures { IfOk result (λ source. source ≡ source_directory (chars here.now) kyuafile.now) }
+pub fn absolute_directory(alloc: Global, here: &str, directory: &Text) -> Result<Text, NoMemory>
+    ensures { IfOk result (λ source. source ≡ source_directory (chars here.now) directory.now) }
 {
-    if is_absolute(kyuafile.as_str()) {
-        return parent_path(alloc, kyuafile);
+    if is_absolute(directory.as_str()) {
+        return parent_path(alloc, directory);
     }
     let mut path = Text::from_str(alloc, here)?;
     path.push('/')?;
-    path.push_str(kyuafile.as_str())?;
+    path.push_str(directory.as_str())?;
     parent_path(alloc, &path)
 }
 
-/// Creates the driver that runs the test programs of `kyuafile`. The driver creates its root
-/// directory, which contains all work directories, in the directory `work`.
+/// Creates the driver that runs the test programs of the Kyuafile in the directory `directory`. The
+/// driver creates its root directory, which contains all work directories, in the directory `work`.
 ///
 /// `here` is the absolute working directory. Fails with `NoWorkDirectory` if `work` is not absolute
 /// or the root directory can't be created. Fails with `NoMemory` if an allocation fails. `os` is
@@ -40,9 +41,9 @@ fn create_driver<O: Os + Drop>(
     os: O,
     here: &Text,
     work: &Text,
-    kyuafile: &Text,
+    directory: &Text,
 ) -> Result<Driver<O>, (DriverFault, O)>
-    ensures made { IfOk result (λ driver. IsNewDriver O.Os os here.now work.now kyuafile.now
+    ensures made { IfOk result (λ driver. IsNewDriver O.Os os here.now work.now directory.now
         driver) }
     ensures idle { IfOk result (λ driver. IsIdle (launcher_child_in driver.running)
         (is_among driver.running.pending)) }
@@ -51,7 +52,7 @@ fn create_driver<O: Os + Drop>(
     if !is_absolute(work.as_str()) {
         return Err((DriverFault::NoWorkDirectory, os));
     }
-    match kyuafile_directory(alloc, here.as_str(), kyuafile) {
+    match absolute_directory(alloc, here.as_str(), directory) {
         Ok(source) => Driver::new(alloc, os, work, source),
         Err(refusal) => Err((DriverFault::NoMemory(refusal), os)),
     }
@@ -79,13 +80,12 @@ pub fn create_world<M: HostFiles + Drop, O: Os + Drop>(
         (is_among world.driver.running.pending)) }
     ensures refused { IfErr result (λ e. FailsToCreateDriver O.Os outside options.now.work e.0 e.1) }
 {
-    let (work, kyuafile) = (&options.work, &options.kyuafile);
-    let directory = match split_path(outside.alloc, kyuafile) {
-        Ok((directory, _)) => directory,
+    let directory = match options.kyuafile.directory().copy() {
+        Ok(directory) => directory,
         Err(refusal) => return Err((DriverFault::NoMemory(refusal), outside)),
     };
     let HostHandles { alloc, machine, os } = outside;
-    let driver = match create_driver(alloc, os, &around.working_dir, work, kyuafile) {
+    let driver = match create_driver(alloc, os, &around.working_dir, &options.work, &directory) {
         Ok(driver) => driver,
         Err((fault, os)) => return Err((fault, HostHandles { alloc, machine, os })),
     };

@@ -9,7 +9,7 @@ use crate::options::configuring::read_settings;
 use crate::{CaseSelection, CommandSelection, SelectionError, Settings, World};
 use kt_args::{CaseOptions, FilterRule};
 use kt_base::{Items, NoMemory, Text};
-use kt_suite::{Program, SuiteCause, SuiteFault, Tree, load, split_path};
+use kt_suite::{Kyuafile, Program, SuiteCause, SuiteFault, Tree, load};
 use std::alloc::Global;
 
 /// Creates the `SuiteFault` for the failed allocation `refusal`. Its path is empty, and its line is
@@ -27,11 +27,11 @@ fn create_memory_fault(alloc: Global, refusal: NoMemory) -> SuiteFault
 /// Creates the `SuiteFault` with the cause `cause` in the Kyuafile `file`. Its line is 0, since the
 /// error has no line.
 ///
-/// If the allocation for a copy of `file` fails, returns the `SuiteFault` for that failure.
-fn create_file_fault(alloc: Global, file: &Text, cause: SuiteCause) -> SuiteFault
+/// If the allocation for a copy of the path fails, returns the `SuiteFault` for that failure.
+fn create_file_fault(alloc: Global, file: &Kyuafile, cause: SuiteCause) -> SuiteFault
     ensures { IsFaultAt file.now 0 cause result }
 {
-    match file.copy() {
+    match file.copy_path() {
         Ok(path) => SuiteFault {
             cause,
             path,
@@ -52,21 +52,17 @@ fn create_file_fault(alloc: Global, file: &Text, cause: SuiteCause) -> SuiteFaul
 /// - [`SuiteFault`] with the cause `NoMemory`: an allocation fails.
 pub fn load_programs<T: Tree>(
     alloc: Global,
-    kyuafile: &Text,
+    kyuafile: &Kyuafile,
     tree: &mut T,
 ) -> Result<Items<Program>, SuiteFault>
     ensures loaded { LeadsByCalls T.asks tree.old tree.new
         (HoldsOrNoMemory IsNoMemory (IsLoadPrefix kyuafile.now) (Loads kyuafile.now) result) }
     ensures few { IfOk result (λ programs. length programs ≤ program_limit) }
 {
-    let root = match split_path(alloc, kyuafile) {
-        Ok((_, root)) => root,
-        Err(refusal) => return Err(create_memory_fault(alloc, refusal)),
-    };
-    if root.is_empty() {
+    if kyuafile.name().is_empty() {
         return Err(create_file_fault(alloc, kyuafile, SuiteCause::Unreadable));
     }
-    load(alloc, tree, &root)
+    load(alloc, tree, kyuafile.name())
 }
 
 /// Converts `fault`, an error of the Kyuafiles, to the error of the command. The result is
@@ -100,7 +96,7 @@ fn tree_error(fault: SuiteFault) -> SelectionError
 pub fn load_and_select<W: World>(
     alloc: Global,
     settings: &Settings,
-    kyuafile: &Text,
+    kyuafile: &Kyuafile,
     world: &mut W,
 ) -> Result<CaseSelection, SelectionError>
     requires { IsIdle (W.running world.old) (W.pending world.old) }
