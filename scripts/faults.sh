@@ -522,6 +522,7 @@ kt_removal/src/removals.rt: self.remove_if_empty(rt, path) || self.remove_file(r
 kt_removal/src/removals.rt: self.remove_directory(rt, path.as_slice());
 kt_removal/src/known_files.rt: let _ = self.remove_file(rt, path.as_slice());
 # Bytes in memory.
+kt_cli/src/commands/debugging.rt: cases.truncate(1);
 kt_cli/src/output/backlog.rt: self.bytes.truncate(count - start);
 # The name of a stalled report's file, which was just created.
 kt_cli/src/output/spool.rt: let _ = os::unlink(path);

@@ -99,21 +99,27 @@ module _ {W : Type 0} (w : World W) where
   prepared rule options before answers last picked cases plan trace calls s p =
       record { before = before; selects = s; answers = answers; host = p.0; surveys = p.1; asked = refl; planned = p.2 }
 
+  -- a list of cases that is not empty has a first case
+  first_case : (cases : List Candidate) → (cases ≡ [] → ⊥) → (first : Candidate) × (others : List Candidate) × (cases ≡ first ∷ others)
+  first_case [] some = absurd (some refl)
+  first_case (first ∷ others) some = (first, others, refl)
+
   -- a `debug` whose case ran meets `ExecutesWithoutStore`
-  pub debug_only : (options : CaseOptions) (old mid begun new : W) (was now : Option (List ℕ)) (exit : ℕ) (picked : CommandSelection) (first : Candidate) (others cases some : List Candidate) (plan : List Job) (failed : Bool) (totals : Totals) (intended_exit : ℕ)
-      → HasSelected OneCase options old mid (Ok picked) → cases ≡ picked.chosen.cases → cases ≡ first ∷ others → some ≡ take 1 cases
+  pub debug_only : (options : CaseOptions) (old mid begun new : W) (was now : Option (List ℕ)) (exit : ℕ) (picked : CommandSelection) (some : List Candidate) (plan : List Job) (failed : Bool) (totals : Totals) (intended_exit : ℕ)
+      → HasSelected OneCase options old mid (Ok picked) → (picked.chosen.cases ≡ [] → ⊥) → some ≡ take 1 picked.chosen.cases
       → LeadsByCalls w.replies mid begun (Prepares picked some plan)
       → ExecutesDebug (launcher_of w) plan begun new was now failed (Ok totals) → intended_exit ≡ (if totals.bad == 0 then 0 else 1) → exit ≡ (if failed then 2 else intended_exit)
       → ExecutesWithoutStore w (command.Debug options) old new was now exit
-  debug_only options old mid begun new was now exit picked first others cases some plan failed totals intended_exit a x n s b d k e =
-      let one : LeadsByCalls w.replies mid begun (Prepares picked (first ∷ []) plan) = subst (λ (xs : List Candidate). LeadsByCalls w.replies mid begun (Prepares picked xs plan)) (s ∙ ap (λ (xs : List Candidate). take 1 xs) n) b in
+  debug_only options old mid begun new was now exit picked some plan failed totals intended_exit a n s b d k e =
+      let (first, others, is) = first_case picked.chosen.cases n in
+      let one : LeadsByCalls w.replies mid begun (Prepares picked (first ∷ []) plan) = subst (λ (xs : List Candidate). LeadsByCalls w.replies mid begun (Prepares picked xs plan)) (s ∙ ap (λ (xs : List Candidate). take 1 xs) is) b in
       record {
         seen = record { world_calls = a.asked ++ (host_calls one.asked ++ []); plan = plan; trace = d.trace; calls = [] };
         course = record { begun = begun; asked = asks_all a.asked one.asked [] old mid begun begun a.chain one.chain refl; ran = d.leads };
         uncalled = refl;
         bytes = all_debug_bytes d.entries;
         intended_exit = debug_exit d.entries;
-        is = debugged options picked first others d.entries (sym x ∙ n)
+        is = debugged options picked first others d.entries is
             (prepared OneCase options a.asked one.asked [] picked (first ∷ []) plan d.trace [] (held a.holds) one.holds) d.ends.0 refl;
         printed = record { failed = failed; shows = d.written.more; exits = e ∙ ap (λ (y : ℕ). if failed then 2 else y) (k ∙ ap (λ (y : ℕ). if y == 0 then 0 else 1) d.ends.1.bad) };
       }
@@ -149,12 +155,11 @@ module _ {W : Type 0} (w : World W) where
     }
 
     -- a `test` whose plan was executed meets `CommandResult`
-    pub did_test : (old new : CommandState W R) (options : CaseOptions) (file : List ℕ) (mid asked begun : W) (picked : CommandSelection) (cases : List Candidate) (plan : List Job) (moment exit : ℕ)
-        → HasSelected AnyFilters options old.world mid (Ok picked) → cases ≡ picked.chosen.cases
-        → LeadsByCalls w.replies mid asked (Prepares picked cases plan) → w.replies asked (Now moment) begun
+    pub did_test : (old new : CommandState W R) (options : CaseOptions) (file : List ℕ) (mid asked begun : W) (picked : CommandSelection) (plan : List Job) (moment exit : ℕ)
+        → HasSelected AnyFilters options old.world mid (Ok picked)
+        → LeadsByCalls w.replies mid asked (Prepares picked picked.chosen.cases plan) → w.replies asked (Now moment) begun
         → ExecutesPlan (launcher_of w) keep (planned_run plan options picked moment) (command_state begun old.store old.held) new exit → CommandResult w keep (command.Test options file) old new exit
-    did_test old new options file mid asked begun picked cases plan moment exit a same parts t r =
-        let b : LeadsByCalls w.replies mid asked (Prepares picked picked.chosen.cases plan) = subst (λ (xs : List Candidate). LeadsByCalls w.replies mid asked (Prepares picked xs plan)) same parts in
+    did_test old new options file mid asked begun picked plan moment exit a b t r =
         let seen : CommandCalls = record { world_calls = a.asked ++ (host_calls b.asked ++ host_calls (Now moment ∷ [])); plan = plan; trace = r.trace; calls = r.calls } in
         let ready = prepared AnyFilters options a.asked b.asked (Now moment ∷ []) picked picked.chosen.cases plan r.trace r.calls (held a.holds) b.holds in
         record {

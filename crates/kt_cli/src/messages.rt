@@ -8,7 +8,7 @@ use crate::output::exit::{FAILURE, exit_after_write};
 use kt_args::{CaseOptions, CommandFault};
 use kt_base::{NoMemory, OUT_OF_MEMORY, OutputFault, Text, emit, emit_all};
 use kt_child::DriverFault;
-use kt_plan::{CaseSelection, SelectionError};
+use kt_plan::SelectionError;
 use kt_sched::RunFault;
 use kt_store::StoreFault;
 use std::io::Write;
@@ -194,21 +194,21 @@ fn write_warning_at<O: Write>(
 }
 
 /// Writes a warning for each filter that matches no case, in the order of the filters. The warning
-/// quotes the filter as it was given.
+/// quotes the filter as it was given. `unmatched` are the indexes of these filters in `options`.
 ///
 /// # Errors
 ///
 /// - `OutputFault`: a write fails. A proper prefix of the warnings was written.
 pub fn write_warnings<O: Write>(
     options: &CaseOptions,
-    chosen: &CaseSelection,
+    unmatched: &[usize],
     out: &mut O,
 ) -> Result<(), OutputFault>
     ensures { Emits (O.contents out.old) (O.contents out.new) (is_err result)
-        (utf8 (warnings options.now.filters chosen.now.unmatched)) }
+        (utf8 (warnings options.now.filters unmatched.now)) }
 {
     let words = options.filters.as_slice();
-    for position in chosen.unmatched.as_slice() {
+    for position in unmatched {
         write_warning_at(words, *position, out)?;
     }
     Ok(())

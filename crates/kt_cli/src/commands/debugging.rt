@@ -8,7 +8,7 @@ use crate::messages::{print_selection_error, write_memory_error, write_run_fault
 use crate::output::exit::{FAILURE, exit_after_write};
 use kt_args::{CaseOptions, FilterRule};
 use kt_base::{Items, OutputFault};
-use kt_plan::{World, prepare_plan, select_cases};
+use kt_plan::{CaseSelection, CommandSelection, World, prepare_plan, select_cases};
 use kt_sched::{Job, Launcher, RunFault, Totals, run_cases};
 use std::alloc::Global;
 use std::io::Write;
@@ -57,11 +57,15 @@ pub fn debug<W: World, O: Write>(
         Ok(picked) => picked,
         Err(fault) => return print_selection_error(fault, out),
     };
-    let cases = picked.chosen.cases.as_slice();
-    let Some((_first, _others)) = cases.split_first() else {
-        return exit_after_write(write_warnings(options, &picked.chosen, out), 1);
-    };
-    let plan = match prepare_plan(alloc, &picked.settings.config, &cases[..1], world) {
+    let CommandSelection { settings, chosen } = picked;
+    let CaseSelection { cases, unmatched } = chosen;
+    if cases.is_empty() {
+        let warned = write_warnings(options, unmatched.as_slice(), out);
+        return exit_after_write(warned, 1);
+    }
+    let mut cases = cases.into_vec();
+    cases.truncate(1);
+    let plan = match prepare_plan(alloc, &settings.config, Items::from_vec(cases), world) {
         Ok(plan) => plan,
         Err(refusal) => return exit_after_write(write_memory_error(refusal, out), FAILURE),
     };

@@ -25,7 +25,7 @@ fn write_listing<O: Write>(
         let name = case.case.name.as_bytes();
         emit_all(&[case.path.as_bytes(), b":", name, b"\n"], out)?;
     }
-    write_warnings(options, chosen, out)
+    write_warnings(options, chosen.unmatched.as_slice(), out)
 }
 
 /// Executes `list`: prints `PROGRAM:CASE` for each selected case, and returns the exit status.
@@ -46,7 +46,7 @@ pub fn list<W: World, O: Write>(
     match select_cases(alloc, FilterRule::AnyFilters, options, world) {
         Ok(picked) => {
             let written = write_listing(options, &picked.chosen, out);
-            exit_after_write(written, exit_status(0, &picked.chosen))
+            exit_after_write(written, exit_status(0, picked.chosen.unmatched.as_slice()))
         }
         Err(fault) => print_selection_error(fault, out),
     }

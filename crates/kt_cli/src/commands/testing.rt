@@ -86,30 +86,37 @@ fn write_totals<O: Write>(good: u64, total: u64, bad: u64, out: &mut O) -> Resul
     )
 }
 
-/// Writes the totals of a run, and a warning for each filter in `options` that selects no case. If
-/// `written`, the result of the earlier writes, is an error, writes nothing and returns this error.
+/// Writes the totals of a run, and a warning for each filter in `options` that selects no case.
+/// `unmatched` are the indexes of these filters. If `written`, the result of the earlier writes, is
+/// an error, writes nothing and returns this error.
 fn write_totals_and_warnings<O: Write>(
     written: Result<(), OutputFault>,
     totals: Totals,
     options: &CaseOptions,
-    chosen: &CaseSelection,
+    unmatched: &[usize],
     out: &mut O,
 ) -> Result<(), OutputFault>
     ensures { WritesNext (O.contents out.old) (is_err written) (O.contents out.new) (is_err result)
-        (totals_and_warnings totals.good totals.total totals.bad options.now.filters chosen.now.unmatched) }
+        (totals_and_warnings totals.good totals.total totals.bad options.now.filters
+        unmatched.now) }
 {
     written?;
     write_totals(totals.good, totals.total, totals.bad, out)?;
-    write_warnings(options, chosen, out)
+    write_warnings(options, unmatched, out)
 }
 
-/// A plan before its run begins, with the options of the command and the selection of its cases.
-/// `moment` is the start of the run, in milliseconds since 1970-01-01 UTC.
+/// A plan before its run begins, with the options of the command.
 #[derive(Drop)]
 struct PlannedRun<'a> {
+    /// The jobs of the selected cases.
     plan: Items<Job>,
+    /// The maximum number of test cases that run at the same time, 1 to 256.
+    width: u32,
+    /// The options of the command.
     options: &'a CaseOptions,
-    picked: &'a CommandSelection,
+    /// The indexes of the filters in `options` that select no case.
+    unmatched: Items<usize>,
+    /// The start of the run, in milliseconds since 1970-01-01 UTC.
     moment: u64,
 }
 
@@ -122,20 +129,27 @@ fn run_plan<L: Launcher, R: ResultStore, O: Write>(
     out: &mut O,
 ) -> Exit
     requires plan { IsPlan planned.plan }
+    requires width { IsWidth planned.width }
     requires few { length planned.plan ≤ item_limit }
     requires moment { IsMoment planned.moment }
     requires idle { IsIdle (L.running launcher.old) (L.pending launcher.old) }
     ensures ran { ExecutesPlan L.Launcher R.StoreSpec
-        (planned_run planned.entry.plan planned.entry.options.now planned.entry.picked.now
-        planned.entry.moment)
+        (record {
+          plan = planned.entry.plan;
+          width = planned.entry.width;
+          words = planned.entry.options.now.filters;
+          unmatched = planned.entry.unmatched;
+          moment = planned.entry.moment;
+        })
         (command_state launcher.old results.old (O.contents out.old))
         (command_state launcher.new results.new (O.contents out.new)) result.status }
     ensures idle { IsIdle (L.running launcher.new) (L.pending launcher.new) }
 {
     let PlannedRun {
         plan,
+        width,
         options,
-        picked,
+        unmatched,
         moment,
     } = planned;
     let total = plan.len() as u32;
@@ -143,7 +157,6 @@ fn run_plan<L: Launcher, R: ResultStore, O: Write>(
         Ok(number) => number,
         Err(fault) => return exit_after_write(write_store_error(fault, out), FAILURE),
     };
-    let width = picked.settings.config.parallelism();
     let numbered = NumberedPlan {
         plan,
         width,
@@ -158,8 +171,9 @@ fn run_plan<L: Launcher, R: ResultStore, O: Write>(
                 exit_after_write(write_run_fault(written, fault, out), FAILURE)
             }
             Ok(()) => {
-                let all = write_totals_and_warnings(written, totals, options, &picked.chosen, out);
-                exit_after_write(all, exit_status(totals.bad, &picked.chosen))
+                let unmatched = unmatched.as_slice();
+                let all = write_totals_and_warnings(written, totals, options, unmatched, out);
+                exit_after_write(all, exit_status(totals.bad, unmatched))
             }
         },
     }
@@ -190,16 +204,18 @@ pub fn test<W: World, R: ResultStore, O: Write>(
         Ok(picked) => picked,
         Err(fault) => return print_selection_error(fault, out),
     };
-    let cases = picked.chosen.cases.as_slice();
-    let plan = match prepare_plan(alloc, &picked.settings.config, cases, world) {
+    let CommandSelection { settings, chosen } = picked;
+    let CaseSelection { cases, unmatched } = chosen;
+    let plan = match prepare_plan(alloc, &settings.config, cases, world) {
         Ok(plan) => plan,
         Err(refusal) => return exit_after_write(write_memory_error(refusal, out), FAILURE),
     };
     let moment = world.now();
     let planned = PlannedRun {
         plan,
+        width: settings.config.parallelism(),
         options,
-        picked: &picked,
+        unmatched,
         moment,
     };
     run_plan(alloc, planned, world, results, out)

@@ -2,7 +2,6 @@ ghost use Rattle.std.specs.Prelude.{◌≡◌, if◌then◌else◌, is_err};
 ghost use Rattle.kt_cli.specs.Testing.{exit_status};
 
 use kt_base::OutputFault;
-use kt_plan::CaseSelection;
 
 /// The exit status of a command after an error, such as a failed read or write (kyua(1)).
 pub const FAILURE: u8 = 2;
@@ -31,12 +30,12 @@ pub fn exit_after_write(written: Result<(), OutputFault>, intended_exit: u8) -> 
 
 /// Returns the exit status of `list` or `test`.
 ///
-/// `bad` is the number of cases that failed or are broken. The status is 0 if `bad` is 0 and every
-/// filter selects a case, else 1.
-pub fn exit_status(bad: u64, chosen: &CaseSelection) -> u8
-    ensures { result ≡ exit_status bad chosen.now.unmatched }
+/// `bad` is the number of cases that failed or are broken. `unmatched` are the indexes of the
+/// filters that select no case. The status is 0 if `bad` is 0 and every filter selects a case, else
+/// 1.
+pub fn exit_status(bad: u64, unmatched: &[usize]) -> u8
+    ensures { result ≡ exit_status bad unmatched.now }
 {
-    let unmatched = chosen.unmatched.as_slice();
     if bad == 0 && unmatched.is_empty() {
         0
     } else {

@@ -34,6 +34,24 @@ impl Drop for Candidate {
     }
 }
 
+impl Candidate {
+    ghost use Rattle.std.specs.Prelude.{◌≡◌};
+
+    /// Returns the path of the test program and the name of the case.
+    pub(crate) fn into_names(self) -> (Text, Text)
+        ensures path { result.0 ≡ self.path }
+        ensures name { result.1 ≡ self.case.name }
+    {
+        let Candidate {
+            interface: _,
+            path,
+            suite: _,
+            case,
+        } = self;
+        (path, case.name)
+    }
+}
+
 /// A selection of test cases by the filters of a command.
 #[derive(Drop)]
 pub struct CaseSelection {

@@ -62,52 +62,43 @@ fn decide_verdict(
     }
 }
 
-/// Returns copies of the program path and of the name of the case `candidate`.
-///
-/// Separate for the prover: the cost of a body grows with the square of its calls.
-fn copy_names(candidate: &Candidate) -> Result<(Text, Text), NoMemory>
-    ensures { IfOk result (λ names. (names.0 ≡ candidate.now.path)
-        × (names.1 ≡ candidate.now.case.name)) }
-{
-    Ok((candidate.path.copy()?, candidate.case.name.copy()?))
-}
-
-/// Creates the job of the case `candidate` from its variables, properties and verdict.
+/// Converts the case `candidate` to its job, with its variables, properties and verdict.
 ///
 /// `position` is the position of the job in its plan. `vars` are the variables of the case's test
 /// suite, and `meta` are the effective properties of the case. `decided` is the verdict of the case
 /// if it must not be started.
 fn build_job(
     position: u32,
-    candidate: &Candidate,
+    candidate: Candidate,
     vars: Variables,
     meta: &Meta,
     decided: Option<Verdict>,
 ) -> Result<Job, NoMemory>
     ensures { (config : Values) → (host : Surveyed)
-        → vars ≡ variables_for config candidate.now.suite
-        → meta.now ≡ candidate_meta candidate.now
-        → DecidesVerdict candidate.now.case.fault
-        (first_reason (requirement_reason_texts meta.now config candidate.now.suite host)) decided
-        → IfOk result (λ job. IsJobOf config host position candidate.now job) }
+        → vars ≡ variables_for config candidate.suite
+        → meta.now ≡ candidate_meta candidate
+        → DecidesVerdict candidate.case.fault
+        (first_reason (requirement_reason_texts meta.now config candidate.suite host)) decided
+        → IfOk result (λ job. IsJobOf config host position candidate job) }
 {
-    let (program, case_name) = copy_names(candidate)?;
     let listed = candidate.case.props.listing()?;
+    let interface = candidate.interface;
+    let (program, case_name) = candidate.into_names();
     Ok(Job {
         position,
-        interface: candidate.interface,
+        interface,
         program,
         case_name,
         vars,
         timeout: meta.timeout,
         exclusive: meta.is_exclusive,
-        cleanup: declares_cleanup(candidate.interface, meta),
+        cleanup: declares_cleanup(interface, meta),
         decided,
         meta: listed,
     })
 }
 
-/// Creates the job of the case `candidate`, with a verdict if the case must not be started.
+/// Converts the case `candidate` to its job, with a verdict if the case must not be started.
 ///
 /// `position` is the position of the job in its plan. `vars` are the variables that `config` sets
 /// for the case's test suite. The requirements of the case are compared with the values in `config`
@@ -119,14 +110,14 @@ fn plan_job(
     config: &Config,
     host: &Host,
     position: u32,
-    candidate: &Candidate,
+    candidate: Candidate,
     vars: Variables,
 ) -> Result<Job, NoMemory>
-    requires { vars ≡ variables_for config.now candidate.now.suite }
-    ensures { IfOk result (λ job. IsJobOf config.now host.now position candidate.now job) }
+    requires { vars ≡ variables_for config.now candidate.suite }
+    ensures { IfOk result (λ job. IsJobOf config.now host.now position candidate job) }
 {
     let meta = candidate.case.props.effective()?;
-    let decided = decide_verdict(alloc, candidate, &meta, config, host)?;
+    let decided = decide_verdict(alloc, &candidate, &meta, config, host)?;
     build_job(position, candidate, vars, &meta, decided)
 }
 
@@ -145,16 +136,16 @@ pub fn make_plan(
     alloc: Global,
     config: &Config,
     host: &Host,
-    cases: &[Candidate],
+    cases: Items<Candidate>,
 ) -> Result<Items<Job>, NoMemory>
-    requires { length cases.now ≤ item_limit }
-    ensures planned { IfOk result (λ plan. ArePlanned config.now host.now 0 cases.now plan) }
-    ensures plan { IfOk result (λ plan. IsPlan plan × (length plan ≡ length cases.now)) }
+    requires { length cases ≤ item_limit }
+    ensures planned { IfOk result (λ plan. ArePlanned config.now host.now 0 cases plan) }
+    ensures plan { IfOk result (λ plan. IsPlan plan × (length plan ≡ length cases)) }
 {
     let mut plan = Items::new(alloc);
     let mut position: u32 = 0;
     let mut shared = SharedVariables::for_suite(alloc, config, &Text::new(alloc))?;
-    for candidate in cases {
+    for candidate in cases.into_vec() {
         shared = shared.for_next_case(alloc, config, &candidate.suite)?;
         let vars = shared.variables.copy()?;
         plan.push(plan_job(alloc, config, host, position, candidate, vars)?)?;
@@ -175,18 +166,18 @@ pub fn make_plan(
 pub fn prepare_plan<W: World>(
     alloc: Global,
     config: &Config,
-    cases: &[Candidate],
+    cases: Items<Candidate>,
     world: &mut W,
 ) -> Result<Items<Job>, NoMemory>
-    requires few { length cases.now ≤ item_limit }
+    requires few { length cases ≤ item_limit }
     requires idle { IsIdle (W.running world.old) (W.pending world.old) }
     ensures planned { LeadsByCalls W.replies world.old world.new (λ answers. MatchResult result
-        (λ plan. (host : Surveyed) × ProbesHost cases.now answers host
-        × ArePlanned config.now host 0 cases.now plan) (λ _. IsProbePrefix cases.now answers)) }
-    ensures plan { IfOk result (λ plan. IsPlan plan × (length plan ≡ length cases.now)) }
+        (λ plan. (host : Surveyed) × ProbesHost cases answers host
+        × ArePlanned config.now host 0 cases plan) (λ _. IsProbePrefix cases answers)) }
+    ensures plan { IfOk result (λ plan. IsPlan plan × (length plan ≡ length cases)) }
     ensures idle { IsIdle (W.running world.new) (W.pending world.new) }
 {
-    let host = probe_host(alloc, cases, world)?;
+    let host = probe_host(alloc, cases.as_slice(), world)?;
     let plan = make_plan(alloc, config, &host, cases)?;
     Ok(plan)
 }

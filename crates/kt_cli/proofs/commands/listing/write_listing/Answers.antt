@@ -29,4 +29,4 @@ pub returns : goal.returns
 returns g c =
     let cases = c.as_slice-case-items in
     let whole = shows_whole (λ (k : Candidate). utf8 (case_line k)) cases.result.now c.loop-case.case-index c.loop-case-test.false c.loop-case.invariant in
-    shows_both (shows_as (utf8_flat_map case_line cases.result.now ∙ ap (λ ks. utf8 (flat_map case_line ks)) cases.ensures) whole) c.write_warnings.ensures
+    shows_both (shows_as (utf8_flat_map case_line cases.result.now ∙ ap (λ ks. utf8 (flat_map case_line ks)) cases.ensures) whole) (rw (c.as_slice.ensures) at c.write_warnings.ensures)

@@ -1,4 +1,4 @@
-use Rattle.std.proofs.Common.{rules, refl}
+use Rattle.std.proofs.Common.{refl}
 use Rattle.kt_cli.proofs.Common.{world_of}
 use Rattle.kt_args.specs.declared.command.Command.TheVariants as command
 use Rattle.kt_cli.proofs.Testings.{idle_after, short_only, stopped_only, did_asked, did_test, printed_as}
@@ -14,7 +14,7 @@ pub returns-in-Err-prepare_plan-clause-did : goal.returns-in-Err-prepare_plan-cl
 returns-in-Err-prepare_plan-clause-did g c =
     did_asked (world_of g.W.Tree g.W.Launcher g.W.World) g.R.StoreSpec _ _ _ _ _ _ _
     (short_only (world_of g.W.Tree g.W.Launcher g.W.World) (command.Test c.args.options.now c.args.file.now) c.args.options.now _ _ _ _ _ _ c.in-Ok.picked
-    c.as_slice-cases.result.now refl c.in-Ok.ensures.selects (search rules) c.in-Err-prepare_plan.ensures.planned
+    _ refl c.in-Ok.ensures.selects refl c.in-Err-prepare_plan.ensures.planned
     (printed_as _ _ _ _ _ _ _ c.write_memory_error.ensures refl c.exit_after_write.ensures))
 
 pub run_plan-requires-clause-idle : goal.run_plan-requires-clause-idle
@@ -23,5 +23,5 @@ run_plan-requires-clause-idle g c =
 
 pub returns-clause-did : goal.returns-clause-did
 returns-clause-did g c =
-    did_test (world_of g.W.Tree g.W.Launcher g.W.World) g.R.StoreSpec _ _ c.args.options.now c.args.file.now _ _ _ c.in-Ok.picked c.as_slice-cases.result.now
-    c.in-Ok-prepare_plan.plan _ _ c.in-Ok.ensures.selects (search rules) c.in-Ok-prepare_plan.ensures.planned c.now-moment.ensures.reply c.run_plan.ensures.ran
+    did_test (world_of g.W.Tree g.W.Launcher g.W.World) g.R.StoreSpec _ _ c.args.options.now c.args.file.now _ _ _ c.in-Ok.picked
+    c.in-Ok-prepare_plan.plan _ _ c.in-Ok.ensures.selects c.in-Ok-prepare_plan.ensures.planned c.now-moment.ensures.reply (rw (c.parallelism.ensures.value) at c.run_plan.ensures.ran)
